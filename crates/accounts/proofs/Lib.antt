@@ -1,0 +1,14 @@
+pub mod Past
+pub mod Tallies
+pub mod FourPlaces
+pub mod AddedShares
+pub mod ViewPools
+pub mod ViewMembers
+pub mod ViewRounds
+pub mod ViewBids
+pub mod Winning
+pub mod Taking
+pub mod Tables
+pub mod OverMembers
+pub mod Shortfalls
+pub mod Standings

@@ -1,0 +1,141 @@
+-- The bids kept, as the machine has them: `new` shows none, `put` one more at the end, and the arrays agree with what is shown. Assumes nothing.
+use mathlib.Core.Path.{_≡_, refl, sym, ap}
+use mathlib.Core.List.{List, [], _∷_, _++_}
+use Prim.Native.Nat.{ℕ, _≤_, _<_}
+use native.Mathlib.Omega.{arith}
+use lib.Dec.{ltb}
+use lib.ListN.{length, getD, set, length-set}
+use lib.Seq.{getD-set-same, getD-set-other}
+use borrow.Author.Tests.{lt-ltb, ltb-true}
+use Rattle.lists.proofs.Each.{set-cases}
+use Rattle.lists.specs.Lists.{tab}
+use Rattle.lists.proofs.Bools.{by-test}
+use Rattle.lists.proofs.Places.{tab-more, getD-tab, length-tab, getD-same}
+use Rattle.auction.specs.Price.{priceLimit}
+use Rattle.auction.specs.Limits.{unitLimit}
+use Rattle.machine.specs.Roll as M
+use Rattle.machine.specs.Calls.{newBid}
+use Rattle.accounts.specs.declared.bids.Bids.{Bids}
+use Rattle.accounts.specs.Bids.{noBids, putBid, withWins, bidAt, viewBids}
+
+-- ---- what holds of every value that a program reaches
+
+pub record BidsLong (x : Bids) : Type 0 where
+  pub few : x .kept ≤ 256
+  pub round : length (x .round) ≡ 256
+  pub pool : length (x .pool) ≡ 256
+  pub member : length (x .member) ≡ 256
+  pub units : length (x .units) ≡ 256
+  pub price : length (x .price) ≡ 256
+  pub won : length (x .won) ≡ 256
+  pub unit-limit : (k : ℕ) → getD (x .units) k 0 ≤ unitLimit
+  pub price-limit : (k : ℕ) → getD (x .price) k 0 ≤ priceLimit
+
+pub new-long : BidsLong noBids
+unfolding noBids
+new-long = record {
+  few = omega arith;
+  round = refl;
+  pool = refl;
+  member = refl;
+  units = refl;
+  price = refl;
+  won = refl;
+  unit-limit = λ k. rw (getD-same {A = ℕ} 256 k 0) (omega arith);
+  price-limit = λ k. rw (getD-same {A = ℕ} 256 k 0) (omega arith);
+}
+
+pub put-long : (x : Bids) (round pool m units price : ℕ) → BidsLong x → units ≤ unitLimit → price ≤ priceLimit → BidsLong (putBid x round pool m units price)
+unfolding putBid
+put-long x round pool m units price w few low =
+    by-test BidsLong (ltb (x .kept) 256)
+    (λ t.
+    record {
+      few = omega (arith, ltb-true (x .kept) 256 t);
+      round = simp length-set (w .round);
+      pool = simp length-set (w .pool);
+      member = simp length-set (w .member);
+      units = simp length-set (w .units);
+      price = simp length-set (w .price);
+      won = simp length-set (w .won);
+      unit-limit = λ k. set-cases (λ (v : ℕ). v ≤ unitLimit) (x .units) (x .kept) units 0 k (λ e. few) (w .unit-limit k);
+      price-limit = λ k. set-cases (λ (v : ℕ). v ≤ priceLimit) (x .price) (x .kept) price 0 k (λ e. low) (w .price-limit k);
+    })
+    (λ t. w)
+
+pub take-long : (x : Bids) (round pool : ℕ) (wins : List ℕ) → BidsLong x → BidsLong (withWins x round pool wins)
+unfolding withWins
+take-long x round pool wins w = record {
+  few = w .few;
+  round = w .round;
+  pool = w .pool;
+  member = w .member;
+  units = w .units;
+  price = w .price;
+  won = length-tab 256 _;
+  unit-limit = w .unit-limit;
+  price-limit = w .price-limit;
+}
+
+-- ---- what is shown
+
+pub length-view : (x : Bids) → length (viewBids x) ≡ x .kept
+length-view x = length-tab (x .kept) (bidAt x)
+
+pub view-new : viewBids noBids ≡ []
+unfolding noBids tab
+view-new = refl
+
+-- BID
+pub view-put : (x : Bids) (round pool m units price : ℕ) → BidsLong x → x .kept < 256
+    → viewBids (putBid x round pool m units price) ≡ viewBids x ++ (newBid round pool m units price ∷ [])
+unfolding putBid
+view-put x round pool m units price w room =
+    rw (lt-ltb (x .kept) 256 room)
+    (tab-more (x .kept) (bidAt x) _ _
+    (λ i l. λ j. record {
+      round = other (x .round) i round l j;
+      pool = other (x .pool) i pool l j;
+      member = other (x .member) i m l j;
+      units = other (x .units) i units l j;
+      price = other (x .price) i price l j;
+      won = other (x .won) i 0 l j;
+    })
+    (λ j. record {
+      round = same (x .round) round (w .round) j;
+      pool = same (x .pool) pool (w .pool) j;
+      member = same (x .member) m (w .member) j;
+      units = same (x .units) units (w .units) j;
+      price = same (x .price) price (w .price) j;
+      won = same (x .won) 0 (w .won) j;
+    }))
+  where
+    other : (l : List ℕ) (i v : ℕ) → i < x .kept → getD (set l (x .kept) v) i 0 ≡ getD l i 0
+    other l i v h = getD-set-other l (x .kept) i v 0 (omega arith)
+
+    same : (l : List ℕ) (v : ℕ) → length l ≡ 256 → getD (set l (x .kept) v) (x .kept) 0 ≡ v
+    same l v long = getD-set-same l (x .kept) v 0 (omega arith)
+
+-- ---- the arrays agree with what is shown
+
+module _ (x : Bids) (b : ℕ) (l : b < x .kept) where
+  pub bid-shown : getD (viewBids x) b M.noBid ≡ bidAt x b
+  bid-shown = getD-tab (x .kept) (bidAt x) b M.noBid l
+
+  pub round-shown : getD (x .round) b 0 ≡ getD (viewBids x) b M.noBid .round
+  round-shown = sym (ap (λ (y : M.Bid). y .round) bid-shown)
+
+  pub pool-shown : getD (x .pool) b 0 ≡ getD (viewBids x) b M.noBid .pool
+  pool-shown = sym (ap (λ (y : M.Bid). y .pool) bid-shown)
+
+  pub member-shown : getD (x .member) b 0 ≡ getD (viewBids x) b M.noBid .member
+  member-shown = sym (ap (λ (y : M.Bid). y .member) bid-shown)
+
+  pub units-shown : getD (x .units) b 0 ≡ getD (viewBids x) b M.noBid .units
+  units-shown = sym (ap (λ (y : M.Bid). y .units) bid-shown)
+
+  pub price-shown : getD (x .price) b 0 ≡ getD (viewBids x) b M.noBid .price
+  price-shown = sym (ap (λ (y : M.Bid). y .price) bid-shown)
+
+  pub won-shown : getD (x .won) b 0 ≡ getD (viewBids x) b M.noBid .won
+  won-shown = sym (ap (λ (y : M.Bid). y .won) bid-shown)

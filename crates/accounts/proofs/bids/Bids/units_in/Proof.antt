@@ -1,0 +1,82 @@
+-- `accounts::bids::Bids::units_in` meets its contract. The invariant: the places passed hold their units. Assumes nothing.
+use mathlib.Core.Path.{_≡_}
+use Prim.Native.Nat.{ℕ, _-_, _≤_, _<_}
+use native.Mathlib.Omega.{arith}
+use lib.ListN.{length, getD, length-set}
+use borrow.Author.Count.{below-none}
+use Rattle.lists.specs.Lists.{if_then_else_}
+use Rattle.lists.proofs.Places.{filled-next, tab-of}
+use Rattle.accounts.specs.Bids.{inAuctionAt, unitsIn}
+use borrow.Author.Needs.{needs}
+use Rattle.accounts.proofs.bids.Bids.units_in.Statement.{statement}
+use Rattle.accounts.proofs.bids.Bids.units_in.Tie as tie
+
+abbrev Inv-loop : tie.InvT-loop
+Inv-loop round pool self out₀ i₀ out i =
+    (i ≤ 256) × (length out ≡ 256) × ((k : ℕ) → k < i → getD out k 0 ≡ (if inAuctionAt self round pool k then getD (self .units) k 0 else 0))
+
+abbrev μ-loop : tie.MeasureT-loop
+μ-loop round pool self out₀ i₀ out i = 256 - i
+
+loop-holds : tie.Need-loop-holds Inv-loop μ-loop
+loop-holds c = (search needs, search needs, below-none _)
+
+element-copy-out-is-in : tie.Need-element-copy-out-is-in Inv-loop μ-loop
+element-copy-out-is-in c = search needs
+
+element-copy-out-is-in-2 : tie.Need-element-copy-out-is-in-2 Inv-loop μ-loop
+element-copy-out-is-in-2 c = search needs
+
+is-in-requires : tie.Need-is-in-requires Inv-loop μ-loop
+is-in-requires c κs = search needs
+
+mul-number-if : tie.Need-mul-number-if Inv-loop μ-loop
+mul-number-if c = search needs
+
+element-copy-out-number-if : tie.Need-element-copy-out-number-if Inv-loop μ-loop
+element-copy-out-number-if c = search needs
+
+number-if-requires : tie.Need-number-if-requires Inv-loop μ-loop
+number-if-requires c κs = search needs
+
+mul-out : tie.Need-mul-out Inv-loop μ-loop
+mul-out c = search needs
+
+array-write-out : tie.Need-array-write-out Inv-loop μ-loop
+array-write-out c = search needs
+
+add-i : tie.Need-add-i Inv-loop μ-loop
+add-i c = search needs
+
+loop-less : tie.Need-loop-less Inv-loop μ-loop
+loop-less c = search needs
+
+loop-again : tie.Need-loop-again Inv-loop μ-loop
+unfolding inAuctionAt
+loop-again c =
+    let at = c .before .before .before .before .before .before .loop in
+    (omega arith, simp length-set (omega arith), filled-next _ 0 (at .out) (at .i) _ (omega arith) (at .inv .2) (cc))
+
+returns : tie.Need-returns Inv-loop μ-loop
+unfolding unitsIn
+returns c = tab-of 256 _ 0 (c .before .loop .out) (c .before .loop .inv .1) (λ k l. c .before .loop .inv .2 k (omega arith))
+
+pub units-in-spec : {M : Type 1} → statement M
+units-in-spec =
+    tie.close
+    (tie.spec
+    Inv-loop
+    μ-loop
+    loop-holds
+    element-copy-out-is-in
+    element-copy-out-is-in-2
+    is-in-requires
+    mul-number-if
+    element-copy-out-number-if
+    number-if-requires
+    mul-out
+    array-write-out
+    add-i
+    loop-less
+    loop-again
+    returns)

@@ -1,0 +1,90 @@
+-- The bids kept, over the program's struct, and as the machine has them.
+use mathlib.Core.Bool.{Bool, _&&_}
+use mathlib.Core.List.{List}
+use Prim.Native.Nat.{ℕ, _+_, _-_, _*_, min}
+use lib.Dec.{ltb, eqb}
+use lib.ListN.{getD, set, replicate}
+use Rattle.lists.specs.Lists.{if_then_else_, tab, places, sumByKey}
+use Rattle.auction.specs.Price.{priceLimit}
+use Rattle.auction.specs.Limits.{unitLimit, placeLimit, allotInto}
+use Rattle.machine.specs.Roll as M
+use Rattle.accounts.specs.declared.bids.Bids.{Bids}
+
+unfoldable pub noBids : Bids
+noBids =
+    record {
+      kept = 0;
+      round = replicate 256 0;
+      pool = replicate 256 0;
+      member = replicate 256 0;
+      units = replicate 256 0;
+      price = replicate 256 0;
+      won = replicate 256 0;
+    }
+
+-- a bid more, where there is room; it has won nothing
+unfoldable pub putBid : Bids → ℕ → ℕ → ℕ → ℕ → ℕ → Bids
+putBid x round pool m units price =
+    if ltb (x .kept) 256 then
+    record {
+      kept = x .kept + 1;
+      round = set (x .round) (x .kept) round;
+      pool = set (x .pool) (x .kept) pool;
+      member = set (x .member) (x .kept) m;
+      units = set (x .units) (x .kept) units;
+      price = set (x .price) (x .kept) price;
+      won = set (x .won) (x .kept) 0;
+    }
+    else x
+
+-- whether the bid at place i is kept, of the round and in the pool
+unfoldable pub inAuctionAt : Bids → ℕ → ℕ → ℕ → Bool
+inAuctionAt x round pool i = ltb i (x .kept) && eqb (getD (x .round) i 0) round && eqb (getD (x .pool) i 0) pool
+
+-- the units of the bids of a round in a pool, and 0 for the others
+unfoldable pub unitsIn : Bids → ℕ → ℕ → List ℕ
+unitsIn x round pool = tab 256 (λ i. if inAuctionAt x round pool i then getD (x .units) i 0 else 0)
+
+-- what the bids of a round win of a pool's open units, each at its place, and 0 for the others
+unfoldable pub winsOf : Bids → ℕ → ℕ → ℕ → ℕ → List ℕ
+winsOf x round pool n reserve = allotInto 0 placeLimit n reserve (unitsIn x round pool) (x .price) (replicate 256 0) .1
+
+-- the bids of a round in a pool with the units that they won
+unfoldable pub withWins : Bids → ℕ → ℕ → List ℕ → Bids
+withWins x round pool wins =
+    record {
+      kept = x .kept;
+      round = x .round;
+      pool = x .pool;
+      member = x .member;
+      units = x .units;
+      price = x .price;
+      won = tab 256 (λ i. if inAuctionAt x round pool i then getD wins i 0 else getD (x .won) i 0);
+    }
+
+-- the units won by member and pool, those of member m in pool p at place 4 × m + p
+unfoldable pub wonTable : Bids → List ℕ
+wonTable x = sumByKey 128 (λ i. 4 * getD (x .member) i 0 + getD (x .pool) i 0) (λ i. min (getD (x .won) i 0) unitLimit) (places (min (x .kept) 256))
+
+-- "units won × (price − worst reserve)" of one bid, each number held to its limit
+unfoldable pub gainAt : Bids → List ℕ → ℕ → ℕ
+gainAt x worsts i = min (getD (x .won) i 0) unitLimit * min (getD (x .price) i 0 - getD worsts (getD (x .pool) i 0) 0) priceLimit
+
+-- D by member
+unfoldable pub gainTable : Bids → List ℕ → List ℕ
+gainTable x worsts = sumByKey 32 (λ i. getD (x .member) i 0) (gainAt x worsts) (places (min (x .kept) 256))
+
+-- as the machine has them
+abbrev pub bidAt : Bids → ℕ → M.Bid
+bidAt x i =
+    record {
+      round = getD (x .round) i 0;
+      pool = getD (x .pool) i 0;
+      member = getD (x .member) i 0;
+      units = getD (x .units) i 0;
+      price = getD (x .price) i 0;
+      won = getD (x .won) i 0;
+    }
+
+abbrev pub viewBids : Bids → List M.Bid
+viewBids x = tab (x .kept) (bidAt x)

@@ -1,0 +1,69 @@
+-- K4, K5 and the allotment of the worked example of document 01, by computation, with prices held as cents + 1,000,000. Assumes nothing.
+use mathlib.Core.Path.{_≡_, refl}
+use mathlib.Core.Bool.{true, false}
+use mathlib.Core.List.{[], _∷_}
+use Prim.Native.Nat.{ℕ}
+use lib.IntN.{ℤ, pos, negsuc}
+use Rattle.auction.specs.Computing.{computing}
+use Rattle.auction.specs.Auction.{validAt, allot}
+use Rattle.auction.specs.Limits.{allotInto}
+use Rattle.auction.specs.Lent.{aloneLent}
+use Rattle.auction.specs.declared.BidRecord.{BidRecord}
+
+-- "K4 reserve −30: a bid at −30 is valid, at −31 not."
+pub k4 : (validAt 999_970 (999_970 ∷ 999_969 ∷ []) 0 ≡ true) × (validAt 999_970 (999_970 ∷ 999_969 ∷ []) 1 ≡ false)
+unfolding computing
+k4 = (refl, refl)
+
+pub k4-won : allot 10 999_970 (4 ∷ 5 ∷ []) (999_970 ∷ 999_969 ∷ []) ≡ 4 ∷ 0 ∷ []
+unfolding computing
+k4-won = refl
+
+-- "K5 bids of 4 and 6 at one price, 10 open: all won."
+pub k5 : allot 10 999_970 (4 ∷ 6 ∷ []) (1_000_000 ∷ 1_000_000 ∷ []) ≡ 4 ∷ 6 ∷ []
+unfolding computing
+k5 = refl
+
+-- the run of the program `ledger`: 10 open, reserve −30, bids of 4 at −10, 5 at −20, 3 at −20, 5 at −40
+pub worked-example : allot 10 999_970 (4 ∷ 5 ∷ 3 ∷ 5 ∷ []) (999_990 ∷ 999_980 ∷ 999_980 ∷ 999_960 ∷ []) ≡ 4 ∷ 4 ∷ 2 ∷ 0 ∷ []
+unfolding computing
+worked-example = refl
+
+-- "giving the odd unit to the first bid, not to the largest remainder" is what old ledgers did: 1 of 4 goes to the bid of 3
+pub odd-unit : allot 1 999_970 (1 ∷ 3 ∷ []) (999_980 ∷ 999_980 ∷ []) ≡ 0 ∷ 1 ∷ []
+unfolding computing
+odd-unit = refl
+
+-- the answers of an auction run alone, and of one that is not: a bid of 0 units; runs of different lengths, before a number out of range
+pub alone-answers-5 : allotInto 1 256 10 999_970 (4 ∷ 0 ∷ []) (1_000_000 ∷ 1_000_000 ∷ []) (7 ∷ 7 ∷ []) ≡ (5, 7 ∷ 7 ∷ [])
+unfolding computing
+alone-answers-5 = refl
+
+pub allot-answers-0 : allotInto 0 258 10 999_970 (4 ∷ 0 ∷ []) (1_000_000 ∷ 1_000_000 ∷ []) (7 ∷ 7 ∷ []) ≡ (0, 4 ∷ 0 ∷ [])
+unfolding computing
+allot-answers-0 = refl
+
+pub alone-answers-1 : allotInto 1 256 1_001 999_970 (4 ∷ []) (1_000_000 ∷ []) (7 ∷ 7 ∷ []) ≡ (1, 7 ∷ 7 ∷ [])
+unfolding computing
+alone-answers-1 = refl
+
+-- the worked example over a lent run of records, with its prices in cents
+abbrev bid : ℕ → ℤ → BidRecord
+bid units price = record { units = units; price = price }
+
+pub lent-example : aloneLent (bid 4 (negsuc 9) ∷ bid 5 (negsuc 19) ∷ bid 3 (negsuc 19) ∷ bid 5 (negsuc 39) ∷ []) 10 (negsuc 29) (7 ∷ 7 ∷ 7 ∷ 7 ∷ []) ≡ (0, 4 ∷ 4 ∷ 2 ∷ 0 ∷ [])
+unfolding computing
+lent-example = refl
+
+-- −1,000,000 and 1,000,000 cents are in range, −1,000,001 and 1,000,001 are not
+pub lent-ends : aloneLent (bid 4 (negsuc 999_999) ∷ bid 5 (pos 1_000_000) ∷ []) 10 (negsuc 999_999) (7 ∷ 7 ∷ []) ≡ (0, 4 ∷ 5 ∷ [])
+unfolding computing
+lent-ends = refl
+
+pub lent-too-low : aloneLent (bid 4 (pos 0) ∷ bid 5 (negsuc 1_000_000) ∷ []) 10 (negsuc 29) (7 ∷ 7 ∷ []) ≡ (5, 7 ∷ 7 ∷ [])
+unfolding computing
+lent-too-low = refl
+
+pub lent-too-high : aloneLent (bid 4 (pos 0) ∷ bid 5 (pos 1_000_001) ∷ []) 10 (negsuc 29) (7 ∷ 7 ∷ []) ≡ (5, 7 ∷ 7 ∷ [])
+unfolding computing
+lent-too-high = refl

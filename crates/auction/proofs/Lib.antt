@@ -1,0 +1,10 @@
+pub mod Levels
+pub mod Laws
+pub mod Totals
+pub mod Absent
+pub mod Edges
+pub mod Answers
+pub mod Cents
+pub mod Examples
+pub mod Signed
+pub mod Lending

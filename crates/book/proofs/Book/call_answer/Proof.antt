@@ -1,0 +1,51 @@
+-- `book::Book::call_answer` meets its contract. The tests stand in the order of their numbers. Assumes nothing.
+use Rattle.lists.specs.Tests.{firstOf}
+use Rattle.book.specs.Answers.{callAnswer}
+use borrow.Author.Needs.{needs}
+use Rattle.book.proofs.Book.call_answer.Statement.{statement}
+use Rattle.book.proofs.Book.call_answer.Tie as tie
+use Rattle.book.proofs.Book.call_answer.Reads as reads
+use Rattle.book.proofs.Book.call_answer.Lts as lts
+use Rattle.book.proofs.Book.any_open.Reads as any-open-reads
+use Rattle.book.proofs.Book.prefunded.Reads as prefunded-reads
+use Rattle.book.proofs.Book.requirement.Reads as requirement-reads
+use Rattle.book.proofs.letter.Reads as letter-reads
+use Rattle.lists.proofs.decline_if.Reads as decline-if-reads
+
+letter-requires : tie.Need-letter-requires
+letter-requires c κs = search needs
+
+any-open-requires : tie.Need-any-open-requires
+any-open-requires c κs = search needs
+
+requirement-requires : tie.Need-requirement-requires
+requirement-requires c κs = search needs
+
+prefunded-requires : tie.Need-prefunded-requires
+prefunded-requires c κs = search needs
+
+decline-if-requires : tie.Need-decline-if-requires
+decline-if-requires c κs = search needs
+
+decline-if-requires-2 : tie.Need-decline-if-requires-2
+decline-if-requires-2 c κs = search needs
+
+decline-if-requires-3 : tie.Need-decline-if-requires-3
+decline-if-requires-3 c κs = search needs
+
+returns : tie.Need-returns
+unfolding callAnswer firstOf
+returns c = cc
+
+pub call-answer-spec : {M : Type 1} → statement M
+call-answer-spec =
+    tie.close
+    (tie.spec
+    letter-requires
+    any-open-requires
+    requirement-requires
+    prefunded-requires
+    decline-if-requires
+    decline-if-requires-2
+    decline-if-requires-3
+    returns)

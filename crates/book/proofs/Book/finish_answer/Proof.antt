@@ -1,0 +1,83 @@
+-- `book::Book::finish_answer` meets its contract. The tests stand in the order of their numbers. Assumes nothing.
+use Rattle.lists.specs.Tests.{firstOf}
+use Rattle.book.specs.Answers.{finishAnswer}
+use borrow.Author.Needs.{needs}
+use Rattle.book.proofs.Book.finish_answer.Statement.{statement}
+use Rattle.book.proofs.Book.finish_answer.Tie as tie
+use Rattle.book.proofs.Book.finish_answer.Reads as reads
+use Rattle.book.proofs.Book.finish_answer.Lts as lts
+use Rattle.accounts.proofs.members.Members.someone_owes.Reads as someone-owes-reads
+use Rattle.book.proofs.Book.any_open.Reads as any-open-reads
+use Rattle.book.proofs.Book.prefunded.Reads as prefunded-reads
+use Rattle.book.proofs.Book.requirement.Reads as requirement-reads
+use Rattle.book.proofs.letter.Reads as letter-reads
+use Rattle.lists.proofs.both.Reads as both-reads
+use Rattle.lists.proofs.decline_if.Reads as decline-if-reads
+use Rattle.lists.proofs.either.Reads as either-reads
+
+letter-requires : tie.Need-letter-requires
+letter-requires c κs = search needs
+
+any-open-requires : tie.Need-any-open-requires
+any-open-requires c κs = search needs
+
+requirement-requires : tie.Need-requirement-requires
+requirement-requires c κs = search needs
+
+prefunded-requires : tie.Need-prefunded-requires
+prefunded-requires c κs = search needs
+
+someone-owes-requires : tie.Need-someone-owes-requires
+someone-owes-requires c κs = search needs
+
+decline-if-requires : tie.Need-decline-if-requires
+decline-if-requires c κs = search needs
+
+both-requires : tie.Need-both-requires
+both-requires c κs = search needs
+
+decline-if-requires-2 : tie.Need-decline-if-requires-2
+decline-if-requires-2 c κs = search needs
+
+decline-if-requires-3 : tie.Need-decline-if-requires-3
+decline-if-requires-3 c κs = search needs
+
+either-requires : tie.Need-either-requires
+either-requires c κs = search needs
+
+decline-if-requires-4 : tie.Need-decline-if-requires-4
+decline-if-requires-4 c κs = search needs
+
+returns : tie.Need-returns
+unfolding finishAnswer firstOf
+returns c =
+    simp (
+      c .decline-if4 .ensures,
+      c .before .either .ensures,
+      c .before .before .decline-if3 .ensures,
+      c .before .before .before .decline-if2 .ensures,
+      c .before .before .before .before .both .ensures,
+      c .before .before .before .before .before .decline-if .ensures,
+      c .before .before .before .before .before .before .someone-owes .ensures,
+      c .before .before .before .before .before .before .before .before .prefunded .ensures,
+      c .before .before .before .before .before .before .before .before .before .requirement .ensures,
+      c .before .before .before .before .before .before .before .before .before .before .any-open .ensures,
+      c .before .before .before .before .before .before .before .before .before .before .before .letter .ensures,
+    )
+
+pub finish-answer-spec : {M : Type 1} → statement M
+finish-answer-spec =
+    tie.close
+    (tie.spec
+    letter-requires
+    any-open-requires
+    requirement-requires
+    prefunded-requires
+    someone-owes-requires
+    decline-if-requires
+    both-requires
+    decline-if-requires-2
+    decline-if-requires-3
+    either-requires
+    decline-if-requires-4
+    returns)

@@ -1,0 +1,55 @@
+-- `book::Book::member_answer` meets its contract. The tests stand in the order of their numbers. Assumes nothing.
+use Rattle.lists.specs.Tests.{firstOf}
+use Rattle.book.specs.Answers.{memberAnswer}
+use borrow.Author.Needs.{needs}
+use Rattle.book.proofs.Book.member_answer.Statement.{statement}
+use Rattle.book.proofs.Book.member_answer.Tie as tie
+use Rattle.book.proofs.Book.member_answer.Reads as reads
+use Rattle.book.proofs.Book.member_answer.Lts as lts
+use Rattle.book.proofs.letter.Reads as letter-reads
+use Rattle.book.proofs.member_ok.Reads as member-ok-reads
+use Rattle.lists.proofs.decline_if.Reads as decline-if-reads
+use Rattle.lists.proofs.either.Reads as either-reads
+use Rattle.sets.proofs.has.Reads as has-reads
+
+letter-requires : tie.Need-letter-requires
+letter-requires c κs = search needs
+
+has-requires : tie.Need-has-requires
+has-requires c κs = search needs
+
+has-requires-2 : tie.Need-has-requires-2
+has-requires-2 c κs = search needs
+
+member-ok-requires : tie.Need-member-ok-requires
+member-ok-requires c κs = search needs
+
+decline-if-requires : tie.Need-decline-if-requires
+decline-if-requires c κs = search needs
+
+either-requires : tie.Need-either-requires
+either-requires c κs = search needs
+
+decline-if-requires-2 : tie.Need-decline-if-requires-2
+decline-if-requires-2 c κs = search needs
+
+decline-if-requires-3 : tie.Need-decline-if-requires-3
+decline-if-requires-3 c κs = search needs
+
+returns : tie.Need-returns
+unfolding memberAnswer firstOf
+returns c = cc
+
+pub member-answer-spec : {M : Type 1} → statement M
+member-answer-spec =
+    tie.close
+    (tie.spec
+    letter-requires
+    has-requires
+    has-requires-2
+    member-ok-requires
+    decline-if-requires
+    either-requires
+    decline-if-requires-2
+    decline-if-requires-3
+    returns)

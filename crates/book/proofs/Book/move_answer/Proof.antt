@@ -1,0 +1,46 @@
+-- `book::Book::move_answer` meets its contract. The tests stand in the order of their numbers. Assumes nothing.
+use Rattle.lists.specs.Tests.{firstOf}
+use Rattle.book.specs.Answers.{moveAnswer}
+use borrow.Author.Needs.{needs}
+use Rattle.book.proofs.Book.move_answer.Statement.{statement}
+use Rattle.book.proofs.Book.move_answer.Tie as tie
+use Rattle.book.proofs.Book.move_answer.Reads as reads
+use Rattle.book.proofs.Book.move_answer.Lts as lts
+use Rattle.accounts.proofs.members.Members.owes.Reads as owes-reads
+use Rattle.book.proofs.letter.Reads as letter-reads
+use Rattle.lists.proofs.decline_if.Reads as decline-if-reads
+use Rattle.sets.proofs.has.Reads as has-reads
+
+letter-requires : tie.Need-letter-requires
+letter-requires c κs = search needs
+
+has-requires : tie.Need-has-requires
+has-requires c κs = search needs
+
+owes-requires : tie.Need-owes-requires
+owes-requires c κs = search needs
+
+decline-if-requires : tie.Need-decline-if-requires
+decline-if-requires c κs = search needs
+
+decline-if-requires-2 : tie.Need-decline-if-requires-2
+decline-if-requires-2 c κs = search needs
+
+decline-if-requires-3 : tie.Need-decline-if-requires-3
+decline-if-requires-3 c κs = search needs
+
+returns : tie.Need-returns
+unfolding moveAnswer firstOf
+returns c = cc
+
+pub move-answer-spec : {M : Type 1} → statement M
+move-answer-spec =
+    tie.close
+    (tie.spec
+    letter-requires
+    has-requires
+    owes-requires
+    decline-if-requires
+    decline-if-requires-2
+    decline-if-requires-3
+    returns)

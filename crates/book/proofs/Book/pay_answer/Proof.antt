@@ -1,0 +1,55 @@
+-- `book::Book::pay_answer` meets its contract. The tests stand in the order of their numbers. Assumes nothing.
+use Rattle.lists.specs.Tests.{firstOf}
+use Rattle.book.specs.Answers.{payAnswer}
+use borrow.Author.Needs.{needs}
+use Rattle.book.proofs.Book.pay_answer.Statement.{statement}
+use Rattle.book.proofs.Book.pay_answer.Tie as tie
+use Rattle.book.proofs.Book.pay_answer.Reads as reads
+use Rattle.book.proofs.Book.pay_answer.Lts as lts
+use Rattle.accounts.proofs.members.Members.owes.Reads as owes-reads
+use Rattle.book.proofs.letter.Reads as letter-reads
+use Rattle.book.proofs.payment_ok.Reads as payment-ok-reads
+use Rattle.lists.proofs.decline_if.Reads as decline-if-reads
+use Rattle.sets.proofs.has.Reads as has-reads
+
+letter-requires : tie.Need-letter-requires
+letter-requires c κs = search needs
+
+has-requires : tie.Need-has-requires
+has-requires c κs = search needs
+
+owes-requires : tie.Need-owes-requires
+owes-requires c κs = search needs
+
+payment-ok-requires : tie.Need-payment-ok-requires
+payment-ok-requires c κs = search needs
+
+decline-if-requires : tie.Need-decline-if-requires
+decline-if-requires c κs = search needs
+
+decline-if-requires-2 : tie.Need-decline-if-requires-2
+decline-if-requires-2 c κs = search needs
+
+decline-if-requires-3 : tie.Need-decline-if-requires-3
+decline-if-requires-3 c κs = search needs
+
+decline-if-requires-4 : tie.Need-decline-if-requires-4
+decline-if-requires-4 c κs = search needs
+
+returns : tie.Need-returns
+unfolding payAnswer firstOf
+returns c = cc
+
+pub pay-answer-spec : {M : Type 1} → statement M
+pay-answer-spec =
+    tie.close
+    (tie.spec
+    letter-requires
+    has-requires
+    owes-requires
+    payment-ok-requires
+    decline-if-requires
+    decline-if-requires-2
+    decline-if-requires-3
+    decline-if-requires-4
+    returns)

@@ -1,0 +1,46 @@
+-- `book::Book::pool_answer` meets its contract. The tests stand in the order of their numbers. Assumes nothing.
+use Rattle.lists.specs.Tests.{firstOf}
+use Rattle.book.specs.Answers.{poolAnswer}
+use borrow.Author.Needs.{needs}
+use Rattle.book.proofs.Book.pool_answer.Statement.{statement}
+use Rattle.book.proofs.Book.pool_answer.Tie as tie
+use Rattle.book.proofs.Book.pool_answer.Reads as reads
+use Rattle.book.proofs.Book.pool_answer.Lts as lts
+use Rattle.book.proofs.letter.Reads as letter-reads
+use Rattle.book.proofs.pool_ok.Reads as pool-ok-reads
+use Rattle.lists.proofs.decline_if.Reads as decline-if-reads
+use Rattle.lists.proofs.either.Reads as either-reads
+
+letter-requires : tie.Need-letter-requires
+letter-requires c κs = search needs
+
+pool-ok-requires : tie.Need-pool-ok-requires
+pool-ok-requires c κs = search needs
+
+decline-if-requires : tie.Need-decline-if-requires
+decline-if-requires c κs = search needs
+
+either-requires : tie.Need-either-requires
+either-requires c κs = search needs
+
+decline-if-requires-2 : tie.Need-decline-if-requires-2
+decline-if-requires-2 c κs = search needs
+
+decline-if-requires-3 : tie.Need-decline-if-requires-3
+decline-if-requires-3 c κs = search needs
+
+returns : tie.Need-returns
+unfolding poolAnswer firstOf
+returns c = cc
+
+pub pool-answer-spec : {M : Type 1} → statement M
+pool-answer-spec =
+    tie.close
+    (tie.spec
+    letter-requires
+    pool-ok-requires
+    decline-if-requires
+    either-requires
+    decline-if-requires-2
+    decline-if-requires-3
+    returns)

@@ -1,0 +1,71 @@
+-- `book::Book::result` meets its contract. The payments' shares are those that the split leaves in the run lent to it. Assumes nothing.
+use mathlib.Core.Path.{ap}
+use Rattle.splitting.specs.Limits.{Answer}
+use Rattle.book.proofs.Finished.{result-of-parts}
+use borrow.Author.Needs.{needs}
+use Rattle.book.proofs.Book.result.Statement.{statement}
+use Rattle.book.proofs.Book.result.Tie as tie
+use Rattle.book.proofs.Book.result.Reads as reads
+use Rattle.book.proofs.Book.result.Lts as lts
+use Rattle.book.proofs.Book.limits.Reads as limits-reads
+use Rattle.book.proofs.Book.ranks.Reads as ranks-reads
+use Rattle.book.proofs.Book.requirement.Reads as requirement-reads
+use Rattle.splitting.proofs.split.Reads as split-reads
+use Rattle.waterfall.proofs.charge_by_rank.Reads as charge-by-rank-reads
+use Rattle.waterfall.proofs.charge_layers.Reads as charge-layers-reads
+
+requirement-requires : tie.Need-requirement-requires
+requirement-requires c κs = search needs
+
+limits-requires : tie.Need-limits-requires
+limits-requires c κs = search needs
+
+charge-layers-requires : tie.Need-charge-layers-requires
+charge-layers-requires c κs = search needs
+
+ranks-requires : tie.Need-ranks-requires
+ranks-requires c κs = search needs
+
+array-read-charge-by-rank : tie.Need-array-read-charge-by-rank
+array-read-charge-by-rank c = search needs
+
+charge-by-rank-requires : tie.Need-charge-by-rank-requires
+charge-by-rank-requires c κs = search needs
+
+array-read-split : tie.Need-array-read-split
+array-read-split c = search needs
+
+slice-aggregate-split : tie.Need-slice-aggregate-split
+slice-aggregate-split c = search (needs, c .before .before .before .before .before .before .before .before .before .before .before .good .0 .1 .1 .1 .1 .1 .0)
+
+slice-aggregate-split-2 : tie.Need-slice-aggregate-split-2
+slice-aggregate-split-2 c = search needs
+
+split-requires : tie.Need-split-requires
+split-requires c κs = search needs
+
+returns : tie.Need-returns
+returns c =
+    result-of-parts (c .before .before .before .before .before .before .before .before .before .before .before .before .before .before .args .self)
+    (c .before .before .before .before .before .before .before .before .before .before .before .requirement .ensures)
+    (c .before .before .before .before .before .before .before .before .before .before .limits .ensures)
+    (c .before .before .before .before .before .before .before .before .before .charge-layers .ensures)
+    (c .before .before .before .before .before .before .before .ranks .ensures)
+    (c .before .before .before .before .before .charge-by-rank .ensures)
+    (ap (λ (r : Answer). r .1) (c .before .split .ensures))
+
+pub result-spec : {M : Type 1} → statement M
+result-spec =
+    tie.close
+    (tie.spec
+    requirement-requires
+    limits-requires
+    charge-layers-requires
+    ranks-requires
+    array-read-charge-by-rank
+    charge-by-rank-requires
+    array-read-split
+    slice-aggregate-split
+    slice-aggregate-split-2
+    split-requires
+    returns)

@@ -1,0 +1,58 @@
+-- `book::Book::take_round` meets its contract. Assumes nothing.
+use Rattle.book.specs.Books.{roundBook}
+use borrow.Author.Needs.{needs}
+use Rattle.book.proofs.Book.take_round.Statement.{statement}
+use Rattle.book.proofs.Book.take_round.Tie as tie
+use Rattle.book.proofs.Book.take_round.Reads as reads
+use Rattle.book.proofs.Book.take_round.Lts as lts
+use Rattle.accounts.proofs.rounds.Rounds.put.Reads as put-reads
+use Rattle.book.proofs.Book.open_units.Reads as open-units-reads
+use Rattle.book.proofs.next_round.Reads as next-round-reads
+use Rattle.book.proofs.round_of.Reads as round-of-reads
+
+open-units-requires : tie.Need-open-units-requires
+open-units-requires c κs = search needs
+
+open-units-requires-2 : tie.Need-open-units-requires-2
+open-units-requires-2 c κs = search needs
+
+open-units-requires-3 : tie.Need-open-units-requires-3
+open-units-requires-3 c κs = search needs
+
+open-units-requires-4 : tie.Need-open-units-requires-4
+open-units-requires-4 c κs = search needs
+
+put-requires : tie.Need-put-requires
+put-requires c κs = search needs
+
+round-of-requires : tie.Need-round-of-requires
+round-of-requires c κs = search needs
+
+next-round-requires : tie.Need-next-round-requires
+next-round-requires c κs = search needs
+
+returns : tie.Need-returns
+unfolding roundBook
+returns c =
+    simp (
+      c .next-round .ensures,
+      c .before .round-of .ensures,
+      c .before .before .put .ensures,
+      c .before .before .before .open-units4 .ensures,
+      c .before .before .before .before .open-units3 .ensures,
+      c .before .before .before .before .before .open-units2 .ensures,
+      c .before .before .before .before .before .before .open-units .ensures,
+    )
+
+pub take-round-spec : {M : Type 1} → statement M
+take-round-spec =
+    tie.close
+    (tie.spec
+    open-units-requires
+    open-units-requires-2
+    open-units-requires-3
+    open-units-requires-4
+    put-requires
+    round-of-requires
+    next-round-requires
+    returns)

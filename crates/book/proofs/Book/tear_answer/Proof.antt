@@ -1,0 +1,50 @@
+-- `book::Book::tear_answer` meets its contract. The tests stand in the order of their numbers. Assumes nothing.
+use Rattle.lists.specs.Tests.{firstOf}
+use Rattle.book.specs.Answers.{tearAnswer}
+use borrow.Author.Needs.{needs}
+use Rattle.book.proofs.Book.tear_answer.Statement.{statement}
+use Rattle.book.proofs.Book.tear_answer.Tie as tie
+use Rattle.book.proofs.Book.tear_answer.Reads as reads
+use Rattle.book.proofs.Book.tear_answer.Lts as lts
+use Rattle.book.proofs.Book.open_units.Reads as open-units-reads
+use Rattle.book.proofs.letter.Reads as letter-reads
+use Rattle.book.proofs.price_ok.Reads as price-ok-reads
+use Rattle.lists.proofs.decline_if.Reads as decline-if-reads
+
+letter-requires : tie.Need-letter-requires
+letter-requires c κs = search needs
+
+open-units-requires : tie.Need-open-units-requires
+open-units-requires c κs = search needs
+
+price-ok-requires : tie.Need-price-ok-requires
+price-ok-requires c κs = search needs
+
+decline-if-requires : tie.Need-decline-if-requires
+decline-if-requires c κs = search needs
+
+decline-if-requires-2 : tie.Need-decline-if-requires-2
+decline-if-requires-2 c κs = search needs
+
+decline-if-requires-3 : tie.Need-decline-if-requires-3
+decline-if-requires-3 c κs = search needs
+
+decline-if-requires-4 : tie.Need-decline-if-requires-4
+decline-if-requires-4 c κs = search needs
+
+returns : tie.Need-returns
+unfolding tearAnswer firstOf
+returns c = cc
+
+pub tear-answer-spec : {M : Type 1} → statement M
+tear-answer-spec =
+    tie.close
+    (tie.spec
+    letter-requires
+    open-units-requires
+    price-ok-requires
+    decline-if-requires
+    decline-if-requires-2
+    decline-if-requires-3
+    decline-if-requires-4
+    returns)

@@ -1,0 +1,4 @@
+pub mod Sound
+pub mod Bounds
+pub mod Finished
+pub mod Ranges

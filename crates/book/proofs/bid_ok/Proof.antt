@@ -1,0 +1,25 @@
+-- `book::bid_ok` meets its contract. Assumes nothing.
+use Rattle.machine.specs.Refusals.{bidOk}
+use borrow.Author.Needs.{needs}
+use Rattle.book.proofs.bid_ok.Statement.{statement}
+use Rattle.book.proofs.bid_ok.Tie as tie
+use Rattle.book.proofs.bid_ok.Reads as reads
+use Rattle.book.proofs.bid_ok.Lts as lts
+use Rattle.book.proofs.price_ok.Reads as price-ok-reads
+use Rattle.lists.proofs.both.Reads as both-reads
+
+both-requires : tie.Need-both-requires
+both-requires c κs = search needs
+
+price-ok-requires : tie.Need-price-ok-requires
+price-ok-requires c κs = search needs
+
+both-requires-2 : tie.Need-both-requires-2
+both-requires-2 c κs = search needs
+
+returns : tie.Need-returns
+unfolding bidOk
+returns c = cc
+
+pub bid-ok-spec : {M : Type 1} → statement M
+bid-ok-spec = tie.close (tie.spec both-requires price-ok-requires both-requires-2 returns)

@@ -1,0 +1,14 @@
+-- `book::expected_ok` meets its contract. The test is the branch. Assumes nothing.
+use Rattle.book.proofs.expected_ok.Statement.{statement}
+use Rattle.book.proofs.expected_ok.Tie as tie
+use Rattle.book.proofs.expected_ok.Reads as reads
+use Rattle.book.proofs.expected_ok.Lts as lts
+
+returns : tie.Need-returns
+returns c = rw (c .if1 .taken)
+
+returns-2 : tie.Need-returns-2
+returns-2 c = rw (c .if1 .left)
+
+pub expected-ok-spec : {M : Type 1} → statement M
+expected-ok-spec = tie.close (tie.spec returns returns-2)

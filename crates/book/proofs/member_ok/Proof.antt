@@ -1,0 +1,50 @@
+-- `book::member_ok` meets its contract. The ranges are tested number by number. Assumes nothing.
+use Rattle.book.proofs.Ranges.{member-tested}
+use borrow.Author.Needs.{needs}
+use Rattle.book.proofs.member_ok.Statement.{statement}
+use Rattle.book.proofs.member_ok.Tie as tie
+use Rattle.book.proofs.member_ok.Reads as reads
+use Rattle.book.proofs.member_ok.Lts as lts
+use Rattle.book.proofs.expected_ok.Reads as expected-ok-reads
+use Rattle.lists.proofs.both.Reads as both-reads
+
+expected-ok-requires : tie.Need-expected-ok-requires
+expected-ok-requires c κs = search needs
+
+expected-ok-requires-2 : tie.Need-expected-ok-requires-2
+expected-ok-requires-2 c κs = search needs
+
+both-requires : tie.Need-both-requires
+both-requires c κs = search needs
+
+expected-ok-requires-3 : tie.Need-expected-ok-requires-3
+expected-ok-requires-3 c κs = search needs
+
+expected-ok-requires-4 : tie.Need-expected-ok-requires-4
+expected-ok-requires-4 c κs = search needs
+
+both-requires-2 : tie.Need-both-requires-2
+both-requires-2 c κs = search needs
+
+both-requires-3 : tie.Need-both-requires-3
+both-requires-3 c κs = search needs
+
+both-requires-4 : tie.Need-both-requires-4
+both-requires-4 c κs = search needs
+
+returns : tie.Need-returns
+returns c = rw member-tested (cc)
+
+pub member-ok-spec : {M : Type 1} → statement M
+member-ok-spec =
+    tie.close
+    (tie.spec
+    expected-ok-requires
+    expected-ok-requires-2
+    both-requires
+    expected-ok-requires-3
+    expected-ok-requires-4
+    both-requires-2
+    both-requires-3
+    both-requires-4
+    returns)

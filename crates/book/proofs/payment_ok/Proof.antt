@@ -1,0 +1,18 @@
+-- `book::payment_ok` meets its contract. Assumes nothing.
+use Rattle.machine.specs.Refusals.{paymentOk}
+use borrow.Author.Needs.{needs}
+use Rattle.book.proofs.payment_ok.Statement.{statement}
+use Rattle.book.proofs.payment_ok.Tie as tie
+use Rattle.book.proofs.payment_ok.Reads as reads
+use Rattle.book.proofs.payment_ok.Lts as lts
+use Rattle.lists.proofs.both.Reads as both-reads
+
+both-requires : tie.Need-both-requires
+both-requires c κs = search needs
+
+returns : tie.Need-returns
+unfolding paymentOk
+returns c = cc
+
+pub payment-ok-spec : {M : Type 1} → statement M
+payment-ok-spec = tie.close (tie.spec both-requires returns)

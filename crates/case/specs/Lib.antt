@@ -1,0 +1,6 @@
+pub mod Cases
+pub mod View
+pub mod Readings
+pub mod Claim
+pub mod Input
+pub mod Computing

@@ -1,0 +1,63 @@
+-- What outsiders read of the program's case.
+use mathlib.Core.Bool.{Bool}
+use mathlib.Core.List.{List, [], map}
+use mathlib.Core.Option.{Option, none, some}
+use Prim.Native.Nat.{ℕ, _*_}
+use lib.Dec.{eqb}
+use lib.IntN.{ℤ, pos, subℕ}
+use lib.ListN.{getD}
+use Rattle.lists.specs.Lists.{if_then_else_, tab}
+use Rattle.sets.specs.Set.{members}
+use Rattle.auction.specs.Price.{zeroPrice}
+use Rattle.machine.specs.Run.{MemberResult, Result, Observed}
+use Rattle.roll.specs.Rolls.{countOf, holdingOf}
+use Rattle.book.specs.Stages.{letterOf}
+use Rattle.book.specs.Books.{pricedIn, pricesIn}
+use Rattle.book.specs.Results.{resultIn}
+use Rattle.book.specs.declared.Book.{Book}
+use Rattle.case.specs.declared.Case.{Case}
+use Rattle.case.specs.declared.Held.{Held}
+
+-- the five counts of a pool
+unfoldable pub countsIn : Case → ℕ → List ℕ
+countsIn c pool = tab 5 (countOf (c .roll) pool)
+
+-- the units of a pool that a member holds at a price
+unfoldable pub holdingIn : Case → ℕ → ℕ → ℕ → ℕ
+holdingIn c m pool price = holdingOf (c .roll) (c .book .bids .member) (c .book .bids .price) m pool price
+
+-- the sum of the prices of the units not open, in cents
+unfoldable pub sumOfPricesIn : Case → ℤ
+sumOfPricesIn c = subℕ (pricesIn (c .book)) (zeroPrice * pricedIn (c .book))
+
+-- member m's rank and charges
+abbrev pub memberResultIn : Book → ℕ → MemberResult
+memberResultIn b m =
+    record {
+      member = m;
+      rank = getD (resultIn b .ranks) m 0;
+      onContribution = getD (resultIn b .contributions) m 0;
+      onPayments = getD (resultIn b .payments) m 0;
+    }
+
+-- what FINISH gives
+unfoldable pub shownResult : Book → Result
+shownResult b =
+    record {
+      loss = resultIn b .loss;
+      charges = resultIn b .charges;
+      uncovered = resultIn b .uncovered;
+      members = map (memberResultIn b) (members (b .head .set));
+    }
+
+-- what is observed of what is held, after a call that was answered n
+unfoldable pub seen : ℕ → Held → Observed
+seen n h =
+    let c = h .case in
+    record {
+      answer = n;
+      counts = if h .present then tab (c .book .pools .given) (countsIn c) else [];
+      holdings = λ m pool price. if h .present then holdingIn c m pool price else 0;
+      prices = if h .present then sumOfPricesIn c else pos 0;
+      result = if h .present then (if eqb (letterOf (c .book .phase .stage)) 5 then some (shownResult (c .book)) else none) else none;
+    }

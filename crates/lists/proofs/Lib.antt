@@ -1,0 +1,13 @@
+pub mod Bools
+pub mod Sums
+pub mod Places
+pub mod Keep
+pub mod Among
+pub mod Each
+pub mod Counts
+pub mod Pairs
+pub mod Orders
+pub mod Pass
+pub mod Passed
+pub mod Adding
+pub mod Ascending

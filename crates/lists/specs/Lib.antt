@@ -1,0 +1,5 @@
+pub mod Lists
+pub mod Order
+pub mod Tests
+pub mod Adding
+pub mod Computing

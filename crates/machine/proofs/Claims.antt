@@ -1,0 +1,304 @@
+-- What is proved of document 01's machine, in one place: over every state, every list of calls, any bytes. Each claim cites its proof. Assumes nothing.
+use mathlib.Core.Path.{_≡_, refl, sym, ap, _∙_}
+use mathlib.Core.Bool.{true, false}
+use mathlib.Core.List.{List, _++_, map, map-map}
+use mathlib.Core.Option.{none, some}
+use Prim.Native.Nat.{ℕ, _+_, _-_, _≤_, _<_, min}
+use lib.Dec.{eqb}
+use lib.IntN.{pos, _-ℤ_}
+use lib.ListN.{length, getD}
+use Rattle.lists.specs.Lists.{sum, count, keep}
+use Rattle.lists.proofs.Each.{Each, each-at}
+use Rattle.lists.proofs.Passed.{Passed, First}
+use Rattle.auction.specs.Price.{priceLimit}
+use Rattle.auction.proofs.Cents.{atLeast0}
+use Rattle.machine.specs.Wire.{Call, ALLOCATE, FINISH, decode}
+use Rattle.machine.specs.Roll.{Entry, Sold, Allocated, Moved, noBid, openUnits, priceOf}
+use Rattle.machine.specs.State.{Finished, Case, State, theCase, letter, letterOf, roundOf, withStage, noPool, noMember, noRound, inSet, memberList, memberAt}
+use Rattle.machine.specs.Requirement.{requirement, contributions, prefunded}
+use Rattle.machine.specs.Calls.{reserve, inAuction, bidsAfter, wonByMember, shortfall, totalShortfall, allocation, calls, afterClose, afterAllocate, accepted}
+use Rattle.machine.specs.Refusals.{tests}
+use Rattle.machine.specs.Machine.{step}
+use Rattle.machine.specs.Result.{worstReserve, standing, rank, payments, limits, charge, spent, onContribution, onPayments}
+use Rattle.machine.specs.Run.{Result, MemberResult, runFrom, fiveCounts, sumOfPrices, resultOf, observed}
+use Rattle.machine.proofs.Answers as A
+use Rattle.machine.proofs.Invariant.{CaseOk}
+use Rattle.machine.proofs.RollChanges.{soldTo}
+use Rattle.machine.proofs.CallsKept as K
+use Rattle.machine.proofs.Shares as H
+use Rattle.machine.proofs.Reached as R
+use Rattle.machine.proofs.RollSteps as S
+use Rattle.machine.proofs.Bounds as B
+use Rattle.machine.proofs.Bytes as Y
+use Rattle.machine.proofs.Later as L
+use Rattle.machine.proofs.Finish as F
+
+-- ---- answers, in any state
+
+module _ (s : State) (bytes : List ℕ) where
+  -- "a refused call leaves all as it was"
+  pub refused-unchanged : (step s bytes .answer ≡ 0 → ⊥) → step s bytes .state ≡ s
+  refused-unchanged = A.refused-unchanged s bytes
+
+  -- bytes that are no call are answered 1
+  pub no-call : decode bytes ≡ none → step s bytes .answer ≡ 1
+  no-call = A.no-call s bytes
+
+  -- the answer to a call is 0 exactly if every test of its list fails; otherwise it is the number of a test that holds and no earlier one does, and that is
+  -- the least number of a test that holds
+  module _ (call : Call) (is : decode bytes ≡ some call) where
+    pub accepted-passed : step s bytes .answer ≡ 0 → Passed (tests s (theCase s) call)
+    accepted-passed e = A.accepted-passed s call (sym (A.call-answer s bytes call is) ∙ e)
+
+    pub passed-accepted : Passed (tests s (theCase s) call) → step s bytes .answer ≡ 0
+    passed-accepted t = A.call-answer s bytes call is ∙ A.passed-accepts s call t
+
+    pub answer-first : (step s bytes .answer ≡ 0 → ⊥) → First (step s bytes .answer) (tests s (theCase s) call)
+    answer-first h = rw (A.call-answer s bytes call is) (A.refusal-first s call (λ e. h (A.call-answer s bytes call is ∙ e)))
+
+    pub answer-least : Each (λ t. t .1 ≡ true → step s bytes .answer ≤ t .0) (tests s (theCase s) call)
+    answer-least = rw (A.call-answer s bytes call is) (A.refusal-least s call)
+
+-- ---- the roll, in any state
+
+module _ (s : State) (bytes : List ℕ) where
+  -- the roll keeps its entries and each its pool; an accepted POOL adds its units behind them
+  pub roll-kept : map (λ e. e .pool) (S.rollOf (step s bytes .state)) ≡ map (λ e. e .pool) (S.rollOf s) ++ S.added s bytes
+  roll-kept = S.step-pools s bytes
+
+  -- the open units of a pool never grow but by POOL
+  pub open-units-fall : (pool : ℕ) → openUnits (S.rollOf (step s bytes .state)) pool ≤ openUnits (S.rollOf s) pool + count (λ p. eqb p pool) (S.added s bytes)
+  open-units-fall = S.step-open s bytes
+
+-- "ALLOCATE is accepted at most once in a pool": after one, no later one is
+pub allocate-once : (calls more : List (List ℕ)) (one two : List ℕ) (pool price later : ℕ)
+    → decode one ≡ some (ALLOCATE pool price) → step (runFrom none calls) one .answer ≡ 0
+    → decode two ≡ some (ALLOCATE pool later) → step (runFrom (step (runFrom none calls) one .state) more) two .answer ≡ 0 → ⊥
+allocate-once = L.allocate-once
+
+-- ---- the case after any list of calls
+
+module _ (calls : List (List ℕ)) (c : Case) (here : runFrom none calls ≡ some c) where
+  -- all of the invariant, by groups
+  pub in-order : CaseOk c
+  in-order = rw here at (R.reached calls)
+
+  -- each unit is exactly one of the five
+  pub five-counts : (pool : ℕ) → sum (fiveCounts (c .roll) pool) ≡ getD (c .pools) pool noPool .units
+  five-counts = B.five-counts c in-order
+
+  -- sizes
+  pub roll-small : length (c .roll) ≤ 4000
+  roll-small = B.roll-small c in-order
+
+  pub bids-few : length (c .bids) ≤ 256
+  bids-few = in-order .bids .few
+
+  pub rounds-few : length (c .rounds) ≤ 2
+  rounds-few = B.rounds-few c in-order
+
+  pub reserves-all : (r : ℕ) → r < length (c .rounds) → length (getD (c .rounds) r noRound .reserves) ≡ c .head .pools
+  reserves-all r l = B.round-ok c in-order r l .reserves-all
+
+  pub members-all : length (c .members) ≡ 32
+  members-all = in-order .members .all32
+
+  -- members
+  module _ (m : ℕ) where
+    pub expected-four : length (memberAt (c .members) m .expected) ≡ 4
+    expected-four = B.member-ok c in-order m .expected4
+
+    pub allocated-four : length (memberAt (c .members) m .allocated) ≡ 4
+    allocated-four = B.member-ok c in-order m .allocated4
+
+    pub expected-most : (pool : ℕ) → getD (memberAt (c .members) m .expected) pool 0 ≤ 1000
+    expected-most = B.member-ok c in-order m .expected-most
+
+    pub allocated-most : (pool : ℕ) → getD (memberAt (c .members) m .allocated) pool 0 ≤ getD (memberAt (c .members) m .expected) pool 0
+    allocated-most = B.member-ok c in-order m .allocated-most
+
+    pub paid-most : memberAt (c .members) m .paid ≤ memberAt (c .members) m .called
+    paid-most = B.member-ok c in-order m .paid-most
+
+    pub called-most : memberAt (c .members) m .called ≤ memberAt (c .members) m .contribution
+    called-most = B.member-ok c in-order m .called-most
+
+    pub contribution-most : memberAt (c .members) m .contribution ≤ 500_000_000
+    contribution-most = B.member-ok c in-order m .contribution-most
+
+    -- who is not in the set, or not given, has nothing
+    pub outside-nothing : inSet (c .head) m ≡ false → memberAt (c .members) m ≡ noMember
+    outside-nothing = B.outside-nothing c in-order m
+
+    pub not-given-nothing : memberAt (c .members) m .given ≡ false → memberAt (c .members) m ≡ noMember
+    not-given-nothing = B.member-ok c in-order m .absent
+
+    pub won-by-member-small : (pool : ℕ) → wonByMember (c .bids) m pool ≤ 1000
+    won-by-member-small = B.won-by-member-small c in-order m
+
+    -- of bytes, no member is above 31
+    pub member-below : Y.Bytes calls → inSet (c .head) m ≡ true → m < 32
+    member-below bytes = B.in-set-below c in-order (Y.set-fits calls bytes c here) m
+
+    -- the standing by which members rank
+    pub D-small : standing c m .D ≤ 8_000_000_000
+    D-small = B.D-small c in-order m
+
+    pub W-small : standing c m .W ≤ 4000
+    W-small = B.W-small c in-order m
+
+    pub expected-small : standing c m .expected ≤ 4000
+    expected-small = B.expected-small c in-order m
+
+  -- bids
+  module _ (b : ℕ) (l : b < length (c .bids)) where
+    pub bid-won-most : getD (c .bids) b noBid .won ≤ getD (c .bids) b noBid .units
+    bid-won-most = B.bid-ok c in-order b l .won
+
+    pub bid-units-most : getD (c .bids) b noBid .units ≤ 1000
+    bid-units-most = B.bid-ok c in-order b l .most
+
+    pub bid-price-ok : getD (c .bids) b noBid .price ≤ priceLimit
+    bid-price-ok = B.bid-ok c in-order b l .price
+
+    pub bid-member-in-set : inSet (c .head) (getD (c .bids) b noBid .member) ≡ true
+    bid-member-in-set = B.bid-ok c in-order b l .member
+
+  -- a bid that won has a price at or above its pool's worst reserve, so that D is exact
+  pub won-above-reserve : (b : ℕ) → 0 < getD (c .bids) b noBid .won → worstReserve (c .rounds) (getD (c .bids) b noBid .pool) ≤ getD (c .bids) b noBid .price
+  won-above-reserve = B.won-above-reserve c in-order
+
+  -- the units won in a pool and those open are at most its units, and a bid has at most as many entries as it won
+  pub won-in-pool : (pool : ℕ) → sum (map (λ b. b .won) (keep (λ b. eqb (b .pool) pool) (c .bids))) + openUnits (c .roll) pool ≤ getD (c .pools) pool noPool .units
+  won-in-pool = B.won-le-units c in-order
+
+  pub sold-at-most-won : (b : ℕ) → count (soldTo b) (c .roll) ≤ getD (c .bids) b noBid .won
+  sold-at-most-won = in-order .won .sold
+
+  -- entries: a sold one names a bid of its pool, an allocated or moved one a member of the set; every price is in range
+  module _ (i : ℕ) (d : Entry) (l : i < length (c .roll)) where
+    pub sold-names-bid : (b : ℕ) → getD (c .roll) i d .state ≡ Sold b → (b < length (c .bids)) × (getD (c .bids) b noBid .pool ≡ getD (c .roll) i d .pool)
+    sold-names-bid b e = rw e at (B.entry-ok c in-order i d l)
+
+    pub allocated-names-member : (m price : ℕ) → getD (c .roll) i d .state ≡ Allocated m price → inSet (c .head) m ≡ true
+    allocated-names-member m price e = (rw e at (B.entry-ok c in-order i d l)) .0
+
+    pub moved-names-member : (m : ℕ) → getD (c .roll) i d .state ≡ Moved m → inSet (c .head) m ≡ true
+    moved-names-member m e = rw e at (B.entry-ok c in-order i d l)
+
+    pub entry-pool-given : getD (c .roll) i d .pool < length (c .pools)
+    entry-pool-given = each-at _ (c .roll) i d l (B.entry-pools c in-order)
+
+    pub entry-price-ok : priceOf (c .bids) (getD (c .roll) i d .state) ≤ priceLimit
+    entry-price-ok = each-at _ (c .roll) i d l (B.prices-ok c in-order)
+
+  pub reserve-ok : (round pool : ℕ) → reserve (c .rounds) round pool ≤ priceLimit
+  reserve-ok = B.reserve-ok c in-order
+
+  -- CLOSE: a pool's open units fall by what its bids of this round are given
+  pub close-gives : letter (c .stage) ≡ 2 → (pool : ℕ)
+      → openUnits (afterClose c .roll) pool + sum (map (λ b. b .won) (keep (inAuction (roundOf (c .stage)) pool) (afterClose c .bids))) ≡ openUnits (c .roll) pool
+  unfolding afterClose bidsAfter
+  close-gives bidding = K.close-gives c in-order bidding
+
+  -- the largest sums of money
+  pub requirement-small : requirement c ≤ 8_000_000_000
+  requirement-small = B.requirement-small c in-order
+
+  pub contributions-small : contributions c ≤ 16_000_000_000
+  contributions-small = B.contributions-small c in-order
+
+  pub prefunded-small : prefunded c ≤ 24_500_000_000
+  prefunded-small = B.prefunded-small c in-order
+
+  pub payments-small : payments c ≤ 16_000_000_000
+  payments-small = B.payments-small c in-order
+
+-- ---- what is split among the members, of any case
+
+module _ (c : Case) where
+  -- ALLOCATE gives out the smaller of open units and total shortfall, and no member more than it is short of; the pool's open units fall by as many
+  pub allocation-sum : (pool : ℕ) → sum (map (λ m. getD (allocation c pool) m 0) (memberList (c .head))) ≡ min (openUnits (c .roll) pool) (totalShortfall c pool)
+  allocation-sum = H.allocation-sum c
+
+  pub allocation-le : (pool m : ℕ) → getD (allocation c pool) m 0 ≤ shortfall c pool m
+  allocation-le = H.allocation-le c
+
+  pub allocate-gives : (pool price : ℕ)
+      → openUnits (afterAllocate c pool price .roll) pool + min (openUnits (c .roll) pool) (totalShortfall c pool) ≡ openUnits (c .roll) pool
+  allocate-gives = H.allocate-gives c
+
+  -- CALL calls the smaller of what is missing and all contributions, and no member for more than its contribution
+  pub calls-sum : sum (map (λ m. getD (calls c) m 0) (memberList (c .head))) ≡ min (requirement c - prefunded c) (contributions c)
+  calls-sum = H.calls-sum c
+
+  pub call-le : (m : ℕ) → getD (calls c) m 0 ≤ memberAt (c .members) m .contribution
+  call-le = H.call-le c
+
+-- ---- the result: of any case, and so of the one that an accepted FINISH leaves
+
+-- what is shown after an accepted FINISH
+pub finish-shows : (s : State) (bytes : List ℕ) → decode bytes ≡ some FINISH → step s bytes .answer ≡ 0
+    → observed 0 (step s bytes .state) .result ≡ some (resultOf (withStage (theCase s) Finished))
+unfolding observed accepted letterOf letter
+finish-shows s bytes is e = rw (A.call-accepted s bytes FINISH is (sym (A.call-answer s bytes FINISH is) ∙ e))
+
+module _ (c : Case) where
+  abbrev r : Result
+  r = resultOf c
+
+  -- the six charges and the uncovered rest add up to the loss
+  pub charges-add-up : sum (r .charges) + r .uncovered ≡ r .loss
+  unfolding resultOf
+  charges-add-up = F.layers-add-up c
+
+  -- the loss is the requirement read off the roll: "hedge loss + other loss − the prices of all units not open, at least 0", in signed cents
+  pub loss-is-requirement : r .loss ≡ requirement c
+  unfolding resultOf
+  loss-is-requirement = refl
+
+  pub requirement-in-cents : requirement c ≡ atLeast0 (pos (c .head .hedgeLoss + c .head .otherLoss) -ℤ sumOfPrices c)
+  requirement-in-cents = F.requirement-in-cents c
+
+  -- the members' charges on contributions add up to layer four (3, counted from 0), those on payments to layer six
+  pub on-contribution-sum : sum (map (λ x. x .onContribution) (r .members)) ≡ getD (r .charges) 3 0
+  unfolding resultOf charge
+  on-contribution-sum = ap sum (map-map (λ (x : MemberResult). x .onContribution) _ (memberList (c .head))) ∙ F.on-contribution-sum c
+
+  pub on-payments-sum : sum (map (λ x. x .onPayments) (r .members)) ≡ getD (r .charges) 5 0
+  unfolding resultOf charge
+  on-payments-sum = ap sum (map-map (λ (x : MemberResult). x .onPayments) _ (memberList (c .head))) ∙ F.on-payments-sum c
+
+  -- no layer is charged above its limit; none while an earlier one has money left; nothing is uncovered unless all six are spent
+  pub layer-within : (layer : ℕ) → getD (r .charges) layer 0 ≤ getD (limits c) layer 0
+  unfolding resultOf charge
+  layer-within = F.layer-within c
+
+  pub layers-in-turn : (earlier later : ℕ) → earlier < later → 0 < getD (r .charges) later 0 → spent c earlier ≡ true
+  unfolding resultOf charge
+  layers-in-turn = F.layers-in-turn c
+
+  pub uncovered-last : 0 < r .uncovered → (layer : ℕ) → spent c layer ≡ true
+  unfolding resultOf
+  uncovered-last = F.uncovered-last c
+
+  -- what is prefunded covers a requirement up to it, so that FINISH in stage A leaves nothing uncovered
+  pub prefunded-covers : requirement c ≤ prefunded c → r .uncovered ≡ 0
+  unfolding resultOf
+  prefunded-covers = F.prefunded-covers c
+
+  -- no member is charged above its contribution or its payments
+  pub on-contribution-le : (m : ℕ) → onContribution c m ≤ memberAt (c .members) m .contribution
+  on-contribution-le = F.on-contribution-le c
+
+  pub on-payments-le : (m : ℕ) → onPayments c m ≤ memberAt (c .members) m .paid
+  on-payments-le = F.on-payments-le c
+
+  -- a rank is 1 to 32
+  pub rank-ok : (m : ℕ) → m < 32 → inSet (c .head) m ≡ true → (1 ≤ rank c m) × (rank c m ≤ 32)
+  rank-ok = F.rank-ok c
+
+  -- "most junior rank first": a member is charged on its contribution only if every member of a rank junior to its own is charged all of its own
+  pub juniors-first : (senior junior : ℕ) → junior < 32 → inSet (c .head) junior ≡ true → rank c senior < rank c junior → 0 < onContribution c senior
+      → onContribution c junior ≡ memberAt (c .members) junior .contribution
+  juniors-first = F.juniors-first c

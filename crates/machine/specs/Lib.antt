@@ -1,0 +1,12 @@
+pub mod Wire
+pub mod Roll
+pub mod State
+pub mod Requirement
+pub mod Move
+pub mod Calls
+pub mod Refusals
+pub mod Machine
+pub mod Result
+pub mod Run
+pub mod Printed
+pub mod Computing

@@ -1,0 +1,2 @@
+// No code yet.
+pub fn nothing() {}

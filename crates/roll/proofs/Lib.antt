@@ -1,0 +1,11 @@
+pub mod Front
+pub mod Giving
+pub mod Moving
+pub mod Tallying
+pub mod Kept
+pub mod Views
+pub mod Sales
+pub mod Agree
+pub mod Turns
+pub mod ViewMove
+pub mod ViewCounts

@@ -1,0 +1,63 @@
+-- `roll::is_held_by` meets its contract: each state names its member or none. Assumes nothing.
+use borrow.Author.Needs.{needs}
+use Rattle.roll.specs.Entries.{heldIn}
+use Rattle.roll.proofs.is_held_by.Statement.{statement}
+use Rattle.roll.proofs.is_held_by.Tie as tie
+
+enum-told : tie.Need-enum-told
+enum-told c = search needs
+
+enum-known-s : tie.Need-enum-known-s
+enum-known-s c = search needs
+
+cast-result : tie.Need-cast-result
+cast-result c = search needs
+
+element-copy-out-result : tie.Need-element-copy-out-result
+element-copy-out-result c = search needs
+
+enum-known-s-2 : tie.Need-enum-known-s-2
+enum-known-s-2 c = search needs
+
+enum-known-s-3 : tie.Need-enum-known-s-3
+enum-known-s-3 c = search needs
+
+enum-told-2 : tie.Need-enum-told-2
+enum-told-2 c = search needs
+
+returns : tie.Need-returns
+unfolding heldIn
+returns c = search needs
+
+returns-2 : tie.Need-returns-2
+unfolding heldIn
+returns-2 c = simp (c .before .before .s .given .1)
+
+returns-3 : tie.Need-returns-3
+unfolding heldIn
+returns-3 c = simp (c .before .s2 .given .1)
+
+returns-4 : tie.Need-returns-4
+unfolding heldIn
+returns-4 c = simp (c .before .s3 .given .1)
+
+returns-5 : tie.Need-returns-5
+unfolding heldIn
+returns-5 c = search needs
+
+pub is-held-by-spec : {M : Type 1} → statement M
+is-held-by-spec =
+    tie.close
+    (tie.spec
+    enum-told
+    enum-known-s
+    cast-result
+    element-copy-out-result
+    enum-known-s-2
+    enum-known-s-3
+    enum-told-2
+    returns
+    returns-2
+    returns-3
+    returns-4
+    returns-5)

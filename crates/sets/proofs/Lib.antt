@@ -1,0 +1,5 @@
+pub mod Bits
+pub mod Members
+pub mod Writes
+pub mod Adding
+pub mod Gathering

@@ -1,0 +1,4 @@
+pub mod Split
+pub mod Limits
+pub mod Parts
+pub mod Computing

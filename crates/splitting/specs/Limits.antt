@@ -1,0 +1,42 @@
+-- The function `splitting::split`: its limits, what it answers, and what it leaves in the shares that are lent to it.
+use mathlib.Core.Bool.{Bool, _&&_, not}
+use mathlib.Core.List.{List, [], _∷_}
+use Prim.Native.Nat.{ℕ}
+use lib.Dec.{leb, eqb}
+use lib.ListN.{length}
+use Rattle.lists.specs.Lists.{if_then_else_, all}
+use Rattle.lists.specs.Tests.{firstOf}
+use Rattle.splitting.specs.Split.{split}
+
+-- the most places, the most that is split, and the largest weight: q × w then fits 64 bits
+abbrev pub placeLimit : ℕ
+placeLimit = 512
+
+abbrev pub amountLimit : ℕ
+amountLimit = 16_000_000_000
+
+abbrev pub weightLimit : ℕ
+weightLimit = 1_000_000_000
+
+abbrev pub weightOk : ℕ → Bool
+weightOk w = leb w weightLimit
+
+-- an answer, and what a lent run holds after it
+abbrev pub Answer : Type 0
+Answer = ℕ × List ℕ
+
+-- the answer a: where it is 0 the run holds what was asked for, and where it is not the run is untouched
+abbrev pub answered : ℕ → List ℕ → List ℕ → Answer
+answered a done before = (a, if eqb a 0 then done else before)
+
+-- why a split of q by the weights into n shares is declined: 1 where the runs differ in length or pass the limit of places, 5 where a number is out of range
+unfoldable pub refusal : ℕ → List ℕ → ℕ → ℕ
+refusal q ws n =
+    firstOf
+    ((1, not (eqb n (length ws) && leb n placeLimit))
+    ∷ (5, not (leb q amountLimit && all weightOk ws))
+    ∷ [])
+
+-- the split of q by the weights, written into the shares
+unfoldable pub splitInto : ℕ → List ℕ → List ℕ → Answer
+splitInto q ws shares = answered (refusal q ws (length shares)) (split q ws) shares

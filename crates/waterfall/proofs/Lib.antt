@@ -1,0 +1,9 @@
+pub mod Order
+pub mod Ranking
+pub mod Bounds
+pub mod Layers
+pub mod InTurn
+pub mod ByRank
+pub mod Steps
+pub mod Exact
+pub mod Examples

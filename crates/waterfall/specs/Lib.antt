@@ -1,0 +1,4 @@
+pub mod Seniority
+pub mod Charging
+pub mod Limits
+pub mod Computing

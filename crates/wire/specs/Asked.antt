@@ -1,0 +1,39 @@
+-- What a value of `Call` asks for: a call of document 01, or none where the bytes are no call.
+use mathlib.Core.List.{[], _∷_}
+use mathlib.Core.Option.{Option, none, some}
+use lib.ListN.{take}
+use Rattle.machine.specs.Wire as Wire
+use Rattle.wire.specs.declared.Head.{Head}
+use Rattle.wire.specs.declared.Call.{Call}
+use Rattle.wire.specs.declared.Call.the-variants.{Head as HeadCall, Pool, Member, Round, Bid, Close, Allocate, Tear, Call as CallCall, Pay, Move, Miss, Finish, Unknown}
+
+-- the numbers of HEAD
+abbrev pub headOf : Head → Wire.Head
+headOf h =
+    record {
+      pools = h .pools;
+      leastBid = h .least;
+      set = h .set;
+      hedgeLoss = h .hedge;
+      otherLoss = h .other;
+      margin = h .margin;
+      fund = h .fund;
+      house = h .house;
+    }
+
+-- the call that is asked for
+unfoldable pub asked : Call → Option Wire.Call
+asked (HeadCall h) = some (Wire.HEAD (headOf h))
+asked (Pool pool units mark) = some (Wire.POOL pool units mark)
+asked (Member m contribution a b c d) = some (Wire.MEMBER m contribution (a ∷ b ∷ c ∷ d ∷ []))
+asked (Round n a b c d) = some (Wire.ROUND (take n (a ∷ b ∷ c ∷ d ∷ [])))
+asked (Bid pool m units price) = some (Wire.BID pool m units price)
+asked Close = some Wire.CLOSE
+asked (Allocate pool price) = some (Wire.ALLOCATE pool price)
+asked (Tear pool price) = some (Wire.TEAR pool price)
+asked CallCall = some Wire.CALL
+asked (Pay m amount) = some (Wire.PAY m amount)
+asked (Move m) = some (Wire.MOVE m)
+asked (Miss m price) = some (Wire.MISS m price)
+asked Finish = some Wire.FINISH
+asked Unknown = none

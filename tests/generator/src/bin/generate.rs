@@ -1,0 +1,44 @@
+//! Writes the input of a seed to standard output, or its calls in words, or one long input for timing.
+
+use generator::{Profile, describe, fields, input, profile_of, timing};
+use std::io::{self, Write};
+use std::process::ExitCode;
+
+const USAGE: &str = "usage: generate SEED [PROFILE] [--text] | generate --timing FIELDS";
+
+fn main() -> ExitCode {
+    let arguments: Vec<String> = std::env::args().skip(1).collect();
+    let Some(output) = output_for(&arguments) else {
+        eprintln!("{USAGE}");
+        return ExitCode::FAILURE;
+    };
+    match io::stdout().write_all(&output) {
+        Ok(()) => ExitCode::SUCCESS,
+        Err(error) => {
+            eprintln!("generate: {error}");
+            ExitCode::FAILURE
+        }
+    }
+}
+
+/// None where the arguments make no sense.
+fn output_for(arguments: &[String]) -> Option<Vec<u8>> {
+    if let [option, fields] = arguments
+        && option == "--timing"
+    {
+        return Some(timing(fields.parse().ok()?));
+    }
+    let text = arguments.iter().any(|argument| argument == "--text");
+    let mut rest = arguments.iter().filter(|argument| *argument != "--text");
+    let seed = rest.next()?.parse().ok()?;
+    let profile = match rest.next() {
+        Some(name) => Profile::named(name)?,
+        None => profile_of(seed),
+    };
+    let bytes = input(seed, profile);
+    Some(if text { in_words(&bytes) } else { bytes })
+}
+
+fn in_words(bytes: &[u8]) -> Vec<u8> {
+    fields(bytes).iter().flat_map(|field| format!("{}\n", describe(field)).into_bytes()).collect()
+}

@@ -1,0 +1,212 @@
+//! What each profile asks for on top of the general draw of a plan.
+
+use crate::plan::{Demand, Plan, Target, draw_set};
+use crate::profile::Profile;
+use crate::rng::Rng;
+
+/// One of these for each pool.
+fn demand_among(rng: &mut Rng, demands: &[Demand]) -> [Demand; 4] {
+    std::array::from_fn(|_| rng.pick(demands))
+}
+
+impl Plan {
+    pub fn suit(&mut self, rng: &mut Rng, profile: Profile) {
+        match profile {
+            Profile::Mixed | Profile::Single => {}
+            Profile::Plain => self.noise = 0,
+            Profile::Rounds => self.suit_rounds(rng),
+            Profile::Ties => self.suit_ties(rng),
+            Profile::Allocations => self.suit_allocations(rng),
+            Profile::Moves => self.suit_moves(rng),
+            Profile::EmptyMoves => self.suit_empty_moves(rng),
+            Profile::Misses => self.suit_misses(rng),
+            Profile::Layers => self.suit_layers(rng),
+            Profile::Ranks => self.suit_ranks(rng),
+            Profile::Wide => self.suit_wide(rng),
+            Profile::Edges => self.suit_edges(rng),
+            Profile::ManyBids => self.suit_many_bids(rng),
+            Profile::Refusals => self.suit_refusals(rng),
+            Profile::Damage => self.noise = rng.pick(&[10, 30]),
+            Profile::Short => self.limit = rng.below(20) as usize,
+            Profile::Long => self.suit_long(rng),
+        }
+    }
+
+    fn suit_ties(&mut self, rng: &mut Rng) {
+        self.demand[0] = [Demand::Over; 4];
+        self.demand[1] = demand_among(rng, &[Demand::Over, Demand::FarOver]);
+        self.second_round = rng.chance(30);
+    }
+
+    fn suit_allocations(&mut self, rng: &mut Rng) {
+        self.marks = std::array::from_fn(|_| u8::from(rng.chance(10)));
+        self.demand[0] = demand_among(rng, &[Demand::Nothing, Demand::Part]);
+        self.allocate = 70;
+    }
+
+    fn suit_moves(&mut self, rng: &mut Rng) {
+        self.suit_calls(rng);
+        self.moves = 85;
+        self.miss = rng.pick(&[20, 50]);
+        self.marks = std::array::from_fn(|_| u8::from(rng.chance(15)));
+        self.demand[0] = demand_among(rng, &[Demand::Nothing, Demand::Part, Demand::Over]);
+        self.second_round = rng.chance(30);
+        self.contributions.iter_mut().for_each(|c| *c = (*c).max(rng.below(40) as u32));
+        if rng.chance(40) {
+            self.suit_placing(rng);
+        }
+    }
+
+    fn suit_empty_moves(&mut self, rng: &mut Rng) {
+        self.suit_calls(rng);
+        self.moves = 60;
+        self.reserves = std::array::from_fn(|_| std::array::from_fn(|_| rng.between(-5, 10) as i32));
+    }
+
+    fn suit_misses(&mut self, rng: &mut Rng) {
+        self.suit_calls(rng);
+        self.target = rng.pick(&[Target::Called, Target::Verge, Target::Prefunded, Target::Uncovered]);
+        self.miss = 60;
+        self.demand[0] = demand_among(rng, &[Demand::Nothing, Demand::Part, Demand::Over]);
+    }
+
+    fn suit_ranks(&mut self, rng: &mut Rng) {
+        self.noise = rng.pick(&[0, 3]);
+        self.bids = rng.between(4, 30) as usize;
+        self.demand = std::array::from_fn(|_| demand_among(rng, &[Demand::Exact, Demand::Over, Demand::Part]));
+    }
+
+    fn suit_wide(&mut self, rng: &mut Rng) {
+        self.noise = 3;
+        self.bids = rng.between(5, 60) as usize;
+    }
+
+    fn suit_many_bids(&mut self, rng: &mut Rng) {
+        self.bids = 100;
+        self.losing_bids = rng.between(150, 300) as usize;
+        self.second_round = rng.chance(80);
+        // Pool 0 keeps open units for the second round, the others are sold out.
+        self.demand[0] = [Demand::Part, Demand::Over, Demand::Over, Demand::Over];
+        (self.allocate, self.tear) = (5, 5);
+        if self.bid_units == 1000 {
+            (self.bids, self.losing_bids) = (256, 0);
+            self.prices.truncate(1);
+            self.reserves = [[self.prices[0]; 4]; 2];
+            self.demand = [[Demand::Past16Bits; 4]; 2];
+        }
+        self.noise = rng.pick(&[0, 3, 8]);
+        self.limit = 1000;
+    }
+
+    fn suit_refusals(&mut self, rng: &mut Rng) {
+        self.noise = rng.pick(&[40, 60]);
+        self.tail = rng.between(5, 30) as usize;
+    }
+
+    fn suit_long(&mut self, rng: &mut Rng) {
+        self.noise = rng.pick(&[80, 97]);
+        self.limit = rng.between(1500, 4000) as usize;
+        self.tail = 4000;
+    }
+
+    fn suit_rounds(&mut self, rng: &mut Rng) {
+        self.second_round = true;
+        self.demand[0] = demand_among(rng, &[Demand::Exact, Demand::Over, Demand::Part, Demand::Nothing]);
+        if rng.chance(25) {
+            self.demand[1] = [Demand::Nothing; 4];
+        }
+        self.allocate = rng.pick(&[5, 15]);
+        self.tear = rng.pick(&[10, 30]);
+    }
+
+    fn suit_calls(&mut self, rng: &mut Rng) {
+        self.target = if rng.chance(75) { Target::Called } else { Target::Uncovered };
+        self.allocate = rng.pick(&[40, 80]);
+        self.tear = rng.pick(&[3, 10]);
+        self.noise = rng.pick(&[0, 4, 10]);
+    }
+
+    /// Several pools with units placed at different prices.
+    fn suit_placing(&mut self, rng: &mut Rng) {
+        self.head.pools = rng.pick(&[2, 3, 4]);
+        self.marks = [0; 4];
+        self.demand = [[Demand::Nothing; 4]; 2];
+        self.expected = std::array::from_fn(|_| std::array::from_fn(|_| rng.between(0, 6) as u16));
+        self.allocate = 95;
+    }
+
+    fn suit_layers(&mut self, rng: &mut Rng) {
+        self.target = rng.pick(&[
+            Target::Prefunded,
+            Target::Prefunded,
+            Target::Verge,
+            Target::Called,
+            Target::Uncovered,
+            Target::Zero,
+        ]);
+        self.noise = rng.pick(&[0, 4]);
+        if rng.chance(15) {
+            self.contributions = [0; 32];
+        }
+        if rng.chance(20) {
+            self.head.house = rng.below(7) as u32;
+        }
+    }
+
+    /// Ends of ranges for every number of the case.
+    fn suit_edges(&mut self, rng: &mut Rng) {
+        let h = &mut self.head;
+        h.hedge_loss = rng.pick(&[0, 2_000_000_000]);
+        h.other_loss = rng.pick(&[0, 2_000_000_000]);
+        h.margin = rng.pick(&[0, 0, 4_000_000_000]);
+        h.fund = rng.pick(&[0, 500_000_000]);
+        h.house = rng.pick(&[0, 0, 1, 4_000_000_000]);
+        h.least_bid = rng.pick(&[1, 1, 1, 1000]);
+        let contributions = rng.pick(&[&[0, 500_000_000], &[0, 1], &[1, 500_000_000]]);
+        self.contributions = std::array::from_fn(|_| rng.pick(contributions));
+        self.expected = std::array::from_fn(|_| std::array::from_fn(|_| rng.pick(&[0, 0, 1, 999, 1000])));
+        self.bid_units = 1000;
+        if rng.chance(40) {
+            self.target = Target::Free;
+        }
+        match rng.below(4) {
+            0 => self.suit_largest_loss(rng),
+            1 => self.suit_largest_premium(rng),
+            _ => {}
+        }
+    }
+
+    /// The largest loss, borne by equal ranks with the largest contributions.
+    fn suit_largest_loss(&mut self, rng: &mut Rng) {
+        let members = rng.pick(&[7, 9, 16, 31, 32]);
+        self.suit_largest_pools(rng);
+        let h = &mut self.head;
+        (h.hedge_loss, h.other_loss) = (2_000_000_000, 2_000_000_000);
+        (h.margin, h.fund, h.house) = (0, rng.pick(&[0, 500_000_000]), rng.pick(&[0, 4_000_000_000]));
+        h.set = draw_set(rng, members);
+        self.contributions = std::array::from_fn(|_| rng.pick(&[500_000_000, 499_999_999]));
+        self.expected = [[0; 4]; 32];
+        self.prices = vec![-1_000_000];
+        self.demand = [[Demand::Nothing; 4]; 2];
+        self.target = Target::Free;
+    }
+
+    /// Few members win thousands of units at the highest price above the lowest reserve.
+    fn suit_largest_premium(&mut self, rng: &mut Rng) {
+        let members = rng.pick(&[1, 2, 2, 2, 3]);
+        self.suit_largest_pools(rng);
+        self.head.set = draw_set(rng, members);
+        self.head.least_bid = rng.pick(&[1, 100, 1000]);
+        self.expected = std::array::from_fn(|_| rng.pick(&[[0; 4], [0; 4], [1; 4], [999; 4], [1000; 4]]));
+        self.prices = vec![1_000_000, 999_999];
+        self.reserves = [[-1_000_000; 4]; 2];
+        self.demand = [[Demand::Over; 4]; 2];
+        self.noise = 0;
+    }
+
+    fn suit_largest_pools(&mut self, rng: &mut Rng) {
+        self.head.pools = rng.pick(&[3, 4, 4]);
+        self.units = [1000; 4];
+        self.marks = [rng.pick(&[0, 1]); 4];
+    }
+}

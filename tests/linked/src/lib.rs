@@ -1,0 +1,75 @@
+//! The proved functions of splitting and the auction, as safe Rust, and random numbers for the tests.
+pub use model::BidRecord;
+
+mod c {
+    use model::BidRecord;
+
+    #[link(name = "splitting", kind = "static")]
+    unsafe extern "C" {
+        pub fn split(q: u64, weights: *const u64, n: usize, shares: *mut u64, m: usize) -> u8;
+    }
+
+    #[link(name = "auction", kind = "static")]
+    unsafe extern "C" {
+        pub fn alone(
+            open_units: u64,
+            reserve: u32,
+            units: *const u64,
+            n: usize,
+            prices: *const u32,
+            p: usize,
+            counts: *mut u64,
+            c: usize,
+        ) -> u8;
+        pub fn alone_lent(bids: *const BidRecord, n: usize, open_units: u16, reserve: i32, counts: *mut u64, c: usize) -> u8;
+    }
+}
+
+/// `splitting::split`.
+pub fn split(q: u64, weights: &[u64], shares: &mut [u64]) -> u8 {
+    unsafe { c::split(q, weights.as_ptr(), weights.len(), shares.as_mut_ptr(), shares.len()) }
+}
+
+/// `auction::alone`.
+pub fn alone(open_units: u64, reserve: u32, units: &[u64], prices: &[u32], counts: &mut [u64]) -> u8 {
+    unsafe {
+        c::alone(
+            open_units,
+            reserve,
+            units.as_ptr(),
+            units.len(),
+            prices.as_ptr(),
+            prices.len(),
+            counts.as_mut_ptr(),
+            counts.len(),
+        )
+    }
+}
+
+/// `auction::alone_lent`.
+pub fn alone_lent(bids: &[BidRecord], open_units: u16, reserve: i32, counts: &mut [u64]) -> u8 {
+    unsafe { c::alone_lent(bids.as_ptr(), bids.len(), open_units, reserve, counts.as_mut_ptr(), counts.len()) }
+}
+
+/// Random numbers from a seed (splitmix64).
+pub struct Random(pub u64);
+
+impl Random {
+    pub fn next(&mut self) -> u64 {
+        self.0 = self.0.wrapping_add(0x9e37_79b9_7f4a_7c15);
+        let mut z = self.0;
+        z = (z ^ (z >> 30)).wrapping_mul(0xbf58_476d_1ce4_e5b9);
+        z = (z ^ (z >> 27)).wrapping_mul(0x94d0_49bb_1331_11eb);
+        z ^ (z >> 31)
+    }
+
+    /// A number below n.
+    pub fn below(&mut self, n: u64) -> u64 {
+        self.next() % n
+    }
+
+    /// True once in n times.
+    pub fn once_in(&mut self, n: u64) -> bool {
+        self.below(n) == 0
+    }
+}

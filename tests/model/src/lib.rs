@@ -1,0 +1,17 @@
+//! A model of document 01, written from the paper alone: splitting, the auction, the ledger twice, and the program's text.
+
+pub mod auction;
+pub mod counts;
+pub mod field;
+pub mod ledger;
+pub mod roll;
+pub mod split;
+pub mod text;
+pub mod write;
+
+pub use auction::{BidRecord, allot, allot_flat, alone_flat, alone_lent};
+pub use counts::Counts;
+pub use ledger::{Ledger, MemberOutcome, Outcome, Stage};
+pub use roll::Roll;
+pub use split::{split, split_alone};
+pub use text::{print, stream};

@@ -1,0 +1,85 @@
+#!/usr/bin/env python3
+"""Tries the generator's sharpness: builds the counts model with one mistake at a time and lets `compare` look for it.
+
+usage: mutants/run.py [--inputs N] [--seed S] [WORD ...]     only the mistakes whose name holds a WORD
+Run from the tests folder, after `cargo build --release --offline`.
+"""
+
+import re
+import shutil
+import subprocess
+import sys
+import tempfile
+from pathlib import Path
+
+from mistakes import IN_HOLDINGS, IN_TEXT
+
+TESTS = Path(__file__).resolve().parent.parent
+COMPARE = TESTS / "target/release/compare"
+
+
+def edited(text, edits):
+    for old, new in zip(edits[::2], edits[1::2]):
+        if text.count(old) != 1:
+            raise SystemExit(f"found {text.count(old)} times, not once: {old!r}")
+        text = text.replace(old, new)
+    return text
+
+
+def build(copy, package):
+    command = ["cargo", "build", "--offline", "--quiet", "-p", package]
+    done = subprocess.run(command, cwd=copy, capture_output=True, text=True)
+    if done.returncode != 0:
+        raise SystemExit(done.stderr)
+
+
+def look(command, inputs, seed):
+    done = subprocess.run([*command, "--inputs", inputs, "--seed", seed], capture_output=True, text=True)
+    found = re.search(r"DIFFERENCE at seed (\d+), profile (\w+)", done.stdout)
+    shrunk = re.search(r"shrunk to, (\d+) in all", done.stdout)
+    if done.returncode not in (0, 1) or (done.returncode == 1) != bool(found):
+        raise SystemExit(done.stdout[-3000:] + done.stderr[-3000:])
+    if not found:
+        return None
+    length = shrunk.group(1) if shrunk else "?"
+    return f"found at list {int(found.group(1)) - int(seed) + 1} ({found.group(2)}), shrunk to {length} calls"
+
+
+def main():
+    arguments = sys.argv[1:]
+    options = {"--inputs": "2000", "--seed": "1"}
+    words = []
+    while arguments:
+        first = arguments.pop(0)
+        if first in options:
+            options[first] = arguments.pop(0)
+        else:
+            words.append(first)
+    missed = []
+    count = 0
+    with tempfile.TemporaryDirectory() as folder:
+        copy = Path(folder) / "tests"
+        shutil.copytree(TESTS, copy, ignore=shutil.ignore_patterns("target"))
+        for name, file, *edits in IN_TEXT + IN_HOLDINGS:
+            if words and not any(word in name for word in words):
+                continue
+            original = (TESTS / file).read_text()
+            (copy / file).write_text(edited(original, edits))
+            if (name, file, *edits) in IN_TEXT:
+                build(copy, "model")
+                command = [COMPARE, "--program", copy / "target/debug/ledger-model", "--model", "roll"]
+            else:
+                build(copy, "compare")
+                command = [copy / "target/debug/compare", "--self"]
+            result = look(command, options["--inputs"], options["--seed"])
+            print(f"{name}: {result or 'NOT FOUND'}", flush=True)
+            count += 1
+            if result is None:
+                missed.append(name)
+            (copy / file).write_text(original)
+    print(f"{count - len(missed)} of {count} mistakes found in {options['--inputs']} lists each")
+    sys.exit(1 if missed else 0)
+
+
+if __name__ == "__main__":
+    main()
