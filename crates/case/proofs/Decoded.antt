@@ -96,11 +96,11 @@ call-read tag v h right =
     (either Read (eqb tag 11) tt
     (either Read (eqb tag 12) tt tt)))))))))))
 
-abbrev AllRead : Option Call → Type 0
+abbrev pub AllRead : Option Call → Type 0
 AllRead none = Unit {0}
 AllRead (some call) = Read call
 
-decoded-read : (bytes : List ℕ) → Bytes bytes → AllRead (decode bytes)
+pub decoded-read : (bytes : List ℕ) → Bytes bytes → AllRead (decode bytes)
 unfolding decode
 decoded-read [] h = tt
 decoded-read (tag ∷ []) h = tt

@@ -1,3 +1,4 @@
 pub mod Assumed
 pub mod Decoded
 pub mod Observations
+pub mod Claim
