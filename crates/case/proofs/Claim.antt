@@ -117,6 +117,13 @@ pub record Takes (h : Held) (s : M.State) (bytes : List ℕ) : Type 0 where
   pub answer : applied h bytes .answer ≡ step s bytes .answer
   pub tied : Tied (applied h bytes .held) (step s bytes .state)
 
+-- bytes that are a call
+pub takes-call : (h : Held) (s : M.State) → Tied h s → (bytes : List ℕ) (call : Call) → decode bytes ≡ some call → Read call → Takes h s bytes
+unfolding applied step
+takes-call h s t bytes call is r =
+    let now = taken h s t (decode bytes) (rw is r) in
+    record { answer = now .answer; tied = now .tied }
+
 pub takes : (h : Held) (s : M.State) → Tied h s → (bytes : List ℕ) → Bytes bytes → Takes h s bytes
 unfolding applied step
 takes h s t bytes b =
