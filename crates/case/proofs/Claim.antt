@@ -2,10 +2,9 @@
 -- it after each call are those of the roll's machine. Assumes nothing.
 use mathlib.Core.Path.{_≡_, refl, sym, ap, subst, _∙_}
 use mathlib.Core.Bool.{Bool, true, false}
-use mathlib.Core.List.{List, [], _∷_, map}
+use mathlib.Core.List.{List, [], _∷_, _++_, map}
 use mathlib.Core.Option.{Option, none, some}
 use Prim.Native.Nat.{ℕ, zero, suc, _+_, _*_}
-use native.Mathlib.Omega.{arith}
 use lib.Dec.{eqb}
 use lib.ListN.{length, take, drop}
 use borrow.Author.Tests.{eqb-true, not-false}
@@ -27,13 +26,14 @@ use Rattle.machine.proofs.Reached.{next-ok, first-call}
 use Rattle.book.proofs.Sound.{Sound}
 use Rattle.case.specs.declared.Case.{Case}
 use Rattle.case.specs.declared.Held.{Held}
+use Rattle.case.specs.declared.Ran.{Ran}
 use Rattle.case.specs.View.{view}
 use Rattle.case.specs.Cases.{caseAfter, bookAnswerTo, firstAnswerTo, answerTo, afterAsked, takeAsked, applied, noHeld}
 use Rattle.case.specs.Readings.{seen}
 use Rattle.case.specs.Claim.{Bytes, Agrees, ledgerFrom}
-use Rattle.case.specs.Input.{ledgerAfter, ledgerAnswers}
-use Rattle.case.proofs.Assumed.{Shown, next-shown, head-shown}
-use Rattle.case.proofs.Decoded.{Read, AllRead, read-fits, decoded-read, answer-shown, first-shown}
+use Rattle.case.specs.Input.{Runs, ledgerAfter, ledgerAnswers}
+use Rattle.case.proofs.Assumed.{next-shown, head-shown}
+use Rattle.case.proofs.Decoded.{Read, AllRead, drop-bytes, read-fits, decoded-read, answer-shown, first-shown}
 use Rattle.case.proofs.Observations.{case-observed, none-observed}
 
 -- ---- what is held, and the machine's state
@@ -85,13 +85,13 @@ new-tied h none t call r p =
 new-tied h (some c) t call r p =
     with-case h (λ s. Passed (tests s (M.theCase s) call) → Holds (record { present = true; case = caseAfter (h .case) call }) (accepted (M.theCase s) call))
     (λ x u q.
-      let shown = next-shown (h .case) (u .sound) (u .ok) call (read-fits call r) q in
-      record {
-        present = refl;
-        shows = shown .viewed;
-        sound = shown .sound;
-        ok = subst CaseOk (sym (shown .viewed)) (next-ok (view (h .case)) (u .ok) call (read-fits call r) q);
-      })
+    let shown = next-shown (h .case) (u .sound) (u .ok) call (read-fits call r) q in
+    record {
+      present = refl;
+      shows = shown .viewed;
+      sound = shown .sound;
+      ok = subst CaseOk (sym (shown .viewed)) (next-ok (view (h .case)) (u .ok) call (read-fits call r) q);
+    })
     c t p
 
 pub record Taken (h : Held) (s : M.State) (asked : Option Call) : Type 0 where
@@ -145,7 +145,7 @@ agrees-from h s t [] b = refl
 agrees-from h s t (call ∷ calls) b =
     let now = takes h s t call (b .0) in
     let here : seen (applied h call .answer) (applied h call .held) ≡ observed (step s call .answer) (step s call .state)
-        = rw (now .answer) (seen-observed (step s call .answer) (applied h call .held) (step s call .state) (now .tied)) in
+    = rw (now .answer) (seen-observed (step s call .answer) (applied h call .held) (step s call .state) (now .tied)) in
     let rest = agrees-from (applied h call .held) (step s call .state) (now .tied) calls (b .1) in
     λ i. here i ∷ rest i
 
@@ -193,11 +193,6 @@ take-bytes zero xs b = tt
 take-bytes (suc n) [] b = tt
 take-bytes (suc n) (x ∷ xs) b = (b .0, take-bytes n xs (b .1))
 
-drop-bytes : (n : ℕ) (xs : List ℕ) → Bytes xs → Bytes (drop n xs)
-drop-bytes zero xs b = b
-drop-bytes (suc n) [] b = tt
-drop-bytes (suc n) (x ∷ xs) b = drop-bytes n xs (b .1)
-
 pub fields-bytes : (k : ℕ) (input : List ℕ) → Bytes input → Each Bytes (fieldsIn k input)
 unfolding fieldsIn
 fields-bytes zero input b = tt
@@ -207,3 +202,19 @@ fields-bytes (suc k) (tag ∷ high ∷ []) b = (b, tt)
 fields-bytes (suc k) (tag ∷ high ∷ low ∷ rest) b =
     let n = high * 256 + low in
     ((b .0, (b .1 .0, (b .1 .1 .0, take-bytes n rest (b .1 .1 .1)))), fields-bytes k (drop n rest) (drop-bytes n rest (b .1 .1 .1)))
+
+-- ---- the contract of `run`
+
+-- from as many answers of the program as there are fields, and what it then holds
+pub runs : (input old new : List ℕ) (r : Ran) → Bytes input → r .count ≡ length (fieldsIn (length old) input)
+    → new ≡ ledgerAnswers noHeld (fieldsIn (length old) input) ++ drop (r .count) old
+    → r .held ≡ ledgerAfter noHeld (fieldsIn (length old) input)
+    → Runs input old new r
+runs input old new r bytes many written held =
+    let fields = fieldsIn (length old) input in
+    let each = fields-bytes (length old) input bytes in
+    record {
+      count = many;
+      answers = written ∙ ap (λ (l : List ℕ). l ++ drop (r .count) old) (ledger-answers fields each);
+      shows = λ n. ap (seen n) held ∙ ledger-shows fields each n;
+    }

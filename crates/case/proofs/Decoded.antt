@@ -1,6 +1,6 @@
 -- What the bytes of a call say of it, and that the program answers every such call as the machine does. Assumes nothing.
 use mathlib.Core.Path.{_≡_, refl, sym, ap, _∙_}
-use mathlib.Core.Bool.{Bool, true, false, _&&_}
+use mathlib.Core.Bool.{true, false, _&&_}
 use mathlib.Core.List.{List, [], _∷_}
 use mathlib.Core.Option.{Option, none, some}
 use Prim.Native.Nat.{ℕ, zero, suc, _+_, _*_, _/_, _%_, _^_, _≤_, _<_}
@@ -8,10 +8,9 @@ use native.Mathlib.Omega.{arith}
 use lib.Dec.{leb, eqb}
 use lib.ListN.{length, take, drop, getD}
 use borrow.Author.Tests.{leb-true}
-use Rattle.lists.specs.Lists.{if_then_else_, between, tab}
+use Rattle.lists.specs.Lists.{between, tab}
 use Rattle.lists.specs.Tests.{firstOf}
 use Rattle.lists.proofs.Bools.{either, by-test, and-left, and-right}
-use Rattle.lists.proofs.Each.{Each}
 use Rattle.lists.proofs.Places.{length-tab, tab-self}
 use Rattle.machine.specs.Wire.{Head, Call, HEAD, POOL, MEMBER, ROUND, BID, CLOSE, ALLOCATE, TEAR, CALL, PAY, MOVE, MISS, FINISH, bigEndian, number, price, rightLength, callOf, decode}
 use Rattle.machine.specs.State as M
@@ -59,10 +58,11 @@ read-fits (MOVE m) r = tt
 read-fits (MISS m price) r = tt
 read-fits FINISH r = tt
 
-each-drop : (n : ℕ) (xs : List ℕ) → Bytes xs → Bytes (drop n xs)
-each-drop zero xs h = h
-each-drop (suc n) [] h = tt
-each-drop (suc n) (x ∷ xs) h = each-drop n xs (h .1)
+-- what is left behind some bytes
+pub drop-bytes : (n : ℕ) (xs : List ℕ) → Bytes xs → Bytes (drop n xs)
+drop-bytes zero xs h = h
+drop-bytes (suc n) [] h = tt
+drop-bytes (suc n) (x ∷ xs) h = drop-bytes n xs (h .1)
 
 four-bytes : (s : List ℕ) → Bytes s → bigEndian 0 (take 4 s) < 2 ^ 32
 unfolding bigEndian
@@ -83,7 +83,7 @@ round-few tag v right four =
 call-read : (tag : ℕ) (v : List ℕ) → Bytes v → rightLength tag (length v) ≡ true → Read (callOf tag v)
 unfolding callOf number
 call-read tag v h right =
-    either Read (eqb tag 1) (four-bytes (drop 3 v) (each-drop 3 v h))
+    either Read (eqb tag 1) (four-bytes (drop 3 v) (drop-bytes 3 v h))
     (either Read (eqb tag 2) tt
     (either Read (eqb tag 3) (length-tab 4 (λ p. number (5 + 2 * p) 2 v))
     (by-test Read (eqb tag 4) (λ four. omega (arith, round-few tag v right four, length-tab (length v / 4) (λ p. price (4 * p) v))) (λ other.

@@ -1,12 +1,11 @@
 -- What is read of the ledger is what the machine shows: the counts, the holdings, the sum of prices and the result. Assumes nothing.
-use mathlib.Core.Path.{_≡_, refl, sym, ap, subst, _∙_}
-use mathlib.Core.Bool.{Bool, true, false}
-use mathlib.Core.List.{List, [], _∷_, map}
-use mathlib.Core.Option.{Option, none, some}
+use mathlib.Core.Path.{_≡_, sym, ap, _∙_}
+use mathlib.Core.Bool.{true, false}
+use mathlib.Core.Option.{none, some}
 use Prim.Native.Nat.{ℕ, _<_}
 use native.Mathlib.Omega.{arith}
 use lib.Dec.{eqb}
-use lib.ListN.{length, getD}
+use lib.ListN.{length}
 use Rattle.lists.specs.Lists.{if_then_else_, count, keep, tab}
 use Rattle.lists.proofs.Each.{Each, each-more, map-ext}
 use Rattle.lists.proofs.Places.{tab-ext}
@@ -14,19 +13,15 @@ use Rattle.sets.specs.Set.{member, members}
 use Rattle.sets.proofs.Members.{members-each}
 use Rattle.auction.specs.Price.{sumCents}
 use Rattle.machine.specs.Roll as R
-use Rattle.machine.specs.Roll.{noBid}
 use Rattle.machine.specs.State as M
 use Rattle.machine.specs.Result.{rank, onContribution, onPayments}
-use Rattle.machine.specs.Run.{MemberResult, Result, Observed, fiveCounts, holding, sumOfPrices, resultOf, observed}
+use Rattle.machine.specs.Run.{MemberResult, fiveCounts, holding, sumOfPrices, resultOf, observed}
 use Rattle.machine.proofs.Invariant.{CaseOk, EntryOk}
-use Rattle.roll.specs.Rolls.{countOf, holdingOf}
-use Rattle.roll.specs.View.{viewRoll}
 use Rattle.roll.proofs.Agree.{SoldBelow, prices-agree, holders-agree}
 use Rattle.roll.proofs.ViewCounts.{view-counts, view-holding}
 use Rattle.accounts.specs.Bids.{viewBids}
 use Rattle.accounts.proofs.ViewPools as P
 use Rattle.accounts.proofs.ViewBids as B
-use Rattle.book.specs.Results.{resultIn}
 use Rattle.book.proofs.Sound.{Sound}
 use Rattle.case.specs.declared.Case.{Case}
 use Rattle.case.specs.declared.Held.{Held}
@@ -96,13 +91,13 @@ module _ (c : Case) (sound : Sound (c .book) (c .roll)) (ok : CaseOk (view c)) w
   pub case-observed : (n : ℕ) (h : Held) → h .present ≡ true → h .case ≡ c → seen n h ≡ observed n (some (view c))
   unfolding seen observed M.letterOf
   case-observed n h present is = rw (present, is) (λ i.
-    record {
-      answer = n;
-      counts = counts-shown i;
-      holdings = λ m pool price. holdings-shown m pool price i;
-      prices = prices-shown i;
-      result = if eqb (M.letter (view c .stage)) 5 then some (result-shown i) else none;
-    })
+      record {
+        answer = n;
+        counts = counts-shown i;
+        holdings = λ m pool price. holdings-shown m pool price i;
+        prices = prices-shown i;
+        result = if eqb (M.letter (view c .stage)) 5 then some (result-shown i) else none;
+      })
 
 -- where no case is held
 pub none-observed : (n : ℕ) (h : Held) → h .present ≡ false → seen n h ≡ observed n none

@@ -13,12 +13,11 @@ use lib.IntN.{pos, _-ℤ_}
 use lib.ListN.{getD}
 use Rattle.lists.specs.Lists.{sum}
 use Rattle.lists.proofs.Each.{Each}
-use Rattle.sets.specs.Set.{members}
+use Rattle.sets.specs.Set.{member, members}
 use Rattle.auction.proofs.Cents.{atLeast0}
 use Rattle.machine.specs.Wire.{FINISH, decode}
 use Rattle.machine.specs.Run.{Observed, run}
 use Rattle.book.specs.declared.Book.{Book}
-use Rattle.book.specs.declared.Result.{Result}
 use Rattle.book.specs.Results.{limitsIn, resultIn}
 use Rattle.case.specs.declared.Case.{Case}
 use Rattle.case.specs.declared.Held.{Held}
@@ -59,6 +58,13 @@ pub record Charges (c : Case) : Type 0 where
   -- what members are charged on their contributions adds up to layer four, and on their payments to layer six
   pub on-contributions : sum (map (λ m. getD (resultIn (c .book) .contributions) m 0) (members (c .book .head .set))) ≡ chargeIn (c .book) 3
   pub on-payments : sum (map (λ m. getD (resultIn (c .book) .payments) m 0) (members (c .book .head .set))) ≡ chargeIn (c .book) 5
+  -- no member is charged above its contribution or its payments
+  pub contribution-most : (m : ℕ) → member (c .book .head .set) m ≡ true → getD (resultIn (c .book) .contributions) m 0 ≤ getD (c .book .members .contribution) m 0
+  pub payment-most : (m : ℕ) → member (c .book .head .set) m ≡ true → getD (resultIn (c .book) .payments) m 0 ≤ getD (c .book .members .paid) m 0
+  -- "most junior rank first": a member is charged on its contribution only if all members of a rank junior to its own are charged all of theirs
+  pub juniors-first : (senior junior : ℕ) → member (c .book .head .set) senior ≡ true → member (c .book .head .set) junior ≡ true
+      → getD (resultIn (c .book) .ranks) senior 0 < getD (resultIn (c .book) .ranks) junior 0 → 0 < getD (resultIn (c .book) .contributions) senior 0
+      → getD (resultIn (c .book) .contributions) junior 0 ≡ getD (c .book .members .contribution) junior 0
   -- no layer is charged above its limit, none while an earlier one has money left, and nothing is uncovered unless all six are spent
   pub within : (layer : ℕ) → chargeIn (c .book) layer ≤ limitIn (c .book) layer
   pub in-turn : (earlier later : ℕ) → earlier < later → 0 < chargeIn (c .book) later → chargeIn (c .book) earlier ≡ limitIn (c .book) earlier
