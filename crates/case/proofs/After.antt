@@ -71,11 +71,11 @@ module _ (c : Case) (sound : Sound (c .book) (c .roll)) (ok : CaseOk (view c)) w
             sum-members-ext (b .head .set) _ (onContribution (view c)) (λ m l in-set. on-contribution-shown b r sound ok m in-set)
             ∙ F.on-contribution-sum (view c) ∙ sym (charge-shown 3);
         on-payments =
-            sum-members-ext (b .head .set) _ (onPayments (view c)) (λ m l in-set. on-payments-shown b r sound ok m in-set)
+            sum-members-ext (b .head .set) _ (onPayments (view c)) (λ m l in-set. on-payments-shown b r sound ok m)
             ∙ F.on-payments-sum (view c) ∙ sym (charge-shown 5);
         contribution-most = λ m in-set.
             rw (on-contribution-shown b r sound ok m in-set, sym (contribution-shown m in-set)) (F.on-contribution-le (view c) m);
-        payment-most = λ m in-set. rw (on-payments-shown b r sound ok m in-set, sym (paid-shown m in-set)) (F.on-payments-le (view c) m);
+        payment-most = λ m in-set. rw (on-payments-shown b r sound ok m, sym (paid-shown m in-set)) (F.on-payments-le (view c) m);
         juniors-first = λ senior junior s j ranked more.
             on-contribution-shown b r sound ok junior j
             ∙ F.juniors-first (view c) senior junior (below junior j) j

@@ -96,8 +96,8 @@ module _ (b : Book) (r : Roll) (sound : Sound b r) (ok : CaseOk (viewOf b r)) wh
   pub on-contribution-shown : (m : ℕ) → member (b .head .set) m ≡ true → getD (resultIn b .contributions) m 0 ≡ onContribution (viewOf b r) m
   on-contribution-shown m in-set = ?
 
-  pub on-payments-shown : (m : ℕ) → member (b .head .set) m ≡ true → getD (resultIn b .payments) m 0 ≡ onPayments (viewOf b r) m
-  on-payments-shown m in-set = ?
+  pub on-payments-shown : (m : ℕ) → getD (resultIn b .payments) m 0 ≡ onPayments (viewOf b r) m
+  on-payments-shown m = ?
 
 -- C
 pub record Shown (c : Case) (call : Wire.Call) : Type 0 where

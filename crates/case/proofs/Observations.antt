@@ -71,7 +71,7 @@ module _ (c : Case) (sound : Sound (c .book) (c .roll)) (ok : CaseOk (view c)) w
       rw (
         rank-shown (c .book) (c .roll) sound ok m in-set,
         on-contribution-shown (c .book) (c .roll) sound ok m in-set,
-        on-payments-shown (c .book) (c .roll) sound ok m in-set,
+        on-payments-shown (c .book) (c .roll) sound ok m,
       )
 
   pub result-shown : shownResult (c .book) ≡ resultOf (view c)
