@@ -101,7 +101,7 @@ module _ (b : Book) (r : Roll) (sound : Sound b r) (ok : CaseOk (viewOf b r)) wh
 
 -- C
 pub record Shown (c : Case) (call : Wire.Call) : Type 0 where
-  pub viewed : view (caseAfter c call) ≡ accepted (view c) call
+  pub view : view (caseAfter c call) ≡ accepted (view c) call
   pub sound : Sound (caseAfter c call .book) (caseAfter c call .roll)
 
 pub next-shown : (c : Case) → Sound (c .book) (c .roll) → CaseOk (view c) → (call : Wire.Call) → Fits call

@@ -88,9 +88,9 @@ new-tied h (some c) t call r p =
     let shown = next-shown (h .case) (u .sound) (u .ok) call (read-fits call r) q in
     record {
       present = refl;
-      shows = shown .viewed;
+      shows = shown .view;
       sound = shown .sound;
-      ok = subst CaseOk (sym (shown .viewed)) (next-ok (view (h .case)) (u .ok) call (read-fits call r) q);
+      ok = subst CaseOk (sym (shown .view)) (next-ok (view (h .case)) (u .ok) call (read-fits call r) q);
     })
     c t p
 
