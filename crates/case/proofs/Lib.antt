@@ -1,4 +1,4 @@
-pub mod Assumed
+pub mod Awaited
 pub mod Decoded
 pub mod Observations
 pub mod Claim
