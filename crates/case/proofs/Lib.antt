@@ -1,2 +1,4 @@
+pub mod Assumed
 pub mod Showing
 pub mod SetupSteps
+pub mod CallingSteps
