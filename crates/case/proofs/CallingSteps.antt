@@ -13,13 +13,12 @@ use Rattle.lists.proofs.Each.{each-more}
 use Rattle.lists.proofs.Passed.{Passed}
 use Rattle.splitting.proofs.Among.{shares-length}
 use Rattle.machine.specs.Wire as Wire
-use Rattle.machine.specs.Roll as R
 use Rattle.machine.specs.State as M
 use Rattle.machine.specs.Requirement.{requirement, prefunded, contributionOf, contributions, owes}
 use Rattle.machine.specs.Move.{moveAll}
 use Rattle.machine.specs.Calls.{calls, afterCall, afterPay, afterMove, afterMiss, accepted}
 use Rattle.machine.specs.Refusals.{tests, notInSet, paymentOk}
-use Rattle.machine.proofs.Invariant.{EntryOk, CaseOk}
+use Rattle.machine.proofs.Invariant.{CaseOk}
 use Rattle.machine.proofs.Bounds.{in-set-below, member-ok}
 use Rattle.roll.specs.View.{viewRoll}
 use Rattle.roll.specs.Rolls.{missOf}
@@ -27,7 +26,7 @@ use Rattle.roll.specs.Moves.{moveOf}
 use Rattle.roll.proofs.Kept.{kept-miss, kept-move, whole-kept}
 use Rattle.roll.proofs.Views.{view-miss}
 use Rattle.roll.proofs.ViewMove as U
-use Rattle.roll.proofs.Agree.{SoldBelow, prices-agree}
+use Rattle.roll.proofs.Agree.{prices-agree}
 use Rattle.accounts.specs.Members.{owesOf, withCalls, withPayment, withMove, memberOf, viewMembers}
 use Rattle.accounts.specs.Bids.{viewBids}
 use Rattle.accounts.proofs.ViewMembers as X
@@ -37,7 +36,7 @@ use Rattle.book.proofs.Sound.{Sound}
 use Rattle.case.specs.declared.Case.{Case}
 use Rattle.case.specs.Cases.{tallied, moveCase, missCase, caseAfter}
 use Rattle.case.specs.View.{view}
-use Rattle.case.proofs.Showing.{Shown, case-ext, tallied-sound}
+use Rattle.case.proofs.Showing.{Shown, case-ext, tallied-sound, sold-kept}
 use Rattle.case.proofs.Assumed.{calls-shown}
 
 module _ (c : Case) (s : Sound (c .book) (c .roll)) (ok : CaseOk (view c)) where
@@ -90,10 +89,6 @@ module _ (c : Case) (s : Sound (c .book) (c .roll)) (ok : CaseOk (view c)) where
         };
       }
 
-  -- the entries that are sold are sold to bids that are kept
-  sold-kept : (e : R.Entry) → EntryOk (view c .head) (view c .bids) (e .pool) (e .state) → SoldBelow (length (view c .bids)) e
-  sold-kept e o b same = (rw same at o) .0
-
   pub move-shown : (m : ℕ) → Passed (tests (some (view c)) (view c) (Wire.MOVE m)) → Shown c (Wire.MOVE m)
   unfolding tests notInSet caseAfter accepted moveCase tallied afterMove
   move-shown m t =
@@ -101,7 +96,7 @@ module _ (c : Case) (s : Sound (c .book) (c .roll)) (ok : CaseOk (view c)) where
       let r = c .roll in
       let x = b .members in
       let inside = in-set-below (view c) ok (s .set) m (not-false _ (t .1 .0)) in
-      let agree = prices-agree r (viewBids (b .bids)) (each-more _ _ sold-kept (viewRoll r) (ok .roll .each)) (b .bids .price)
+      let agree = prices-agree r (viewBids (b .bids)) (each-more _ _ (sold-kept (view c)) (viewRoll r) (ok .roll .each)) (b .bids .price)
       (λ k l. price-shown (b .bids) k (omega (arith, length-view (b .bids)))) in
       record {
         view = case-ext _ _ refl refl refl (X.view-move x m inside) refl refl

@@ -2,3 +2,4 @@ pub mod Assumed
 pub mod Showing
 pub mod SetupSteps
 pub mod CallingSteps
+pub mod BiddingSteps

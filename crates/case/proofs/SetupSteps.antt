@@ -8,7 +8,7 @@ use native.Mathlib.Omega.{arith}
 use lib.Dec.{leb, ltb, eqb}
 use lib.ListN.{length, getD, set, replicate, length-append, length-replicate}
 use borrow.Author.Tests.{leb-false, eqb-true, not-false}
-use Rattle.lists.specs.Lists.{tab}
+use Rattle.lists.specs.Lists.{sum, tab, sumByKey}
 use Rattle.lists.proofs.Bools.{either, or-left, or-right}
 use Rattle.lists.proofs.Places.{getD-tab, tab-of}
 use Rattle.lists.proofs.Passed.{Passed}
@@ -24,20 +24,22 @@ use Rattle.machine.proofs.Bounds.{roll-small, in-set-below, member-ok}
 use Rattle.machine.proofs.Stages.{letter-some, letter-round, round-stage}
 use Rattle.machine.proofs.CallsKept.{pool-ok}
 use Rattle.roll.specs.View.{viewRoll}
-use Rattle.roll.proofs.Kept.{whole-put}
-use Rattle.roll.proofs.Views.{view-put}
-use Rattle.roll.specs.Rolls.{putUpOf}
+use Rattle.roll.proofs.Kept.{whole-new, whole-put}
+use Rattle.roll.proofs.Views.{view-new, view-put}
+use Rattle.roll.specs.Rolls.{emptyRoll, putUpOf}
+use Rattle.roll.specs.Tally.{tallyOf}
 use Rattle.accounts.specs.Pools.{putPool, viewPools}
 use Rattle.accounts.specs.declared.members.Members.{Members}
-use Rattle.accounts.specs.Members.{putMember, memberOf, viewMembers}
-use Rattle.accounts.specs.Bids.{wonTable}
+use Rattle.accounts.specs.Members.{noMembers, putMember, memberOf, viewMembers}
+use Rattle.accounts.specs.Bids.{noBids, wonTable}
 use Rattle.accounts.proofs.ViewPools as P
 use Rattle.accounts.proofs.ViewMembers as X
 use Rattle.accounts.proofs.ViewRounds as Y
-use Rattle.book.specs.Books.{withPools, openIn, nextRound, memberBook, roundBook}
+use Rattle.accounts.proofs.ViewBids as Z
+use Rattle.book.specs.Books.{newBook, withPools, openIn, nextRound, memberBook, roundBook}
 use Rattle.book.proofs.Sound.{Sound}
 use Rattle.case.specs.declared.Case.{Case}
-use Rattle.case.specs.Cases.{tallied, poolCase, caseAfter}
+use Rattle.case.specs.Cases.{tallied, newCase, poolCase, headFrom, caseAfter}
 use Rattle.case.specs.View.{view}
 use Rattle.case.proofs.Showing.{Shown, case-ext, tallied-sound, length-roll, open-units}
 
@@ -51,7 +53,26 @@ four-of : (xs : List ℕ) → length xs ≡ 4 → (getD xs 0 0 ∷ getD xs 1 0 �
 unfolding tab
 four-of xs long = sym (tab-of 4 (λ k. getD xs k 0) 0 xs long (λ k l. refl))
 
--- ---- the calls
+-- ---- HEAD
+
+pub head-shown : (h : Wire.Head) → h .set < 2 ^ 32
+    → (view (newCase (headFrom h)) ≡ M.newCase h) × Sound (newCase (headFrom h) .book) (newCase (headFrom h) .roll)
+unfolding newCase newBook emptyRoll noBids noMembers tallyOf wonTable sumByKey tab sum
+head-shown h small = (
+  case-ext (view (newCase (headFrom h))) (M.newCase h) refl refl P.view-new X.view-new (Y.view-new (h .pools)) Z.view-new view-new,
+  record {
+    set = small;
+    pools = P.new-long;
+    members = X.new-long;
+    rounds = Y.new-long;
+    bids = Z.new-long;
+    roll = whole-new;
+    tally = refl;
+    won = refl;
+  },
+)
+
+-- ---- the other calls
 
 module _ (c : Case) (s : Sound (c .book) (c .roll)) (ok : CaseOk (view c)) where
   pub pool-shown : (pool units mark : ℕ) → Passed (tests (some (view c)) (view c) (Wire.POOL pool units mark)) → Shown c (Wire.POOL pool units mark)

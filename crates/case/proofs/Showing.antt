@@ -5,14 +5,16 @@ use native.Mathlib.Omega.{arith}
 use lib.ListN.{length, length-map}
 use lib.Seq.{length-take-le}
 use Rattle.machine.specs.Wire as Wire
-use Rattle.machine.specs.Roll.{openUnits}
+use Rattle.machine.specs.Roll.{Entry, openUnits}
 use Rattle.machine.specs.State as M
 use Rattle.machine.specs.Calls.{accepted}
+use Rattle.machine.proofs.Invariant.{EntryOk}
 use Rattle.roll.specs.declared.Roll.{Roll}
 use Rattle.roll.specs.Entries.{entryOf}
 use Rattle.roll.specs.Rolls.{counted}
 use Rattle.roll.specs.View.{viewRoll}
 use Rattle.roll.proofs.Kept.{Whole}
+use Rattle.roll.proofs.Agree.{SoldBelow}
 use Rattle.roll.proofs.ViewCounts.{view-open-units}
 use Rattle.accounts.specs.Bids.{wonTable}
 use Rattle.accounts.proofs.ViewPools.{PoolsLong}
@@ -59,3 +61,7 @@ length-roll r w = simp (length-map (counted r) entryOf, length-take-le (r .len) 
 pub open-units : (b : Book) (r : Roll) → Sound b r → (pool : ℕ) → pool < 4 → openIn b pool ≡ openUnits (viewRoll r) pool
 unfolding openIn
 open-units b r s pool l = rw (s .tally) (view-open-units r (b .bids .price) pool l)
+
+-- an entry that is sold is sold to a bid that is kept
+pub sold-kept : (c : M.Case) (e : Entry) → EntryOk (c .head) (c .bids) (e .pool) (e .state) → SoldBelow (length (c .bids)) e
+sold-kept c e o b same = (rw same at o) .0
