@@ -3,3 +3,4 @@ pub mod Showing
 pub mod SetupSteps
 pub mod CallingSteps
 pub mod BiddingSteps
+pub mod PlacingSteps
