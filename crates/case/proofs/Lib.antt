@@ -4,3 +4,4 @@ pub mod SetupSteps
 pub mod CallingSteps
 pub mod BiddingSteps
 pub mod PlacingSteps
+pub mod ClosingSteps
