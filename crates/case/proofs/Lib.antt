@@ -5,3 +5,4 @@ pub mod CallingSteps
 pub mod BiddingSteps
 pub mod PlacingSteps
 pub mod ClosingSteps
+pub mod Steps
