@@ -1,9 +1,6 @@
 -- Stand-ins for laws of the crate book that are still to come.
 use mathlib.Core.Path.{_≡_}
-use mathlib.Core.Bool.{false}
 use Prim.Native.Nat.{ℕ, _<_}
-use lib.ListN.{length, getD}
-use Rattle.sets.specs.Set.{member}
 use Rattle.machine.specs.Calls.{allocation, calls}
 use Rattle.machine.proofs.Invariant.{CaseOk}
 use Rattle.roll.specs.declared.Roll.{Roll}

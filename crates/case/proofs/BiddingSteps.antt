@@ -3,10 +3,10 @@ use mathlib.Core.Path.{_≡_, refl, sym, ap, _∙_}
 use mathlib.Core.Bool.{true, _&&_, not}
 use mathlib.Core.List.{List}
 use mathlib.Core.Option.{some}
-use Prim.Native.Nat.{ℕ, _≤_, _<_}
+use Prim.Native.Nat.{ℕ, _<_}
 use native.Mathlib.Omega.{arith}
 use lib.Dec.{leb, eqb}
-use lib.ListN.{length, getD, set}
+use lib.ListN.{length, set}
 use lib.Seq.{getD-set-other}
 use borrow.Author.Tests.{leb-true, leb-false, lt-ltb, not-false}
 use Rattle.lists.specs.Lists.{if_then_else_, between, sum, sumByKey}
@@ -20,13 +20,12 @@ use Rattle.machine.specs.Roll.{isOpen}
 use Rattle.machine.specs.Calls.{afterBid, accepted}
 use Rattle.machine.specs.Refusals.{tests, bidOk}
 use Rattle.machine.proofs.Invariant.{CaseOk}
-use Rattle.roll.specs.declared.Entry.{Entry}
 use Rattle.roll.specs.declared.Roll.{Roll}
 use Rattle.roll.specs.Entries.{entryOf, priceIn}
 use Rattle.roll.specs.Rolls.{counted}
 use Rattle.roll.specs.Tally.{tallyOf}
 use Rattle.roll.specs.View.{viewRoll}
-use Rattle.roll.proofs.Agree.{PriceAgrees, prices-agree}
+use Rattle.roll.proofs.Agree.{prices-agree}
 use Rattle.accounts.specs.declared.bids.Bids.{Bids}
 use Rattle.accounts.specs.Bids.{putBid, viewBids}
 use Rattle.accounts.proofs.ViewBids.{length-view, price-shown, put-long, view-put}

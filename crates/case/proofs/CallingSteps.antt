@@ -1,13 +1,12 @@
 -- CALL, PAY, MOVE, MISS and FINISH, accepted: the program's case shows the machine's. Assumes nothing.
-use mathlib.Core.Path.{_≡_, refl, sym, ap, _∙_}
+use mathlib.Core.Path.{refl, ap, _∙_}
 use mathlib.Core.List.{List}
 use mathlib.Core.Option.{some}
 use Prim.Native.Nat.{ℕ, _+_, _-_, _^_, _≤_, _<_, min}
 use native.Mathlib.Omega.{arith}
-use lib.Dec.{leb}
 use lib.ListN.{length, getD}
 use borrow.Author.Tests.{ltb-false, not-false}
-use Rattle.lists.specs.Lists.{if_then_else_, mapFrom}
+use Rattle.lists.specs.Lists.{mapFrom}
 use Rattle.lists.proofs.Bools.{either}
 use Rattle.lists.proofs.Each.{each-more}
 use Rattle.lists.proofs.Passed.{Passed}
@@ -17,7 +16,7 @@ use Rattle.machine.specs.State as M
 use Rattle.machine.specs.Requirement.{requirement, prefunded, contributionOf, contributions, owes}
 use Rattle.machine.specs.Move.{moveAll}
 use Rattle.machine.specs.Calls.{calls, afterCall, afterPay, afterMove, afterMiss, accepted}
-use Rattle.machine.specs.Refusals.{tests, notInSet, paymentOk}
+use Rattle.machine.specs.Refusals.{tests, notInSet}
 use Rattle.machine.proofs.Invariant.{CaseOk}
 use Rattle.machine.proofs.Bounds.{in-set-below, member-ok}
 use Rattle.roll.specs.View.{viewRoll}
@@ -27,7 +26,7 @@ use Rattle.roll.proofs.Kept.{kept-miss, kept-move, whole-kept}
 use Rattle.roll.proofs.Views.{view-miss}
 use Rattle.roll.proofs.ViewMove as U
 use Rattle.roll.proofs.Agree.{prices-agree}
-use Rattle.accounts.specs.Members.{owesOf, withCalls, withPayment, withMove, memberOf, viewMembers}
+use Rattle.accounts.specs.Members.{owesOf, withMove, viewMembers}
 use Rattle.accounts.specs.Bids.{viewBids}
 use Rattle.accounts.proofs.ViewMembers as X
 use Rattle.accounts.proofs.ViewBids.{length-view, price-shown}

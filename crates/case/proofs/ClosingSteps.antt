@@ -2,29 +2,28 @@
 use mathlib.Core.Path.{_≡_, refl, sym, ap, _∙_}
 use mathlib.Core.Bool.{Bool, true, false, _&&_}
 use mathlib.Core.Logic.{⊎-elim}
-use mathlib.Core.List.{List, [], _++_, map}
+use mathlib.Core.List.{List, [], map}
 use mathlib.Core.Option.{some}
-use Prim.Native.Nat.{ℕ, suc, _+_, _-_, _≤_, _<_, min}
-use native.Mathlib.Nat.{zero-add, min-eq-left, min-eq-right}
+use Prim.Native.Nat.{ℕ, _+_, _-_, _≤_, _<_, min}
+use native.Mathlib.Nat.{zero-add}
 use native.Mathlib.Omega.{arith}
 use lib.Dec.{ltb, eqb}
 use lib.ListN.{length, getD, replicate, length-append, length-replicate, List·getD-eq-default}
-use borrow.Author.Tests.{eqb-true, ltb-true, ltb-false, lt-ltb}
+use borrow.Author.Tests.{eqb-true, ltb-true, ltb-false}
 use Rattle.lists.specs.Lists.{if_then_else_, tab, among, mapFrom}
-use Rattle.lists.proofs.Bools.{cases, same-choice, and-false, lt-or-le}
+use Rattle.lists.proofs.Bools.{cases, same-choice, lt-or-le}
 use Rattle.lists.proofs.Places.{getD-map-in}
-use Rattle.lists.proofs.Each.{Each, each-more, getD-mapFrom, length-mapFrom}
+use Rattle.lists.proofs.Each.{each-more, getD-mapFrom, length-mapFrom}
 use Rattle.lists.proofs.Among.{among-length, among-off}
 use Rattle.lists.proofs.Passed.{Passed}
 use Rattle.auction.specs.Auction.{allot}
-use Rattle.auction.specs.Price.{priceLimit}
 use Rattle.auction.specs.Limits.{unitLimit}
 use Rattle.machine.specs.Wire as Wire
 use Rattle.machine.specs.Roll as R
 use Rattle.machine.specs.Roll.{Bid, noBid, withWon, openUnits}
 use Rattle.machine.specs.State as M
 use Rattle.machine.specs.State.{letterOf}
-use Rattle.machine.specs.Calls.{reserve, inAuction, wonIn, wonGiven, bidsAfter, sell, afterClose, accepted}
+use Rattle.machine.specs.Calls.{reserve, inAuction, wonIn, wonGiven, bidsAfter, afterClose, accepted}
 use Rattle.machine.specs.Refusals.{tests}
 use Rattle.machine.proofs.Invariant.{CaseOk}
 use Rattle.machine.proofs.Closing.{wins-at}
@@ -48,7 +47,6 @@ use Rattle.accounts.proofs.ViewBids.{BidsLong, take-long, length-view, pool-sho
 use Rattle.accounts.proofs.Winning.{wins-shown, wins-in, wins-past}
 use Rattle.accounts.proofs.Taking.{WinsTaken, taken-none, taken-next, taken-skip, taken-wins, bids-after}
 use Rattle.accounts.proofs.Tables.{won-table-long}
-use Rattle.book.specs.declared.Book.{Book}
 use Rattle.book.specs.declared.Stage.the-variants.{After}
 use Rattle.book.specs.Stages.{roundOf}
 use Rattle.book.specs.Books.{withStage, withMembers, withBids, openIn}

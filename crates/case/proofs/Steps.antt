@@ -1,6 +1,6 @@
 -- Every accepted call: the program's case after it shows the machine's case after it, and is sound again. Assumes nothing.
-use mathlib.Core.Path.{_≡_, sym, _∙_}
-use mathlib.Core.Bool.{false≢true, not}
+use mathlib.Core.Path.{sym, _∙_}
+use mathlib.Core.Bool.{false≢true}
 use mathlib.Core.Option.{some}
 use borrow.Author.Tests.{not-false}
 use Rattle.lists.proofs.Passed.{Passed}
