@@ -2,20 +2,19 @@
 use mathlib.Core.Path.{refl, ap, _∙_}
 use mathlib.Core.List.{List}
 use mathlib.Core.Option.{some}
-use Prim.Native.Nat.{ℕ, _+_, _-_, _^_, _≤_, _<_, min}
+use Prim.Native.Nat.{ℕ, _+_, _-_, _^_, _≤_, _<_}
 use native.Mathlib.Omega.{arith}
-use lib.ListN.{length, getD}
+use lib.ListN.{getD}
 use borrow.Author.Tests.{ltb-false, not-false}
 use Rattle.lists.specs.Lists.{mapFrom}
 use Rattle.lists.proofs.Bools.{either}
 use Rattle.lists.proofs.Each.{each-more}
 use Rattle.lists.proofs.Passed.{Passed}
-use Rattle.splitting.proofs.Among.{shares-length}
 use Rattle.machine.specs.Wire as Wire
 use Rattle.machine.specs.State as M
-use Rattle.machine.specs.Requirement.{requirement, prefunded, contributionOf, contributions, owes}
+use Rattle.machine.specs.Requirement.{owes}
 use Rattle.machine.specs.Move.{moveAll}
-use Rattle.machine.specs.Calls.{calls, afterCall, afterPay, afterMove, afterMiss, accepted}
+use Rattle.machine.specs.Calls.{afterCall, afterPay, afterMove, afterMiss, accepted}
 use Rattle.machine.specs.Refusals.{tests, notInSet}
 use Rattle.machine.proofs.Invariant.{CaseOk}
 use Rattle.machine.proofs.Bounds.{in-set-below, member-ok}
@@ -36,11 +35,11 @@ use Rattle.case.specs.declared.Case.{Case}
 use Rattle.case.specs.Cases.{tallied, moveCase, missCase, caseAfter}
 use Rattle.case.specs.View.{view}
 use Rattle.case.proofs.Showing.{Shown, case-ext, tallied-sound, sold-kept}
-use Rattle.case.proofs.Assumed.{calls-shown}
+use Rattle.case.proofs.Assumed.{calls-shown, calls-long}
 
 module _ (c : Case) (s : Sound (c .book) (c .roll)) (ok : CaseOk (view c)) where
   pub call-shown : Passed (tests (some (view c)) (view c) Wire.CALL) → Shown c Wire.CALL
-  unfolding caseAfter accepted callBook afterCall calls
+  unfolding caseAfter accepted callBook afterCall
   call-shown t =
       let b = c .book in
       let x = b .members in
@@ -52,7 +51,7 @@ module _ (c : Case) (s : Sound (c .book) (c .roll)) (ok : CaseOk (view c)) where
         sound = record {
           set = s .set;
           pools = s .pools;
-          members = X.call-long x (callsIn b) (ap length (calls-shown b (c .roll) s ok) ∙ shares-length 32 (M.inSet (view c .head)) (min (requirement (view c) - prefunded (view c)) (contributions (view c))) (contributionOf (view c))) (s .members);
+          members = X.call-long x (callsIn b) (calls-long b (c .roll) s ok) (s .members);
           rounds = s .rounds;
           bids = s .bids;
           roll = s .roll;

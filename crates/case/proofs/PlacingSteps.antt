@@ -2,22 +2,18 @@
 use mathlib.Core.Path.{_≡_, refl, ap, _∙_}
 use mathlib.Core.List.{List}
 use mathlib.Core.Option.{some}
-use Prim.Native.Nat.{ℕ, _+_, _*_, _^_, _<_, min}
+use Prim.Native.Nat.{ℕ, _<_}
 use native.Mathlib.Omega.{arith}
 use lib.ListN.{length, getD}
 use borrow.Author.Tests.{leb-false}
 use Rattle.lists.specs.Lists.{places, keep, mapFrom}
 use Rattle.lists.proofs.Passed.{Passed}
 use Rattle.sets.specs.Set.{members}
-use Rattle.splitting.proofs.Among.{shares-length}
 use Rattle.machine.specs.Wire as Wire
-use Rattle.machine.specs.Roll.{openUnits}
 use Rattle.machine.specs.State as M
-use Rattle.machine.specs.Calls.{shortfall, totalShortfall, allocation, alsoAllocated, giveShares, afterAllocate, afterTear, accepted}
+use Rattle.machine.specs.Calls.{allocation, alsoAllocated, giveShares, afterAllocate, afterTear, accepted}
 use Rattle.machine.specs.Refusals.{tests, notInCase}
 use Rattle.machine.proofs.Invariant.{CaseOk}
-use Rattle.machine.proofs.Bounds.{member-ok}
-use Rattle.machine.proofs.Shares.{allocation-le, allocation-outside}
 use Rattle.roll.specs.declared.Grant.the-variants.{Allocation}
 use Rattle.roll.specs.Rolls.{giveOf, tearOf}
 use Rattle.roll.specs.View.{viewRoll}
@@ -26,33 +22,20 @@ use Rattle.roll.proofs.Views.{view-tear}
 use Rattle.roll.proofs.Sales.{view-allocate}
 use Rattle.accounts.specs.Members.{withShares, viewMembers}
 use Rattle.accounts.proofs.ViewMembers as X
-use Rattle.accounts.proofs.Shortfalls.{allocated-shown}
 use Rattle.book.specs.Books.{withMembers, allocationIn}
 use Rattle.book.proofs.Sound.{Sound}
 use Rattle.case.specs.declared.Case.{Case}
 use Rattle.case.specs.Cases.{tallied, allocateCase, tearCase, caseAfter}
 use Rattle.case.specs.View.{view}
 use Rattle.case.proofs.Showing.{Shown, case-ext, tallied-sound}
-use Rattle.case.proofs.Assumed.{allocation-shown}
+use Rattle.case.proofs.Assumed.{allocation-shown, allocation-long, allocation-outside, allocation-fits}
 
 module _ (c : Case) (s : Sound (c .book) (c .roll)) (ok : CaseOk (view c)) where
-  length-allocation : (pool : ℕ) → length (allocation (view c) pool) ≡ 32
-  unfolding allocation
-  length-allocation pool =
-      shares-length 32 (M.inSet (view c .head)) (min (openUnits (view c .roll) pool) (totalShortfall (view c) pool)) (shortfall (view c) pool)
-
   given : (pool price : ℕ) (shares : List ℕ) → length shares ≡ 32
       → giveShares pool price shares (keep (M.inSet (view c .head)) (places (length shares))) (viewRoll (c .roll))
       ≡ giveShares pool price shares (M.memberList (view c .head)) (viewRoll (c .roll))
   unfolding members
   given pool price shares long = rw long
-
-  -- what is ever allocated to a member is no more than it expects
-  room : (pool m : ℕ) → pool < 4 → m < 32 → getD (c .book .members .allocated) (4 * m + pool) 0 + getD (allocation (view c) pool) m 0 < 2 ^ 64
-  unfolding shortfall
-  room pool m low l =
-      let o = member-ok (view c) ok m in
-      omega (arith, allocation-le (view c) pool m, o .allocated-most pool, o .expected-most pool, allocated-shown (c .book .members) m l pool low)
 
   pub allocate-shown : (pool price : ℕ) → Passed (tests (some (view c)) (view c) (Wire.ALLOCATE pool price)) → Shown c (Wire.ALLOCATE pool price)
   unfolding tests notInCase caseAfter accepted allocateCase tallied afterAllocate withShares
@@ -65,13 +48,13 @@ module _ (c : Case) (s : Sound (c .book) (c .roll)) (ok : CaseOk (view c)) where
       let low : pool < 4 = omega (arith, ok .head .pools-most) in
       let shares = allocationIn b pool in
       let same : shares ≡ allocation (view c) pool = allocation-shown b r s ok pool inside in
-      let long : length shares ≡ 32 = ap length same ∙ length-allocation pool in
+      let long = allocation-long b r s ok pool inside in
       record {
         view = case-ext _ _ refl refl refl
-            (X.view-allocate x pool shares (s .members) low (λ m l. rw same (room pool m low l))
+            (X.view-allocate x pool shares (s .members) low (allocation-fits b r s ok pool inside)
             ∙ ap (λ (ns : List ℕ). mapFrom 0 (λ m y. alsoAllocated pool (getD ns m 0) y) (viewMembers x)) same)
             refl refl
-            (view-allocate r pool price shares (M.inSet h) (omega arith) (λ k off. rw same (allocation-outside (view c) pool k off))
+            (view-allocate r pool price shares (M.inSet h) (omega arith) (allocation-outside b r s ok pool inside)
             ∙ given pool price shares long
             ∙ ap (λ (ns : List ℕ). giveShares pool price ns (M.memberList h) (viewRoll r)) same);
         sound = tallied-sound (withMembers b (withShares x pool shares)) (giveOf r pool (Allocation price) shares) (s .set) (s .pools) (X.allocate-long x pool shares (s .members)) (s .rounds) (s .bids)
