@@ -2,3 +2,4 @@ pub mod Sound
 pub mod Bounds
 pub mod Finished
 pub mod Ranges
+pub mod Shown
