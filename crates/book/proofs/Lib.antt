@@ -2,3 +2,5 @@ pub mod Sound
 pub mod Bounds
 pub mod Finished
 pub mod Ranges
+pub mod Assumed
+pub mod Outputs
