@@ -4,3 +4,4 @@ pub mod Finished
 pub mod Ranges
 pub mod Assumed
 pub mod Outputs
+pub mod ResultShown

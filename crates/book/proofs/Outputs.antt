@@ -1,32 +1,29 @@
 -- What ALLOCATE and CALL split among the members, read off a book, is what the machine splits. Assumes nothing.
 use mathlib.Core.Path.{_≡_, refl, sym, ap, _∙_}
-use mathlib.Core.Bool.{true, false}
-use mathlib.Core.Logic.{⊎-elim}
+use mathlib.Core.Bool.{false}
 use mathlib.Core.List.{List}
 use Prim.Native.Nat.{ℕ, _+_, _-_, _*_, _≤_, _<_, min}
 use native.Mathlib.Omega.{arith}
 use lib.ListN.{length, getD, replicate}
 use Rattle.lists.specs.Lists.{sum}
-use Rattle.lists.proofs.Bools.{lt-or-le}
 use Rattle.lists.proofs.Sums.{sum-bound, bound-past}
 use Rattle.lists.proofs.Places.{length-tab, getD-tab, getD-same}
 use Rattle.sets.specs.Set.{member}
-use Rattle.splitting.specs.Split.{split, splitAmong}
+use Rattle.splitting.specs.Split.{split}
 use Rattle.splitting.specs.Limits.{Answer, splitInto, amountLimit, weightLimit}
 use Rattle.splitting.proofs.Answers.{accepted}
 use Rattle.splitting.proofs.Shares.{split-length}
 use Rattle.splitting.proofs.Among.{share-off}
 use Rattle.machine.specs.State as M
 use Rattle.machine.specs.Roll as Units
-use Rattle.machine.specs.Requirement.{requirement, prefunded, contributions, contributionOf}
+use Rattle.machine.specs.Requirement.{prefunded, contributions, contributionOf}
 use Rattle.machine.specs.Calls.{shortfall, totalShortfall, allocation, calls}
 use Rattle.machine.proofs.Invariant.{BidOk, CaseOk}
 use Rattle.machine.proofs.Bounds.{member-ok, bid-ok, outside-nothing}
 use Rattle.roll.specs.declared.Roll.{Roll}
-use Rattle.roll.specs.View.{viewRoll}
 use Rattle.accounts.specs.declared.members.Members.{Members}
-use Rattle.accounts.specs.Members.{contributionLimit, shortfallsOf, memberOf, viewMembers}
-use Rattle.accounts.specs.Bids.{bidAt, viewBids}
+use Rattle.accounts.specs.Members.{contributionLimit, shortfallsOf, memberOf}
+use Rattle.accounts.specs.Bids.{bidAt}
 use Rattle.accounts.proofs.ViewMembers.{member-shown}
 use Rattle.accounts.proofs.Tables.{Bidden}
 use Rattle.accounts.proofs.Shortfalls.{Short, short, total-shown, split-shown, expected-shown}
@@ -83,6 +80,9 @@ module _ (b : Book) (r : Roll) (s : Sound b r) (ok : CaseOk (viewOf b r)) where
   bid-at-ok i l =
       rw (getD-tab (b .bids .kept) (bidAt (b .bids)) i Units.noBid l) at
       (bid-ok (viewOf b r) ok i (omega (arith, length-tab (b .bids .kept) (bidAt (b .bids)))))
+
+  pub bid-pool : (i : ℕ) → i < b .bids .kept → getD (b .bids .pool) i 0 < b .head .pools
+  bid-pool i l = bid-at-ok i l .pool
 
   pub bidden : Bidden (b .bids)
   bidden = record {
