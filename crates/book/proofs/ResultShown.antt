@@ -21,19 +21,19 @@ use Rattle.machine.specs.Result.{standing, rank, payments, limits, sixCharges, 
 use Rattle.machine.proofs.Invariant.{CaseOk}
 use Rattle.machine.proofs.Bounds.{in-set-below, member-ok, won-by-member-small, D-small, W-small, expected-small, contributions-small, payments-small}
 use Rattle.roll.specs.declared.Roll.{Roll}
-use Rattle.accounts.specs.Members.{amountsOf, overPools}
+use Rattle.accounts.specs.Members.{overPools}
 use Rattle.accounts.specs.Rounds.{worstsOf}
 use Rattle.accounts.specs.Bids.{gainTable}
 use Rattle.accounts.proofs.ViewMembers.{member-shown}
-use Rattle.accounts.proofs.OverMembers.{payments-shown, split-payments}
+use Rattle.accounts.proofs.OverMembers.{split-payments}
 use Rattle.accounts.proofs.Standings.{D-shown, W-shown, expected-shown}
 use Rattle.book.specs.declared.Book.{Book}
 use Rattle.book.specs.Books.{requirementIn}
 use Rattle.book.specs.Results.{limitsIn, ranksIn, resultIn}
 use Rattle.book.specs.View.{viewOf}
 use Rattle.book.proofs.Sound.{Sound}
-use Rattle.book.proofs.Outputs.{shares-of, paid-outside, paid-le, expected-le, bid-pool, bidden, contributions-total}
-use Rattle.book.proofs.Assumed.{requirement-shown}
+use Rattle.book.proofs.Outputs.{shares-of, paid-outside, paid-le, expected-le, bid-pool}
+use Rattle.book.proofs.Shown.{requirement-shown, contributions-shown, payments-shown, bidden}
 
 -- standings with the same numbers
 standing-ext : (x y : Standing) → x .D ≡ y .D → x .W ≡ y .W → x .expected ≡ y .expected → x ≡ y
@@ -46,13 +46,9 @@ module _ (b : Book) (r : Roll) (s : Sound b r) (ok : CaseOk (viewOf b r)) where
   unfolding resultIn
   loss-shown = requirement-shown b r s ok
 
-  payments-total : amountsOf (b .members .paid) ≡ payments (viewOf b r)
-  unfolding payments
-  payments-total = payments-shown (b .members) (b .head .set) (s .members) (paid-outside b r s ok) (paid-le b r s ok)
-
   pub limits-shown : limitsIn b ≡ limits (viewOf b r)
   unfolding limitsIn limits firstTranche secondTranche
-  limits-shown = rw (contributions-total b r s ok, payments-total)
+  limits-shown = rw (contributions-shown b r s ok, payments-shown b r s ok)
 
   pub charges-shown : resultIn b .charges ≡ sixCharges (viewOf b r)
   unfolding resultIn sixCharges
@@ -62,7 +58,7 @@ module _ (b : Book) (r : Roll) (s : Sound b r) (ok : CaseOk (viewOf b r)) where
   unfolding resultIn uncoveredRest
   uncovered-shown = rw (requirement-shown b r s ok, limits-shown)
 
-  charge-shown : (layer : ℕ) → getD (charged (requirementIn b) (limitsIn b)) layer 0 ≡ charge (viewOf b r) layer
+  pub charge-shown : (layer : ℕ) → getD (charged (requirementIn b) (limitsIn b)) layer 0 ≡ charge (viewOf b r) layer
   unfolding charge sixCharges
   charge-shown layer = rw (requirement-shown b r s ok, limits-shown)
 
@@ -95,7 +91,7 @@ module _ (b : Book) (r : Roll) (s : Sound b r) (ok : CaseOk (viewOf b r)) where
     expected-le = expected-small (viewOf b r) ok m;
   }
 
-  ranks-shown : ranksIn b ≡ tab 32 (rank (viewOf b r))
+  pub ranks-shown : ranksIn b ≡ tab 32 (rank (viewOf b r))
   unfolding ranksIn rank
   ranks-shown = ranks-exact _ _ _ (b .head .set) (standing (viewOf b r)) standing-shown (λ m l. standing-within m)
 
