@@ -3,3 +3,5 @@ pub mod Bounds
 pub mod Finished
 pub mod Ranges
 pub mod Shown
+pub mod Outputs
+pub mod ResultShown

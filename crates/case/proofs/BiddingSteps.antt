@@ -33,6 +33,7 @@ use Rattle.accounts.proofs.Tables.{won-table-put}
 use Rattle.book.specs.Stages.{roundOf}
 use Rattle.book.specs.Books.{bidBook}
 use Rattle.book.proofs.Sound.{Sound}
+use Rattle.book.proofs.Shown.{prices-lent}
 use Rattle.case.specs.declared.Case.{Case}
 use Rattle.case.specs.Cases.{caseAfter}
 use Rattle.case.specs.View.{view}
@@ -70,7 +71,7 @@ module _ (c : Case) (s : Sound (c .book) (c .roll)) (ok : CaseOk (view c)) where
       let few = leb-true units 1000 (and-right (leb 1 units) _ (and-left _ (priceOk price) range)) in
       let low = leb-true price priceLimit (and-right (between 1 1000 units) _ range) in
       let kept = each-more _ _ (sold-kept (view c)) (viewRoll r) (ok .roll .each) in
-      let first = prices-agree r (viewBids x) kept (x .price) (λ k l. price-shown x k (omega (arith, length-view x))) in
+      let first = prices-lent b r s ok in
       let second = prices-agree r (viewBids x) kept (y .price)
       (λ k l.
       rw (put-price x round pool m units price room)

@@ -8,7 +8,6 @@ use lib.ListN.{getD}
 use borrow.Author.Tests.{ltb-false, not-false}
 use Rattle.lists.specs.Lists.{mapFrom}
 use Rattle.lists.proofs.Bools.{either}
-use Rattle.lists.proofs.Each.{each-more}
 use Rattle.lists.proofs.Passed.{Passed}
 use Rattle.machine.specs.Wire as Wire
 use Rattle.machine.specs.State as M
@@ -24,18 +23,17 @@ use Rattle.roll.specs.Moves.{moveOf}
 use Rattle.roll.proofs.Kept.{kept-miss, kept-move, whole-kept}
 use Rattle.roll.proofs.Views.{view-miss}
 use Rattle.roll.proofs.ViewMove as U
-use Rattle.roll.proofs.Agree.{prices-agree}
 use Rattle.accounts.specs.Members.{owesOf, withMove, viewMembers}
 use Rattle.accounts.specs.Bids.{viewBids}
 use Rattle.accounts.proofs.ViewMembers as X
-use Rattle.accounts.proofs.ViewBids.{length-view, price-shown}
 use Rattle.book.specs.Books.{withMembers, callsIn, callBook, payBook, finishBook}
 use Rattle.book.proofs.Sound.{Sound}
+use Rattle.book.proofs.Shown.{prices-lent}
 use Rattle.case.specs.declared.Case.{Case}
 use Rattle.case.specs.Cases.{tallied, moveCase, missCase, caseAfter}
 use Rattle.case.specs.View.{view}
-use Rattle.case.proofs.Showing.{Shown, case-ext, tallied-sound, sold-kept}
-use Rattle.case.proofs.Assumed.{calls-shown, calls-long}
+use Rattle.case.proofs.Showing.{Shown, case-ext, tallied-sound}
+use Rattle.book.proofs.Outputs.{calls-shown, calls-long}
 
 module _ (c : Case) (s : Sound (c .book) (c .roll)) (ok : CaseOk (view c)) where
   pub call-shown : Passed (tests (some (view c)) (view c) Wire.CALL) → Shown c Wire.CALL
@@ -94,11 +92,9 @@ module _ (c : Case) (s : Sound (c .book) (c .roll)) (ok : CaseOk (view c)) where
       let r = c .roll in
       let x = b .members in
       let inside = in-set-below (view c) ok (s .set) m (not-false _ (t .1 .0)) in
-      let agree = prices-agree r (viewBids (b .bids)) (each-more _ _ (sold-kept (view c)) (viewRoll r) (ok .roll .each)) (b .bids .price)
-      (λ k l. price-shown (b .bids) k (omega (arith, length-view (b .bids)))) in
       record {
         view = case-ext _ _ refl refl refl (X.view-move x m inside) refl refl
-            (U.view-move r (b .bids .price) m (owesOf x m) (viewBids (b .bids)) agree
+            (U.view-move r (b .bids .price) m (owesOf x m) (viewBids (b .bids)) (prices-lent b r s ok)
             ∙ ap (λ (n : ℕ). moveAll (viewBids (b .bids)) m n (viewRoll r)) (X.owes-shown x m (s .members)));
         sound = tallied-sound (withMembers b (withMove x m)) (moveOf r (b .bids .price) m (owesOf x m)) (s .set) (s .pools) (X.move-long x m (s .members)) (s .rounds) (s .bids)
             (whole-kept r _ (kept-move r (b .bids .price) m (owesOf x m)) (s .roll)) (s .won);

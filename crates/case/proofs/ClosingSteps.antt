@@ -51,10 +51,11 @@ use Rattle.book.specs.declared.Stage.the-variants.{After}
 use Rattle.book.specs.Stages.{roundOf}
 use Rattle.book.specs.Books.{withStage, withMembers, withBids, openIn}
 use Rattle.book.proofs.Sound.{Sound}
+use Rattle.book.proofs.Shown.{open-shown}
 use Rattle.case.specs.declared.Case.{Case}
 use Rattle.case.specs.Cases.{tallied, closePool, closeCase, caseAfter}
 use Rattle.case.specs.View.{view}
-use Rattle.case.proofs.Showing.{Shown, case-ext, tallied-sound, open-units}
+use Rattle.case.proofs.Showing.{Shown, case-ext, tallied-sound}
 
 -- ---- the machine: what a bid wins in a pool
 
@@ -167,7 +168,7 @@ module _ (c : Case) (s : Sound (c .book) (c .roll)) (ok : CaseOk (view c)) (bidd
       let most = ok .head .pools-most in
       rw (
         open-same y p,
-        open-units (c .book) (c .roll) s p (omega arith),
+        open-shown (c .book) (c .roll) s ok p,
         reserve-shown pools (c .book .rounds) round p most inside (at .1) (omega (arith, at .0, Y.length-view pools (c .book .rounds))) (s .rounds .few),
       )
       (taken-wins round (wonIn (view c) round) old p y t round p _ _)

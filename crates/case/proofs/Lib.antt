@@ -1,4 +1,3 @@
-pub mod Assumed
 pub mod Showing
 pub mod SetupSteps
 pub mod CallingSteps

@@ -28,7 +28,7 @@ use Rattle.case.specs.declared.Case.{Case}
 use Rattle.case.specs.Cases.{tallied, allocateCase, tearCase, caseAfter}
 use Rattle.case.specs.View.{view}
 use Rattle.case.proofs.Showing.{Shown, case-ext, tallied-sound}
-use Rattle.case.proofs.Assumed.{allocation-shown, allocation-long, allocation-outside, allocation-fits}
+use Rattle.book.proofs.Outputs.{allocation-shown, allocation-long, allocation-outside, allocation-fits}
 
 module _ (c : Case) (s : Sound (c .book) (c .roll)) (ok : CaseOk (view c)) where
   given : (pool price : ℕ) (shares : List ℕ) → length shares ≡ 32

@@ -38,10 +38,11 @@ use Rattle.accounts.proofs.ViewRounds as Y
 use Rattle.accounts.proofs.ViewBids as Z
 use Rattle.book.specs.Books.{newBook, withPools, openIn, nextRound, memberBook, roundBook}
 use Rattle.book.proofs.Sound.{Sound}
+use Rattle.book.proofs.Shown.{open-shown}
 use Rattle.case.specs.declared.Case.{Case}
 use Rattle.case.specs.Cases.{tallied, newCase, poolCase, headFrom, caseAfter}
 use Rattle.case.specs.View.{view}
-use Rattle.case.proofs.Showing.{Shown, case-ext, tallied-sound, length-roll, open-units}
+use Rattle.case.proofs.Showing.{Shown, case-ext, tallied-sound, length-roll}
 
 -- ---- four numbers
 
@@ -138,7 +139,7 @@ module _ (c : Case) (s : Sound (c .book) (c .roll)) (ok : CaseOk (view c)) where
             refl refl refl
             (Y.view-put-round (b .head .pools) (b .rounds) _ _ (viewRoll r) rs (s .rounds) room most long
             (λ p l. four-at (λ k. getD rs k 0) 0 p (omega arith))
-            (λ p l. four-at (λ k. ltb 0 (openIn b k)) false p (omega arith) ∙ ap (ltb 0) (open-units b r s p (omega arith))))
+            (λ p l. four-at (λ k. ltb 0 (openIn b k)) false p (omega arith) ∙ ap (ltb 0) (open-shown b r s ok p)))
             refl refl;
         sound = record {
           set = s .set;

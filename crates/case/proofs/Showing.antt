@@ -1,11 +1,11 @@
 -- What is to be shown of the case after an accepted call: it shows the machine's case, and it is sound. Assumes nothing.
 use mathlib.Core.Path.{_≡_, refl}
-use Prim.Native.Nat.{ℕ, _^_, _<_}
+use Prim.Native.Nat.{_^_, _<_}
 use native.Mathlib.Omega.{arith}
 use lib.ListN.{length, length-map}
 use lib.Seq.{length-take-le}
 use Rattle.machine.specs.Wire as Wire
-use Rattle.machine.specs.Roll.{Entry, openUnits}
+use Rattle.machine.specs.Roll.{Entry}
 use Rattle.machine.specs.State as M
 use Rattle.machine.specs.Calls.{accepted}
 use Rattle.machine.proofs.Invariant.{EntryOk}
@@ -15,14 +15,12 @@ use Rattle.roll.specs.Rolls.{counted}
 use Rattle.roll.specs.View.{viewRoll}
 use Rattle.roll.proofs.Kept.{Whole}
 use Rattle.roll.proofs.Agree.{SoldBelow}
-use Rattle.roll.proofs.ViewCounts.{view-open-units}
 use Rattle.accounts.specs.Bids.{wonTable}
 use Rattle.accounts.proofs.ViewPools.{PoolsLong}
 use Rattle.accounts.proofs.ViewMembers.{MembersLong}
 use Rattle.accounts.proofs.ViewRounds.{RoundsLong}
 use Rattle.accounts.proofs.ViewBids.{BidsLong}
 use Rattle.book.specs.declared.Book.{Book}
-use Rattle.book.specs.Books.{openIn}
 use Rattle.book.proofs.Sound.{Sound}
 use Rattle.case.specs.declared.Case.{Case}
 use Rattle.case.specs.Cases.{tallied, caseAfter}
@@ -56,11 +54,6 @@ tallied-sound b r set pools members rounds bids roll won =
 -- as many entries are shown as count
 pub length-roll : (r : Roll) → Whole r → length (viewRoll r) ≡ r .len
 length-roll r w = simp (length-map (counted r) entryOf, length-take-le (r .len) (r .entries) (omega (arith, w .few, w .long)))
-
--- the open units of a pool
-pub open-units : (b : Book) (r : Roll) → Sound b r → (pool : ℕ) → pool < 4 → openIn b pool ≡ openUnits (viewRoll r) pool
-unfolding openIn
-open-units b r s pool l = rw (s .tally) (view-open-units r (b .bids .price) pool l)
 
 -- an entry that is sold is sold to a bid that is kept
 pub sold-kept : (c : M.Case) (e : Entry) → EntryOk (c .head) (c .bids) (e .pool) (e .state) → SoldBelow (length (c .bids)) e
