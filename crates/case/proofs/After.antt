@@ -29,7 +29,7 @@ use Rattle.case.specs.Cases.{applied, noHeld}
 use Rattle.case.specs.Readings.{shownResult, seen}
 use Rattle.case.specs.Claim.{Charges, AfterFinish, Finishes}
 use Rattle.case.specs.Input.{ledgerAfter}
-use Rattle.case.proofs.Awaited.{loss-shown, limits-shown, charges-shown, uncovered-shown, rank-shown, on-contribution-shown, on-payments-shown}
+use Rattle.book.proofs.ResultShown.{loss-shown, limits-shown, charges-shown, uncovered-shown, rank-shown, on-contribution-shown, on-payments-shown}
 use Rattle.case.proofs.Observations.{prices-shown}
 use Rattle.case.proofs.Claim.{Holds, takes-call, ledger-tied}
 

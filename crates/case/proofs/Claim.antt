@@ -32,7 +32,7 @@ use Rattle.case.specs.Cases.{caseAfter, bookAnswerTo, firstAnswerTo, ans
 use Rattle.case.specs.Readings.{seen}
 use Rattle.case.specs.Claim.{Bytes, Agrees, ledgerFrom}
 use Rattle.case.specs.Input.{Runs, ledgerAfter, ledgerAnswers}
-use Rattle.case.proofs.Awaited.{next-shown, head-shown}
+use Rattle.case.proofs.Steps.{next-shown, head-shown}
 use Rattle.case.proofs.Decoded.{Read, AllRead, drop-bytes, read-fits, decoded-read, answer-shown, first-shown}
 use Rattle.case.proofs.Observations.{case-observed, none-observed}
 

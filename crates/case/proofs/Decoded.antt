@@ -1,6 +1,6 @@
 -- What the bytes of a call say of it, and that the program answers every such call as the machine does. Assumes nothing.
 use mathlib.Core.Path.{_≡_, refl, sym, ap, _∙_}
-use mathlib.Core.Bool.{true, false, _&&_}
+use mathlib.Core.Bool.{true, _&&_}
 use mathlib.Core.List.{List, [], _∷_}
 use mathlib.Core.Option.{Option, none, some}
 use Prim.Native.Nat.{ℕ, zero, suc, _+_, _*_, _/_, _%_, _^_, _≤_, _<_}
@@ -15,6 +15,7 @@ use Rattle.lists.proofs.Places.{length-tab, tab-self}
 use Rattle.machine.specs.Wire.{Head, Call, HEAD, POOL, MEMBER, ROUND, BID, CLOSE, ALLOCATE, TEAR, CALL, PAY, MOVE, MISS, FINISH, bigEndian, number, price, rightLength, callOf, decode}
 use Rattle.machine.specs.State as M
 use Rattle.machine.specs.Refusals.{tests, refusal}
+use Rattle.machine.proofs.Stages.{letter-some}
 use Rattle.machine.proofs.Invariant.{CaseOk}
 use Rattle.machine.proofs.Reached.{Fits}
 use Rattle.book.proofs.Sound.{Sound}
@@ -119,19 +120,10 @@ four : (es : List ℕ) → length es ≡ 4 → (getD es 0 0 ∷ getD es 1 0 ∷ 
 unfolding tab
 four es long = sym (rw long at (tab-self 0 es))
 
--- every stage has a letter
-some-letter : (s : M.Stage) → eqb (M.letter s) 0 ≡ false
-unfolding M.letter
-some-letter M.Setup = refl
-some-letter (M.Bidding round) = refl
-some-letter (M.After round) = refl
-some-letter M.CallsOut = refl
-some-letter M.Finished = refl
-
 -- HEAD is declined where a case is held
 head-again : (c : M.Case) (h : Head) → refusal (some c) (HEAD h) ≡ 2
 unfolding refusal tests firstOf M.letterOf
-head-again c h = rw (some-letter (c .stage))
+head-again c h = rw (letter-some (c .stage))
 
 -- where a case is held
 pub answer-shown : (c : Case) → Sound (c .book) (c .roll) → CaseOk (view c) → (call : Call) → Read call → bookAnswer (c .book) call ≡ refusal (some (view c)) call

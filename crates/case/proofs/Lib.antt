@@ -1,3 +1,10 @@
+pub mod Showing
+pub mod SetupSteps
+pub mod CallingSteps
+pub mod BiddingSteps
+pub mod PlacingSteps
+pub mod ClosingSteps
+pub mod Steps
 pub mod Awaited
 pub mod Decoded
 pub mod Observations

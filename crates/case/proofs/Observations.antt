@@ -27,7 +27,8 @@ use Rattle.case.specs.declared.Case.{Case}
 use Rattle.case.specs.declared.Held.{Held}
 use Rattle.case.specs.View.{view}
 use Rattle.case.specs.Readings.{countsIn, holdingIn, sumOfPricesIn, memberResultIn, shownResult, seen}
-use Rattle.case.proofs.Awaited.{sum-of-prices-shown, loss-shown, charges-shown, uncovered-shown, rank-shown, on-contribution-shown, on-payments-shown}
+use Rattle.book.proofs.Shown.{sum-of-prices-shown}
+use Rattle.book.proofs.ResultShown.{loss-shown, charges-shown, uncovered-shown, rank-shown, on-contribution-shown, on-payments-shown}
 
 module _ (c : Case) (sound : Sound (c .book) (c .roll)) (ok : CaseOk (view c)) where
   -- ---- the counts
