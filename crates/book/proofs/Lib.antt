@@ -3,3 +3,4 @@ pub mod Bounds
 pub mod Finished
 pub mod Ranges
 pub mod Shown
+pub mod AnswersShown
