@@ -10,13 +10,12 @@ use native.Mathlib.Omega.{arith}
 use lib.Dec.{eqb, leb}
 use lib.ListN.{length, getD, take, length-take}
 use borrow.Author.Tests.{leb-false, eqb-true, eq-eqb, not-false}
-use Rattle.lists.specs.Lists.{any, places}
-use Rattle.lists.specs.Tests.{firstOf}
+use Rattle.lists.specs.Lists.{if_then_else_, any, places}
+use Rattle.lists.specs.Tests.{Test, firstOf}
 use Rattle.lists.proofs.Bools.{cases, bool-ext, lt-or-le}
 use Rattle.lists.proofs.Each.{each-more, each-kept-at}
 use Rattle.lists.proofs.Counts.{each-any, any-false}
 use Rattle.lists.proofs.Places.{length-tab, getD-tab}
-use Rattle.lists.proofs.Passed.{first-same}
 use Rattle.sets.specs.Set.{member, members}
 use Rattle.sets.proofs.Bits.{member-high}
 use Rattle.sets.proofs.Members.{members-each, ext}
@@ -37,6 +36,15 @@ use Rattle.book.specs.Answers.{headAnswer, poolAnswer, memberAnswer, rou
 use Rattle.book.specs.View.{viewOf}
 use Rattle.book.proofs.Sound.{Sound}
 use Rattle.book.proofs.Shown.{open-shown, any-open-shown, requirement-shown, prefunded-shown, short-shown, passed-shown, debt-shown, someone-owes-shown}
+
+-- two lists of tests whose first tests come out alike, and whose others do where these fail
+same : (n : ℕ) (ts us : List Test) {t u : Bool} → t ≡ u → (u ≡ false → firstOf ts ≡ firstOf us) → firstOf ((n, t) ∷ ts) ≡ firstOf ((n, u) ∷ us)
+unfolding firstOf
+same n ts us {u = u} first rest = rw first (go u rest)
+  where
+    go : (v : Bool) → (v ≡ false → firstOf ts ≡ firstOf us) → (if v then n else firstOf ts) ≡ (if v then n else firstOf us)
+    go true rest = refl
+    go false rest = rest refl
 
 -- where there is no case
 pub head-answer : (h : Head) → headAnswer h ≡ refusal none (HEAD (headOf h))
@@ -80,9 +88,9 @@ module _ (b : Book) (r : Roll) (w : Sound b r) (ok : CaseOk (viewOf b r)) where
 
   -- where the sets are equal, nobody lacks
   none-lacks : b .members .given ≡ b .head .set → any lacks (members (b .head .set)) ≡ false
-  none-lacks same =
+  none-lacks equal =
       any-false lacks (members (b .head .set))
-      (each-more _ _ (λ m h. ap not (sym (given-shown m) ∙ ap (λ (s : ℕ). member s m) same ∙ h .1)) (members (b .head .set)) (members-each (b .head .set)))
+      (each-more _ _ (λ m h. ap not (sym (given-shown m) ∙ ap (λ (s : ℕ). member s m) equal ∙ h .1)) (members (b .head .set)) (members-each (b .head .set)))
 
   -- all members of the set are given exactly if the sets are equal
   pub all-given-shown : not (eqb (b .members .given) (b .head .set)) ≡ any (λ m. not (memberAt (viewMembers (b .members)) m .given)) (members (b .head .set))
@@ -95,52 +103,43 @@ module _ (b : Book) (r : Roll) (w : Sound b r) (ok : CaseOk (viewOf b r)) where
       (λ t. absurd (false≢true (sym (none-lacks (eqb-true given set t)) ∙ lacking)))
       (λ t. rw t)))
       (λ full.
-      let same : given ≡ set =
+      let equal : given ≡ set =
       ext given set (w .members .given) (w .set)
       (λ m l. bool-ext (member given m) (member set m)
       (λ g. ok .members .given-in-set m (sym (given-shown m) ∙ g))
       (λ i. given-each full m l i)) in
-      rw (full, eq-eqb given set same))
+      rw (full, eq-eqb given set equal))
 
   -- ---- the calls of stage S
 
   pub pool-answer : (pool units mark : ℕ) → poolAnswer b pool units mark ≡ refusal (some (viewOf b r)) (POOL pool units mark)
   unfolding poolAnswer refusal tests notInCase letterOf
   pool-answer pool units mark =
-      first-same _ _ (refl, refl, λ e. (refl, rw (VP.length-view (b .pools)), λ e. (refl, refl, λ e. tt)))
+      same 2 _ _ refl
+      (λ e. same 3 _ _ (rw (VP.length-view (b .pools)))
+      (λ e. same 5 _ _ refl
+      (λ e. refl)))
 
   pub member-answer : (m contribution p q s t : ℕ)
       → memberAnswer b m contribution p q s t ≡ refusal (some (viewOf b r)) (MEMBER m contribution (p ∷ q ∷ s ∷ t ∷ []))
   unfolding memberAnswer refusal tests notInSet letterOf
   member-answer m contribution p q s t =
-      first-same _ _ (refl, refl, λ e. (refl, rw (given-shown m), λ e. (refl, refl, λ e. tt)))
+      same 2 _ _ refl
+      (λ e. same 4 _ _ (rw (given-shown m))
+      (λ e. same 5 _ _ refl
+      (λ e. refl)))
 
   -- ROUND, by its number of reserves
   pub reserves-answer : (n p q s t : ℕ) → n ≤ 4 → roundAnswer b n p q s t ≡ refusal (some (viewOf b r)) (ROUND (take n (p ∷ q ∷ s ∷ t ∷ [])))
   unfolding roundAnswer refusal tests notGiven letterOf
   reserves-answer n p q s t few =
       let long : length (take n (p ∷ q ∷ s ∷ t ∷ [])) ≡ n = length-take n (p ∷ q ∷ s ∷ t ∷ []) ∙ min-eq-left few in
-      first-same _ _ (
-        refl,
-        rw (long, letter-some (c .stage)),
-        λ e. (
-          refl,
-          refl,
-          λ e. (
-            refl,
-            refl,
-            λ e. (
-              refl,
-              rw (any-open-shown b r w ok),
-              λ e. (
-                refl,
-                rw (VP.length-view (b .pools), all-given-shown),
-                λ e. tt,
-              ),
-            ),
-          ),
-        ),
-      )
+      same 1 _ _ (rw (long, letter-some (c .stage)))
+      (λ e. same 2 _ _ refl
+      (λ e. same 5 _ _ refl
+      (λ e. same 8 _ _ (rw (any-open-shown b r w ok))
+      (λ e. same 10 _ _ (rw (VP.length-view (b .pools), all-given-shown))
+      (λ e. refl)))))
 
   pub round-answer : (rs : List ℕ) → length rs ≤ 4
       → roundAnswer b (length rs) (getD rs 0 0) (getD rs 1 0) (getD rs 2 0) (getD rs 3 0) ≡ refusal (some (viewOf b r)) (ROUND rs)
@@ -153,35 +152,14 @@ module _ (b : Book) (r : Roll) (w : Sound b r) (ok : CaseOk (viewOf b r)) where
   pub bid-answer : (pool m units price : ℕ) → bidAnswer b pool m units price ≡ refusal (some (viewOf b r)) (BID pool m units price)
   unfolding bidAnswer refusal tests notInCase notInSet noneOpen letterOf
   bid-answer pool m units price =
-      first-same _ _ (
-        refl,
-        refl,
-        λ e. (
-          refl,
-          refl,
-          λ e. (
-            refl,
-            refl,
-            λ e. (
-              refl,
-              refl,
-              λ e. (
-                refl,
-                refl,
-                λ e. (
-                  refl,
-                  rw (VB.length-view (b .bids)),
-                  λ e. (
-                    refl,
-                    rw (open-shown b r w ok pool),
-                    λ e. tt,
-                  ),
-                ),
-              ),
-            ),
-          ),
-        ),
-      )
+      same 2 _ _ refl
+      (λ e. same 3 _ _ refl
+      (λ e. same 4 _ _ refl
+      (λ e. same 5 _ _ refl
+      (λ e. same 6 _ _ refl
+      (λ e. same 7 _ _ (rw (VB.length-view (b .bids)))
+      (λ e. same 8 _ _ (rw (open-shown b r w ok pool))
+      (λ e. refl)))))))
 
   pub close-answer : closeAnswer b ≡ refusal (some (viewOf b r)) CLOSE
   unfolding closeAnswer refusal tests letterOf
@@ -199,103 +177,64 @@ module _ (b : Book) (r : Roll) (w : Sound b r) (ok : CaseOk (viewOf b r)) where
   pub allocate-answer : (pool price : ℕ) → allocateAnswer b pool price ≡ refusal (some (viewOf b r)) (ALLOCATE pool price)
   unfolding allocateAnswer refusal tests notInCase noneOpen letterOf
   allocate-answer pool price =
-      first-same _ _ (
-        refl,
-        refl,
-        λ stage. (
-          refl,
-          refl,
-          λ inside. (
-            refl,
-            refl,
-            λ e. (
-              refl,
-              rw (open-shown b r w ok pool),
-              λ e. (
-                refl,
-                mark-in pool stage inside,
-                λ e. (
-                  refl,
-                  rw (short-shown b r w ok pool (omega (arith, leb-false (b .head .pools) pool inside, ok .head .pools-most))),
-                  λ e. tt,
-                ),
-              ),
-            ),
-          ),
-        ),
-      )
+      same 2 _ _ refl
+      (λ stage. same 3 _ _ refl
+      (λ inside. same 5 _ _ refl
+      (λ e. same 8 _ _ (rw (open-shown b r w ok pool))
+      (λ e. same 9 _ _ (mark-in pool stage inside)
+      (λ e. same 10 _ _ (rw (short-shown b r w ok pool (omega (arith, leb-false (b .head .pools) pool inside, ok .head .pools-most))))
+      (λ e. refl))))))
 
   pub tear-answer : (pool price : ℕ) → tearAnswer b pool price ≡ refusal (some (viewOf b r)) (TEAR pool price)
   unfolding tearAnswer refusal tests notInCase noneOpen letterOf
   tear-answer pool price =
-      first-same _ _ (refl, refl, λ e. (refl, refl, λ e. (refl, refl, λ e. (refl, rw (open-shown b r w ok pool), λ e. tt))))
+      same 2 _ _ refl
+      (λ e. same 3 _ _ refl
+      (λ e. same 5 _ _ refl
+      (λ e. same 8 _ _ (rw (open-shown b r w ok pool))
+      (λ e. refl))))
 
   pub call-answer : callAnswer b ≡ refusal (some (viewOf b r)) CALL
   unfolding callAnswer refusal tests letterOf
   call-answer =
-      first-same _ _ (
-        refl,
-        refl,
-        λ e. (
-          refl,
-          any-open-shown b r w ok,
-          λ e. (
-            refl,
-            rw (requirement-shown b r w ok, prefunded-shown b r w ok),
-            λ e. tt,
-          ),
-        ),
-      )
+      same 2 _ _ refl
+      (λ e. same 11 _ _ (any-open-shown b r w ok)
+      (λ e. same 12 _ _ (rw (requirement-shown b r w ok, prefunded-shown b r w ok))
+      (λ e. refl)))
 
   -- ---- the calls of stage C
 
   pub pay-answer : (m amount : ℕ) → payAnswer b m amount ≡ refusal (some (viewOf b r)) (PAY m amount)
   unfolding payAnswer refusal tests notInSet letterOf
   pay-answer m amount =
-      first-same _ _ (refl, refl, λ e. (refl, refl, λ e. (refl, refl, λ e. (refl, rw (debt-shown b r w ok m), λ e. tt))))
+      same 2 _ _ refl
+      (λ e. same 4 _ _ refl
+      (λ e. same 5 _ _ refl
+      (λ e. same 14 _ _ (rw (debt-shown b r w ok m))
+      (λ e. refl))))
 
   pub move-answer : (m : ℕ) → moveAnswer b m ≡ refusal (some (viewOf b r)) (MOVE m)
   unfolding moveAnswer refusal tests notInSet letterOf
-  move-answer m = first-same _ _ (refl, refl, λ e. (refl, refl, λ e. (refl, rw (debt-shown b r w ok m), λ e. tt)))
+  move-answer m =
+      same 2 _ _ refl
+      (λ e. same 4 _ _ refl
+      (λ e. same 14 _ _ (rw (debt-shown b r w ok m))
+      (λ e. refl)))
 
   pub miss-answer : (m price : ℕ) → missAnswer b m price ≡ refusal (some (viewOf b r)) (MISS m price)
   unfolding missAnswer refusal tests notInSet letterOf
   miss-answer m price =
-      first-same _ _ (
-        refl,
-        refl,
-        λ e. (
-          refl,
-          refl,
-          λ inside. (
-            refl,
-            refl,
-            λ e. (
-              refl,
-              passed-shown b r w ok m (not-false _ inside),
-              λ e. tt,
-            ),
-          ),
-        ),
-      )
+      same 2 _ _ refl
+      (λ e. same 4 _ _ refl
+      (λ inside. same 5 _ _ refl
+      (λ e. same 16 _ _ (passed-shown b r w ok m (not-false _ inside))
+      (λ e. refl))))
 
   pub finish-answer : finishAnswer b ≡ refusal (some (viewOf b r)) FINISH
   unfolding finishAnswer refusal tests letterOf
   finish-answer =
-      first-same _ _ (
-        refl,
-        refl,
-        λ e. (
-          refl,
-          any-open-shown b r w ok,
-          λ e. (
-            refl,
-            rw (requirement-shown b r w ok, prefunded-shown b r w ok),
-            λ e. (
-              refl,
-              someone-owes-shown b r w ok,
-              λ e. tt,
-            ),
-          ),
-        ),
-      )
+      same 2 _ _ refl
+      (λ e. same 11 _ _ (any-open-shown b r w ok)
+      (λ e. same 13 _ _ (rw (requirement-shown b r w ok, prefunded-shown b r w ok))
+      (λ e. same 15 _ _ (someone-owes-shown b r w ok)
+      (λ e. refl))))
