@@ -23,7 +23,7 @@ use Rattle.case.specs.declared.Case.{Case}
 use Rattle.case.specs.View.{view}
 use Rattle.case.specs.Claim.{Bytes}
 use Rattle.case.specs.Cases.{headFrom, bookAnswer, firstAnswer}
-use Rattle.case.proofs.Awaited.{head-answer, pool-answer, member-answer, round-answer, bid-answer, close-answer, allocate-answer, tear-answer, call-answer, pay-answer, move-answer, miss-answer, finish-answer}
+use Rattle.book.proofs.AnswersShown.{head-answer, pool-answer, member-answer, round-answer, bid-answer, close-answer, allocate-answer, tear-answer, call-answer, pay-answer, move-answer, miss-answer, finish-answer}
 
 -- ---- the bytes
 

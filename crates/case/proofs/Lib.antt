@@ -5,7 +5,6 @@ pub mod BiddingSteps
 pub mod PlacingSteps
 pub mod ClosingSteps
 pub mod Steps
-pub mod Awaited
 pub mod Decoded
 pub mod Observations
 pub mod Claim
