@@ -16,16 +16,17 @@ use Rattle.lists.proofs.Each.{Each, each-more, each-both, map-ext}
 use Rattle.lists.proofs.Passed.{Passed}
 use Rattle.auction.specs.Price.{priceOk, priceLimit}
 use Rattle.machine.specs.Wire as Wire
-use Rattle.machine.specs.Roll.{isOpen}
+use Rattle.machine.specs.Roll.{Entry, isOpen}
+use Rattle.machine.specs.State as M
 use Rattle.machine.specs.Calls.{afterBid, accepted}
 use Rattle.machine.specs.Refusals.{tests, bidOk}
-use Rattle.machine.proofs.Invariant.{CaseOk}
+use Rattle.machine.proofs.Invariant.{EntryOk, CaseOk}
 use Rattle.roll.specs.declared.Roll.{Roll}
 use Rattle.roll.specs.Entries.{entryOf, priceIn}
 use Rattle.roll.specs.Rolls.{counted}
 use Rattle.roll.specs.Tally.{tallyOf}
 use Rattle.roll.specs.View.{viewRoll}
-use Rattle.roll.proofs.Agree.{prices-agree}
+use Rattle.roll.proofs.Agree.{SoldBelow, prices-agree}
 use Rattle.accounts.specs.declared.bids.Bids.{Bids}
 use Rattle.accounts.specs.Bids.{putBid, viewBids}
 use Rattle.accounts.proofs.ViewBids.{length-view, price-shown, put-long, view-put}
@@ -37,7 +38,7 @@ use Rattle.book.proofs.Shown.{prices-lent}
 use Rattle.case.specs.declared.Case.{Case}
 use Rattle.case.specs.Cases.{caseAfter}
 use Rattle.case.specs.View.{view}
-use Rattle.case.proofs.Showing.{Shown, case-ext, sold-kept}
+use Rattle.case.proofs.Showing.{Shown, case-ext}
 
 -- the tally is the same with other prices of bids that no entry is sold to
 tally-same : (r : Roll) (old new : List ℕ) → Each (λ e. priceIn old (e .state) ≡ priceIn new (e .state)) (counted r) → tallyOf r old ≡ tallyOf r new
@@ -56,6 +57,10 @@ tally-same r old new same =
 put-price : (x : Bids) (round pool m units price : ℕ) → x .kept < 256 → putBid x round pool m units price .price ≡ set (x .price) (x .kept) price
 unfolding putBid
 put-price x round pool m units price room = rw (lt-ltb (x .kept) 256 room)
+
+-- an entry that is sold is sold to a bid that is kept
+sold-kept : (c : M.Case) (e : Entry) → EntryOk (c .head) (c .bids) (e .pool) (e .state) → SoldBelow (length (c .bids)) e
+sold-kept c e o b same = (rw same at o) .0
 
 module _ (c : Case) (s : Sound (c .book) (c .roll)) (ok : CaseOk (view c)) where
   pub bid-shown : (pool m units price : ℕ) → Passed (tests (some (view c)) (view c) (Wire.BID pool m units price)) → Shown c (Wire.BID pool m units price)

@@ -5,16 +5,13 @@ use native.Mathlib.Omega.{arith}
 use lib.ListN.{length, length-map}
 use lib.Seq.{length-take-le}
 use Rattle.machine.specs.Wire as Wire
-use Rattle.machine.specs.Roll.{Entry}
 use Rattle.machine.specs.State as M
 use Rattle.machine.specs.Calls.{accepted}
-use Rattle.machine.proofs.Invariant.{EntryOk}
 use Rattle.roll.specs.declared.Roll.{Roll}
 use Rattle.roll.specs.Entries.{entryOf}
 use Rattle.roll.specs.Rolls.{counted}
 use Rattle.roll.specs.View.{viewRoll}
 use Rattle.roll.proofs.Kept.{Whole}
-use Rattle.roll.proofs.Agree.{SoldBelow}
 use Rattle.accounts.specs.Bids.{wonTable}
 use Rattle.accounts.proofs.ViewPools.{PoolsLong}
 use Rattle.accounts.proofs.ViewMembers.{MembersLong}
@@ -54,7 +51,3 @@ tallied-sound b r set pools members rounds bids roll won =
 -- as many entries are shown as count
 pub length-roll : (r : Roll) → Whole r → length (viewRoll r) ≡ r .len
 length-roll r w = simp (length-map (counted r) entryOf, length-take-le (r .len) (r .entries) (omega (arith, w .few, w .long)))
-
--- an entry that is sold is sold to a bid that is kept
-pub sold-kept : (c : M.Case) (e : Entry) → EntryOk (c .head) (c .bids) (e .pool) (e .state) → SoldBelow (length (c .bids)) e
-sold-kept c e o b same = (rw same at o) .0
