@@ -1,0 +1,11 @@
+pub mod Showing
+pub mod SetupSteps
+pub mod CallingSteps
+pub mod BiddingSteps
+pub mod PlacingSteps
+pub mod ClosingSteps
+pub mod Steps
+pub mod Decoded
+pub mod Observations
+pub mod Claim
+pub mod After
