@@ -17,7 +17,7 @@ use Rattle.machine.specs.State as M
 use Rattle.machine.specs.Result.{rank, onContribution, onPayments}
 use Rattle.machine.specs.Run.{MemberResult, fiveCounts, holding, sumOfPrices, resultOf, observed}
 use Rattle.machine.proofs.Invariant.{CaseOk, EntryOk}
-use Rattle.roll.proofs.Agree.{SoldBelow, prices-agree, holders-agree}
+use Rattle.roll.proofs.Agree.{SoldBelow, holders-agree}
 use Rattle.roll.proofs.ViewCounts.{view-counts, view-holding}
 use Rattle.accounts.specs.Bids.{viewBids}
 use Rattle.accounts.proofs.ViewPools as P
@@ -27,7 +27,7 @@ use Rattle.case.specs.declared.Case.{Case}
 use Rattle.case.specs.declared.Held.{Held}
 use Rattle.case.specs.View.{view}
 use Rattle.case.specs.Readings.{countsIn, holdingIn, sumOfPricesIn, memberResultIn, shownResult, seen}
-use Rattle.book.proofs.Shown.{sum-of-prices-shown}
+use Rattle.book.proofs.Shown.{prices-lent, sum-of-prices-shown}
 use Rattle.book.proofs.ResultShown.{loss-shown, charges-shown, uncovered-shown, rank-shown, on-contribution-shown, on-payments-shown}
 
 module _ (c : Case) (sound : Sound (c .book) (c .roll)) (ok : CaseOk (view c)) where
@@ -54,7 +54,7 @@ module _ (c : Case) (sound : Sound (c .book) (c .roll)) (ok : CaseOk (view c)) w
       let kept = B.length-view bids in
       view-holding (c .roll) (bids .member) (bids .price) m pool price (viewBids bids)
       (holders-agree (c .roll) (viewBids bids) sold-below (bids .member) m (λ b l. B.member-shown bids b (omega (arith, kept))))
-      (prices-agree (c .roll) (viewBids bids) sold-below (bids .price) (λ b l. B.price-shown bids b (omega (arith, kept))))
+      (prices-lent (c .book) (c .roll) sound ok)
 
   -- ---- the sum of prices
 
