@@ -1,0 +1,38 @@
+use borrow.Author.Needs.{needs}
+use Rattle.case.proofs.Case.after_allocate.Statement.{statement}
+use Rattle.case.proofs.Case.after_allocate.Tie as tie
+use Rattle.case.proofs.Case.after_allocate.Reads as reads
+use Rattle.case.proofs.Case.after_allocate.Lts as lts
+use Rattle.accounts.proofs.members.Members.allocate.Reads as allocate-reads
+use Rattle.book.proofs.Book.allocation.Reads as allocation-reads
+use Rattle.case.proofs.with_tally.Reads as with-tally-reads
+use Rattle.roll.proofs.Roll.give.Reads as give-reads
+
+allocation-requires : tie.Need-allocation-requires
+allocation-requires c κs = search needs
+
+allocate-requires : tie.Need-allocate-requires
+allocate-requires c κs = search needs
+
+slice-aggregate-give : tie.Need-slice-aggregate-give
+slice-aggregate-give c = search needs
+
+give-requires : tie.Need-give-requires
+give-requires c κs = search needs
+
+with-tally-requires : tie.Need-with-tally-requires
+with-tally-requires c κs = search needs
+
+returns : tie.Need-returns
+returns c = ?
+
+pub after-allocate-spec : {M : Type 1} → statement M
+after-allocate-spec =
+    tie.close
+    (tie.spec
+    allocation-requires
+    allocate-requires
+    slice-aggregate-give
+    give-requires
+    with-tally-requires
+    returns)

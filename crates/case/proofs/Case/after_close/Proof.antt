@@ -1,0 +1,51 @@
+use borrow.Author.Needs.{needs}
+use Rattle.case.proofs.Case.after_close.Statement.{statement}
+use Rattle.case.proofs.Case.after_close.Tie as tie
+use Rattle.case.proofs.Case.after_close.Reads as reads
+use Rattle.case.proofs.Case.after_close.Lts as lts
+use Rattle.accounts.proofs.bids.Bids.won_table.Reads as won-table-reads
+use Rattle.accounts.proofs.members.Members.win.Reads as win-reads
+use Rattle.book.proofs.round_of.Reads as round-of-reads
+use Rattle.case.proofs.Case.close_pool.Reads as close-pool-reads
+use Rattle.case.proofs.with_tally.Reads as with-tally-reads
+
+round-of-requires : tie.Need-round-of-requires
+round-of-requires c κs = search needs
+
+close-pool-requires : tie.Need-close-pool-requires
+close-pool-requires c κs = search needs
+
+close-pool-requires-2 : tie.Need-close-pool-requires-2
+close-pool-requires-2 c κs = search needs
+
+close-pool-requires-3 : tie.Need-close-pool-requires-3
+close-pool-requires-3 c κs = search needs
+
+close-pool-requires-4 : tie.Need-close-pool-requires-4
+close-pool-requires-4 c κs = search needs
+
+won-table-requires : tie.Need-won-table-requires
+won-table-requires c κs = search needs
+
+win-requires : tie.Need-win-requires
+win-requires c κs = search needs
+
+with-tally-requires : tie.Need-with-tally-requires
+with-tally-requires c κs = search needs
+
+returns : tie.Need-returns
+returns c = ?
+
+pub after-close-spec : {M : Type 1} → statement M
+after-close-spec =
+    tie.close
+    (tie.spec
+    round-of-requires
+    close-pool-requires
+    close-pool-requires-2
+    close-pool-requires-3
+    close-pool-requires-4
+    won-table-requires
+    win-requires
+    with-tally-requires
+    returns)

@@ -1,0 +1,29 @@
+use borrow.Author.Needs.{needs}
+use Rattle.case.proofs.Case.after_move.Statement.{statement}
+use Rattle.case.proofs.Case.after_move.Tie as tie
+use Rattle.case.proofs.Case.after_move.Reads as reads
+use Rattle.case.proofs.Case.after_move.Lts as lts
+use Rattle.accounts.proofs.members.Members.move_out.Reads as move-out-reads
+use Rattle.accounts.proofs.members.Members.owes.Reads as owes-reads
+use Rattle.case.proofs.with_tally.Reads as with-tally-reads
+use Rattle.roll.proofs.Roll.move_to.Reads as move-to-reads
+
+owes-requires : tie.Need-owes-requires
+owes-requires c κs = search needs
+
+move-out-requires : tie.Need-move-out-requires
+move-out-requires c κs = search needs
+
+move-to-requires : tie.Need-move-to-requires
+move-to-requires c κs = search needs
+
+with-tally-requires : tie.Need-with-tally-requires
+with-tally-requires c κs = search needs
+
+returns : tie.Need-returns
+returns c = ?
+
+pub after-move-spec : {M : Type 1} → statement M
+after-move-spec =
+    tie.close
+    (tie.spec owes-requires move-out-requires move-to-requires with-tally-requires returns)

@@ -1,0 +1,23 @@
+use borrow.Author.Needs.{needs}
+use Rattle.case.proofs.Case.after_pool.Statement.{statement}
+use Rattle.case.proofs.Case.after_pool.Tie as tie
+use Rattle.case.proofs.Case.after_pool.Reads as reads
+use Rattle.case.proofs.Case.after_pool.Lts as lts
+use Rattle.accounts.proofs.pools.Pools.put.Reads as put-reads
+use Rattle.case.proofs.with_tally.Reads as with-tally-reads
+use Rattle.roll.proofs.Roll.put_up.Reads as put-up-reads
+
+put-requires : tie.Need-put-requires
+put-requires c κs = search needs
+
+put-up-requires : tie.Need-put-up-requires
+put-up-requires c κs = search needs
+
+with-tally-requires : tie.Need-with-tally-requires
+with-tally-requires c κs = search needs
+
+returns : tie.Need-returns
+returns c = ?
+
+pub after-pool-spec : {M : Type 1} → statement M
+after-pool-spec = tie.close (tie.spec put-requires put-up-requires with-tally-requires returns)

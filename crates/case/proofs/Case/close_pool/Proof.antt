@@ -1,0 +1,52 @@
+use borrow.Author.Needs.{needs}
+use Rattle.case.proofs.Case.close_pool.Statement.{statement}
+use Rattle.case.proofs.Case.close_pool.Tie as tie
+use Rattle.case.proofs.Case.close_pool.Reads as reads
+use Rattle.case.proofs.Case.close_pool.Lts as lts
+use Rattle.accounts.proofs.bids.Bids.take_wins.Reads as take-wins-reads
+use Rattle.accounts.proofs.bids.Bids.wins.Reads as wins-reads
+use Rattle.accounts.proofs.rounds.Rounds.reserve.Reads as reserve-reads
+use Rattle.book.proofs.Book.open_units.Reads as open-units-reads
+use Rattle.book.proofs.round_of.Reads as round-of-reads
+use Rattle.roll.proofs.Roll.give.Reads as give-reads
+
+returns : tie.Need-returns
+returns c = ?
+
+round-of-requires : tie.Need-round-of-requires
+round-of-requires c κs = search needs
+
+open-units-requires : tie.Need-open-units-requires
+open-units-requires c κs = search needs
+
+reserve-requires : tie.Need-reserve-requires
+reserve-requires c κs = search needs
+
+wins-requires : tie.Need-wins-requires
+wins-requires c κs = search needs
+
+take-wins-requires : tie.Need-take-wins-requires
+take-wins-requires c κs = search needs
+
+slice-aggregate-give : tie.Need-slice-aggregate-give
+slice-aggregate-give c = search needs
+
+give-requires : tie.Need-give-requires
+give-requires c κs = search needs
+
+returns-2 : tie.Need-returns-2
+returns-2 c = ?
+
+pub close-pool-spec : {M : Type 1} → statement M
+close-pool-spec =
+    tie.close
+    (tie.spec
+    returns
+    round-of-requires
+    open-units-requires
+    reserve-requires
+    wins-requires
+    take-wins-requires
+    slice-aggregate-give
+    give-requires
+    returns-2)

@@ -1,0 +1,22 @@
+use borrow.Author.Needs.{needs}
+use Rattle.case.proofs.Case.round.Statement.{statement}
+use Rattle.case.proofs.Case.round.Tie as tie
+use Rattle.case.proofs.Case.round.Reads as reads
+use Rattle.case.proofs.Case.round.Lts as lts
+use Rattle.case.proofs.after.Reads as after-reads
+use Rattle.case.proofs.answer_in.Reads as answer-in-reads
+
+answer-in-requires : tie.Need-answer-in-requires
+answer-in-requires c κs = search needs
+
+returns : tie.Need-returns
+returns c = ?
+
+after-requires : tie.Need-after-requires
+after-requires c κs = search needs
+
+returns-2 : tie.Need-returns-2
+returns-2 c = ?
+
+pub round-spec : {M : Type 1} → statement M
+round-spec = tie.close (tie.spec answer-in-requires returns after-requires returns-2)

@@ -1,0 +1,22 @@
+use borrow.Author.Needs.{needs}
+use Rattle.case.proofs.answer_to.Statement.{statement}
+use Rattle.case.proofs.answer_to.Tie as tie
+use Rattle.case.proofs.answer_to.Reads as reads
+use Rattle.case.proofs.answer_to.Lts as lts
+use Rattle.case.proofs.answer_in.Reads as answer-in-reads
+use Rattle.case.proofs.first_answer.Reads as first-answer-reads
+
+answer-in-requires : tie.Need-answer-in-requires
+answer-in-requires c κs = search needs
+
+first-answer-requires : tie.Need-first-answer-requires
+first-answer-requires c κs = search needs
+
+returns : tie.Need-returns
+returns c = ?
+
+returns-2 : tie.Need-returns-2
+returns-2 c = ?
+
+pub answer-to-spec : {M : Type 1} → statement M
+answer-to-spec = tie.close (tie.spec answer-in-requires first-answer-requires returns returns-2)
