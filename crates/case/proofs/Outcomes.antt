@@ -1,7 +1,7 @@
 -- A call that is declined hands the case back unchanged; an accepted one hands back the case after it. Also ROUND's reserves, read one by one.
 -- Assumes nothing.
 use mathlib.Core.Bool.{true}
-use mathlib.Core.List.{List}
+use mathlib.Core.List.{List, [], _∷_}
 use mathlib.Core.Option.{Option}
 use mathlib.Core.Path.{_≡_, ap, _∙_}
 use Prim.Native.Nat.{ℕ, min}
@@ -13,11 +13,14 @@ use borrow.Author.Tests.{eq-eqb, ne-eqb, ltb-true, ltb-false}
 use Rattle.lists.specs.Lists.{if_then_else_}
 use Rattle.lists.proofs.Bools.{by-test}
 use Rattle.machine.specs.Wire as Wire
+use Rattle.book.specs.declared.Book.{Book}
+use Rattle.book.specs.Books.{roundBook}
+use Rattle.book.specs.Answers.{roundAnswer}
 use Rattle.case.specs.declared.Case.{Case}
 use Rattle.case.specs.declared.Outcome.{Outcome}
 use Rattle.case.specs.declared.Held.{Held}
 use Rattle.case.specs.declared.Applied.{Applied}
-use Rattle.case.specs.Cases.{bookAnswer, caseAfter, outcome, outcomeOf, reserveIf, answerTo, afterAsked, takeAsked}
+use Rattle.case.specs.Cases.{bookAnswer, caseAfter, withBook, outcome, outcomeOf, reserveIf, answerTo, afterAsked, takeAsked}
 
 -- ---- a call as a method
 
@@ -68,3 +71,17 @@ reserve-at n i xs =
     by-test (λ (v : ℕ). getD (take n xs) i 0 ≡ v) (ltb i n)
     (λ t. getD-take n xs i 0 (ltb-true i n t))
     (λ f. List·getD-eq-default (take n xs) 0 {n = i} (omega (arith, ltb-false i n f, length-take n xs)))
+
+module _ (n p q r s : ℕ) where
+  reserves : List ℕ
+  reserves = p ∷ q ∷ r ∷ s ∷ []
+
+  pub round-answered : (b : Book)
+    → roundAnswer b (min n 4) (reserveIf n 0 p) (reserveIf n 1 q) (reserveIf n 2 r) (reserveIf n 3 s) ≡ bookAnswer b (Wire.ROUND (take n (p ∷ q ∷ r ∷ s ∷ [])))
+  unfolding bookAnswer reserves
+  round-answered b = rw (length-take n reserves, reserve-at n 0 reserves, reserve-at n 1 reserves, reserve-at n 2 reserves, reserve-at n 3 reserves)
+
+  pub round-taken : (c : Case)
+    → withBook c (roundBook (c .book) (reserveIf n 0 p) (reserveIf n 1 q) (reserveIf n 2 r) (reserveIf n 3 s)) ≡ caseAfter c (Wire.ROUND (take n (p ∷ q ∷ r ∷ s ∷ [])))
+  unfolding caseAfter reserves
+  round-taken c = rw (reserve-at n 0 reserves, reserve-at n 1 reserves, reserve-at n 2 reserves, reserve-at n 3 reserves)

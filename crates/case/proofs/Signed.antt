@@ -2,6 +2,7 @@
 use mathlib.Core.Path.{_≡_, refl, sym, _∙_}
 use mathlib.Core.Bool.{Bool, true, false, cond}
 use Prim.Native.Nat.{ℕ, zero, suc, _-_, _<_, _^_}
+use native.Mathlib.Nat.{add-zero}
 use native.Mathlib.Omega.{arith}
 use lib.Dec.{ltb}
 use lib.IntN.{ℤ, pos, negsuc, subℕ, _-ℤ_}
@@ -15,7 +16,7 @@ pub small : (a : ℕ) → a < 2 ^ 62 → toZ w64 a ≡ pos a
 small a h = toZ-ofZ {w = w64} {z = pos a} (record { sfits = omega arith })
 
 pub minus : (a b : ℕ) → pos a -ℤ pos b ≡ subℕ a b
-minus a zero = pos-sub a
+minus a zero = simp add-zero (pos-sub a)
 minus a (suc b) = refl
 
 pub sub-fits : (a b : ℕ) → a < 2 ^ 62 → b < 2 ^ 62 → SFits w64 (subℕ a b)

@@ -1,3 +1,7 @@
+-- `case::after` meets its contract. Assumes nothing.
+use Rattle.wire.specs.Asked.{asked}
+use Rattle.case.specs.Cases.{caseAfter, afterAsked}
+use Rattle.case.proofs.Outcomes.{round-taken}
 use borrow.Author.Needs.{needs}
 use Rattle.case.proofs.after.Statement.{statement}
 use Rattle.case.proofs.after.Tie as tie
@@ -112,46 +116,60 @@ enum-told-4 : tie.Need-enum-told-4
 enum-told-4 c = search needs
 
 returns : tie.Need-returns
-returns c = ?
+unfolding asked afterAsked caseAfter
+returns c = simp (c .before .before .call .given .1, c .new .ensures)
 
 returns-2 : tie.Need-returns-2
-returns-2 c = ?
+unfolding asked afterAsked caseAfter
+returns-2 c = simp (c .before .before .call2 .given .1, c .after-pool .ensures)
 
 returns-3 : tie.Need-returns-3
-returns-3 c = ?
+unfolding asked afterAsked caseAfter
+returns-3 c = simp (c .before .before .call3 .given .1, c .after-member .ensures)
 
 returns-4 : tie.Need-returns-4
-returns-4 c = ?
+unfolding asked afterAsked
+returns-4 c = simp (c .before .before .before .before .before .before .call4 .given .1, c .after-round .ensures, c .before .before .before .before .reserve-if .ensures, c .before .before .before .reserve-if2 .ensures, c .before .before .reserve-if3 .ensures, c .before .reserve-if4 .ensures) (round-taken _ _ _ _ _ _)
 
 returns-5 : tie.Need-returns-5
-returns-5 c = ?
+unfolding asked afterAsked caseAfter
+returns-5 c = simp (c .before .before .call5 .given .1, c .after-bid .ensures)
 
 returns-6 : tie.Need-returns-6
-returns-6 c = ?
+unfolding asked afterAsked caseAfter
+returns-6 c = simp (c .before .enum-told .given .1, c .after-close .ensures)
 
 returns-7 : tie.Need-returns-7
-returns-7 c = ?
+unfolding asked afterAsked caseAfter
+returns-7 c = simp (c .before .before .call6 .given .1, c .after-allocate .ensures)
 
 returns-8 : tie.Need-returns-8
-returns-8 c = ?
+unfolding asked afterAsked caseAfter
+returns-8 c = simp (c .before .before .call7 .given .1, c .after-tear .ensures)
 
 returns-9 : tie.Need-returns-9
-returns-9 c = ?
+unfolding asked afterAsked caseAfter
+returns-9 c = simp (c .before .enum-told2 .given .1, c .after-call .ensures)
 
 returns-10 : tie.Need-returns-10
-returns-10 c = ?
+unfolding asked afterAsked caseAfter
+returns-10 c = simp (c .before .before .call8 .given .1, c .after-pay .ensures)
 
 returns-11 : tie.Need-returns-11
-returns-11 c = ?
+unfolding asked afterAsked caseAfter
+returns-11 c = simp (c .before .before .call9 .given .1, c .after-move .ensures)
 
 returns-12 : tie.Need-returns-12
-returns-12 c = ?
+unfolding asked afterAsked caseAfter
+returns-12 c = simp (c .before .before .call10 .given .1, c .after-miss .ensures)
 
 returns-13 : tie.Need-returns-13
-returns-13 c = ?
+unfolding asked afterAsked caseAfter
+returns-13 c = simp (c .before .enum-told3 .given .1, c .after-finish .ensures)
 
 returns-14 : tie.Need-returns-14
-returns-14 c = ?
+unfolding asked afterAsked
+returns-14 c = simp (c .enum-told4 .given .1)
 
 pub after-spec : {M : Type 1} → statement M
 after-spec =

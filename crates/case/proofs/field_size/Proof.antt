@@ -1,3 +1,6 @@
+-- `case::field_size` meets its contract. Assumes nothing.
+use native.Mathlib.Omega.{arith}
+use Rattle.case.proofs.Fields.{size-cut, size-whole}
 use borrow.Author.Needs.{needs}
 use Rattle.case.proofs.field_size.Statement.{statement}
 use Rattle.case.proofs.field_size.Tie as tie
@@ -6,7 +9,7 @@ use Rattle.case.proofs.field_size.Lts as lts
 use Rattle.case.proofs.wide.Reads as wide-reads
 
 returns : tie.Need-returns
-returns c = ?
+returns c = size-cut (c .before .before .args .input .now) (c .if1 .taken)
 
 shared-slice-read-wide : tie.Need-shared-slice-read-wide
 shared-slice-read-wide c = search needs
@@ -30,10 +33,10 @@ add-size-2 : tie.Need-add-size-2
 add-size-2 c = search needs
 
 returns-2 : tie.Need-returns-2
-returns-2 c = ?
+returns-2 c = omega (arith, size-whole (c .before .before .before .before .before .before .before .args .input .now) (c .before .before .before .before .before .if1 .left))
 
 returns-3 : tie.Need-returns-3
-returns-3 c = ?
+returns-3 c = omega (arith, size-whole (c .before .before .before .before .before .before .before .args .input .now) (c .before .before .before .before .before .if1 .left))
 
 pub field-size-spec : {M : Type 1} → statement M
 field-size-spec =

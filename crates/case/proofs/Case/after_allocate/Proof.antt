@@ -1,3 +1,6 @@
+-- `case::Case::after_allocate` meets its contract. Assumes nothing.
+use mathlib.Core.Path.{_∙_}
+use Rattle.case.specs.Cases.{allocateCase}
 use borrow.Author.Needs.{needs}
 use Rattle.case.proofs.Case.after_allocate.Statement.{statement}
 use Rattle.case.proofs.Case.after_allocate.Tie as tie
@@ -24,7 +27,8 @@ with-tally-requires : tie.Need-with-tally-requires
 with-tally-requires c κs = search needs
 
 returns : tie.Need-returns
-returns c = ?
+unfolding allocateCase
+returns c = c .with-tally .ensures ∙ rw (c .before .give .ensures, c .before .before .before .before .allocate .ensures, c .before .before .before .before .before .before .allocation .ensures)
 
 pub after-allocate-spec : {M : Type 1} → statement M
 after-allocate-spec =

@@ -1,3 +1,6 @@
+-- `case::Case::after_close` meets its contract. Assumes nothing.
+use mathlib.Core.Path.{_∙_}
+use Rattle.case.specs.Cases.{closeCase}
 use borrow.Author.Needs.{needs}
 use Rattle.case.proofs.Case.after_close.Statement.{statement}
 use Rattle.case.proofs.Case.after_close.Tie as tie
@@ -34,7 +37,17 @@ with-tally-requires : tie.Need-with-tally-requires
 with-tally-requires c κs = search needs
 
 returns : tie.Need-returns
-returns c = ?
+unfolding closeCase
+returns c = 
+    c .with-tally .ensures
+    ∙ rw (
+    c .before .before .win .ensures,
+    c .before .before .before .won-table .ensures,
+    c .before .before .before .before .before .before .before .close-pool4 .ensures,
+    c .before .before .before .before .before .before .before .before .close-pool3 .ensures,
+    c .before .before .before .before .before .before .before .before .before .close-pool2 .ensures,
+    c .before .before .before .before .before .before .before .before .before .before .close-pool .ensures,
+    c .before .before .before .before .before .before .before .before .before .before .before .round-of .ensures)
 
 pub after-close-spec : {M : Type 1} → statement M
 after-close-spec =

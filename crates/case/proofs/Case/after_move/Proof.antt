@@ -1,3 +1,6 @@
+-- `case::Case::after_move` meets its contract. Assumes nothing.
+use mathlib.Core.Path.{_∙_}
+use Rattle.case.specs.Cases.{moveCase}
 use borrow.Author.Needs.{needs}
 use Rattle.case.proofs.Case.after_move.Statement.{statement}
 use Rattle.case.proofs.Case.after_move.Tie as tie
@@ -21,7 +24,8 @@ with-tally-requires : tie.Need-with-tally-requires
 with-tally-requires c κs = search needs
 
 returns : tie.Need-returns
-returns c = ?
+unfolding moveCase
+returns c = c .with-tally .ensures ∙ rw (c .before .move-to .ensures, c .before .before .before .before .before .before .move-out .ensures, c .before .before .before .before .before .before .before .owes .ensures)
 
 pub after-move-spec : {M : Type 1} → statement M
 after-move-spec =

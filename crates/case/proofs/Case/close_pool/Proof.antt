@@ -1,3 +1,6 @@
+-- `case::Case::close_pool` meets its contract. Assumes nothing.
+use borrow.Author.Tests.{lt-ltb, le-ltb}
+use Rattle.case.specs.Cases.{closePool}
 use borrow.Author.Needs.{needs}
 use Rattle.case.proofs.Case.close_pool.Statement.{statement}
 use Rattle.case.proofs.Case.close_pool.Tie as tie
@@ -11,7 +14,8 @@ use Rattle.book.proofs.round_of.Reads as round-of-reads
 use Rattle.roll.proofs.Roll.give.Reads as give-reads
 
 returns : tie.Need-returns
-returns c = ?
+unfolding closePool
+returns c = rw (le-ltb _ _ (c .if1 .taken))
 
 round-of-requires : tie.Need-round-of-requires
 round-of-requires c κs = search needs
@@ -35,7 +39,16 @@ give-requires : tie.Need-give-requires
 give-requires c κs = search needs
 
 returns-2 : tie.Need-returns-2
-returns-2 c = ?
+unfolding closePool
+returns-2 c = 
+    rw (
+    lt-ltb _ _ (c .before .before .before .before .before .before .before .before .before .before .if1 .left),
+    c .give .ensures,
+    c .before .before .before .take-wins .ensures,
+    c .before .before .before .before .wins .ensures,
+    c .before .before .before .before .before .reserve .ensures,
+    c .before .before .before .before .before .before .open-units .ensures,
+    c .before .before .before .before .before .before .before .before .before .round-of .ensures)
 
 pub close-pool-spec : {M : Type 1} → statement M
 close-pool-spec =

