@@ -1,3 +1,4 @@
 pub mod Outcomes
 pub mod Signed
 pub mod Fields
+pub mod Running

@@ -1,7 +1,7 @@
 -- `case::after` meets its contract. Assumes nothing.
 use Rattle.wire.specs.Asked.{asked}
 use Rattle.case.specs.Cases.{caseAfter, afterAsked}
-use Rattle.case.proofs.Outcomes.{round-taken}
+use Rattle.case.proofs.Outcomes.{reserve-at}
 use borrow.Author.Needs.{needs}
 use Rattle.case.proofs.after.Statement.{statement}
 use Rattle.case.proofs.after.Tie as tie
@@ -128,8 +128,8 @@ unfolding asked afterAsked caseAfter
 returns-3 c = simp (c .before .before .call3 .given .1, c .after-member .ensures)
 
 returns-4 : tie.Need-returns-4
-unfolding asked afterAsked
-returns-4 c = simp (c .before .before .before .before .before .before .call4 .given .1, c .after-round .ensures, c .before .before .before .before .reserve-if .ensures, c .before .before .before .reserve-if2 .ensures, c .before .before .reserve-if3 .ensures, c .before .reserve-if4 .ensures) (round-taken _ _ _ _ _ _)
+unfolding asked afterAsked caseAfter
+returns-4 c = simp (c .before .before .before .before .before .before .call4 .given .1, c .after-round .ensures, c .before .before .before .before .reserve-if .ensures, c .before .before .before .reserve-if2 .ensures, c .before .before .reserve-if3 .ensures, c .before .reserve-if4 .ensures, reserve-at)
 
 returns-5 : tie.Need-returns-5
 unfolding asked afterAsked caseAfter

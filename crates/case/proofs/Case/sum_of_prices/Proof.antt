@@ -32,7 +32,14 @@ difference-requires c κs = (omega (arith, c .before .prices .ensures, four-held
 
 returns : tie.Need-returns
 unfolding sumOfPricesIn
-returns c = ?
+returns c =
+    let a = c .before .before .before .before .args .self .book .tally in
+    ap (λ (z : ℤ). toZ w64 (ofZ w64 z)) (c .difference .ensures)
+    ∙ toZ-ofZ
+    (sub-fits (c .before .before .prices .result) (1_000_000 * c .before .priced .result)
+    (omega (arith, c .before .before .prices .ensures, four-held-le (a .prices) 8_000_000_000))
+    (omega (arith, c .before .priced .ensures, four-held-le (a .priced) 4_000)))
+    ∙ rw (c .before .before .prices .ensures, c .before .priced .ensures)
 
 pub sum-of-prices-spec : {M : Type 1} → statement M
 sum-of-prices-spec =
