@@ -9,7 +9,7 @@ use Prim.Native.Nat.{ℕ, zero, suc, _+_, _-_, _≤_, _<_, min}
 use native.Mathlib.Numerals.{add-one}
 use native.Mathlib.Omega.{arith}
 use lib.ListN.{length, set, take, drop, length-set, length-drop, take-append-drop, drop-of-length-le}
-use lib.Seq.{take-suc-set, drop-set-lt, drop-drop}
+use lib.Seq.{take-all, take-suc-set, drop-set-lt, drop-drop}
 use Rattle.machine.specs.Wire as Wire
 use Rattle.machine.specs.Printed.{fieldsIn}
 use Rattle.case.specs.declared.Held.{Held}
@@ -117,3 +117,17 @@ module _ (input old new : List ℕ) (held : Held) (at count : ℕ) (g : Going in
   pub holds-all : held ≡ ledgerAfter noHeld (fieldsIn (length old) input)
   unfolding ledgerAfter
   holds-all = rw (none-left input old at count d) at (g .ends)
+
+-- ---- the parts of the input as the code lends them
+
+module _ (input : List ℕ) (at size : ℕ) where
+  rest-all : take (length input - at) (drop at input) ≡ drop at input
+  rest-all = take-all (length input - at) (drop at input) (omega (arith, length-drop at input))
+
+  pub sized : size ≡ min (fieldSize (take (length input - at) (drop at input))) (length (take (length input - at) (drop at input)))
+    → size ≡ first-size (drop at input)
+  unfolding first-size
+  sized e = rw rest-all at e
+
+  pub field-read : (a : Option Wire.Call) → a ≡ Wire.decode (take (at + size - at) (drop at input)) → a ≡ Wire.decode (fieldAt input at size)
+  field-read a e = let z : at + size - at ≡ size = omega arith in rw z at e
