@@ -9,7 +9,7 @@ ghost use Rattle.auction.specs.Price.{priceOk};
 ghost use Rattle.machine.specs.Refusals.{headOk, poolOk, memberOk, bidOk, paymentOk};
 ghost use Rattle.wire.specs.Asked.{headOf};
 ghost use Rattle.book.specs.Stages.{letterOf, roundOf};
-ghost use Rattle.book.specs.Books.{nextRound, fourHeld, openIn, anyOpenIn, requirementIn, contributionsIn, prefundedIn, shortIn, allocationIn, callsIn};
+ghost use Rattle.book.specs.Books.{nextRound, fourHeld, pricedIn, pricesIn, openIn, anyOpenIn, requirementIn, contributionsIn, prefundedIn, shortIn, allocationIn, callsIn};
 ghost use Rattle.book.specs.Books.{newBook, memberBook, roundBook, bidBook, callBook, payBook, finishBook};
 ghost use Rattle.book.specs.Answers.{expectedOk, headAnswer, poolAnswer, memberAnswer, roundAnswer, bidAnswer, closeAnswer, allocateAnswer, tearAnswer, callAnswer, payAnswer, moveAnswer, missAnswer, finishAnswer};
 ghost use Rattle.book.specs.Results.{limitsIn, ranksIn, resultIn};
@@ -249,6 +249,24 @@ impl Book {
         let xs = tally.open_units;
         let last = lists::either(0 < xs[2], lists::either(0 < xs[3], false));
         lists::either(0 < xs[0], lists::either(0 < xs[1], last))
+    }
+
+    // The units that are not open.
+    pub fn priced(self) -> u64
+        ensures { λ r. ⌜ r ≡ pricedIn self ⌝ }
+    {
+        let tally = self.tally;
+        let xs = tally.priced;
+        sum_of_four(xs, 4_000)
+    }
+
+    // The sum of their prices.
+    pub fn prices(self) -> u64
+        ensures { λ r. ⌜ r ≡ pricesIn self ⌝ }
+    {
+        let tally = self.tally;
+        let xs = tally.prices;
+        sum_of_four(xs, 8_000_000_000)
     }
 
     // The requirement: "hedge loss + other loss − the prices of all units not open, at least 0".

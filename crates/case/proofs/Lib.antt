@@ -9,3 +9,7 @@ pub mod Decoded
 pub mod Observations
 pub mod Claim
 pub mod After
+pub mod Outcomes
+pub mod Signed
+pub mod Fields
+pub mod Running

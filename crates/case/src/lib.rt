@@ -1,11 +1,18 @@
 // The case (document 01): the book and the unit roll, and the thirteen calls. "Each call takes the case and hands the case back."
 ghost use mathlib.Core.Path.{_≡_};
-ghost use Rattle.machine.specs.Wire.{POOL, MEMBER, ROUND, BID, CLOSE, ALLOCATE, TEAR, CALL, PAY, MOVE, MISS, FINISH};
+ghost use mathlib.Core.Bool.{true};
 ghost use mathlib.Core.List.{[], _∷_};
+ghost use Prim.Native.Nat.{_<_, _^_, min};
+ghost use lib.IntN.{subℕ};
+ghost use lib.ListN.{length, take};
+ghost use Rattle.machine.specs.Wire.{POOL, MEMBER, ROUND, BID, CLOSE, ALLOCATE, TEAR, CALL, PAY, MOVE, MISS, FINISH};
 ghost use Rattle.wire.specs.Asked.{asked};
+ghost use Rattle.roll.specs.Rolls.{countOf};
+ghost use Rattle.book.specs.Books.{memberBook, roundBook, bidBook, callBook, payBook, finishBook};
 ghost use Rattle.case.specs.Cases.{tallied, newCase, poolCase, closePool, closeCase, allocateCase, tearCase, moveCase, missCase};
 ghost use Rattle.case.specs.Cases.{withBook, reserveIf, firstAnswerTo, bookAnswerTo, answerTo, afterAsked, takeAsked, applied, headOutcome, outcomeOf, noHeld};
-ghost use Rattle.book.specs.Books.{memberBook, roundBook, bidBook, callBook, payBook, finishBook};
+ghost use Rattle.case.specs.Readings.{holdingIn, sumOfPricesIn};
+ghost use Rattle.case.specs.Input.{fieldSize, Runs};
 use book::Book;
 use book::Phase;
 use book::Stage;
@@ -47,6 +54,13 @@ fn with_tally(book: Book, roll: Roll) -> Case
     let mut next = book;
     next.tally = tally;
     Case { book: next, roll }
+}
+
+// The number of reserves that ROUND can have.
+fn at_most_four(n: u8) -> u8
+    ensures { λ r. ⌜ r ≡ min n 4 ⌝ }
+{
+    if n < 4 { n } else { 4 }
 }
 
 // A reserve of ROUND, and 0 behind its last.
@@ -327,13 +341,12 @@ fn answer_in(book: Book, call: Call) -> u8
             d,
         } => book.member_answer(member, contribution, a, b, c, d),
         Call::Round { count, a, b, c, d } => {
-            let n = if count < 4 { count } else { 4 };
             book.round_answer(
-                n,
-                reserve_if(n, 0, a),
-                reserve_if(n, 1, b),
-                reserve_if(n, 2, c),
-                reserve_if(n, 3, d),
+                at_most_four(count),
+                reserve_if(count, 0, a),
+                reserve_if(count, 1, b),
+                reserve_if(count, 2, c),
+                reserve_if(count, 3, d),
             )
         }
         Call::Bid {
@@ -399,16 +412,15 @@ pub fn after(case: Case, call: Call) -> Case
 pub fn take(held: Held, call: Call) -> Applied
     ensures { λ r. ⌜ r ≡ takeAsked held (asked call) ⌝ }
 {
-    let case = held.case;
-    let answer = answer_to(held.present, case.book, call);
+    let book = held.case.book;
+    let answer = answer_to(held.present, book, call);
     if answer != 0 {
         return Applied { answer, held };
     }
-    let next = Held {
-        present: true,
-        case: after(case, call),
-    };
-    Applied { answer, held: next }
+    Applied {
+        answer,
+        held: accept(held, call),
+    }
 }
 
 // One call, from ANY bytes.
@@ -459,10 +471,8 @@ pub fn run(input: &[u8], answers: &mut [u8]) -> Ran
         let size = field_size(rest);
         let end = at + size;
         let call = wire::read_call(&input[at..end]);
-        let present = held.present;
-        let case = held.case;
-        let book = case.book;
-        let answer = answer_to(present, book, call);
+        let book = held.case.book;
+        let answer = answer_to(held.present, book, call);
         answers[count] = answer;
         count += 1;
         at = end;
