@@ -8,7 +8,7 @@ pub mod Steps
 pub mod Decoded
 pub mod Observations
 pub mod Claim
-pub mod After
+pub mod Finishes
 pub mod Outcomes
 pub mod Signed
 pub mod Fields

@@ -76,7 +76,7 @@ pub record AfterFinish (h : Held) : Type 0 where
   pub shown : (n : ℕ) → seen n h .result ≡ some (shownResult (h .case .book))
   pub charges : Charges (h .case)
 
--- so it is after every list of calls and a FINISH. It is proved in proofs/After.antt
+-- so it is after every list of calls and a FINISH. It is proved in proofs/Finishes.antt
 abbrev pub Finishes : Type 0
 Finishes =
     (calls : List (List ℕ)) → Each Bytes calls → (finish : List ℕ) → decode finish ≡ some FINISH
