@@ -2,3 +2,6 @@ pub mod Sound
 pub mod Bounds
 pub mod Finished
 pub mod Ranges
+pub mod Shown
+pub mod Outputs
+pub mod ResultShown

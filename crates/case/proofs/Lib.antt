@@ -2,3 +2,10 @@ pub mod Outcomes
 pub mod Signed
 pub mod Fields
 pub mod Running
+pub mod Showing
+pub mod SetupSteps
+pub mod CallingSteps
+pub mod BiddingSteps
+pub mod PlacingSteps
+pub mod ClosingSteps
+pub mod Steps
