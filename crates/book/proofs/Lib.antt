@@ -5,3 +5,4 @@ pub mod Ranges
 pub mod Shown
 pub mod Outputs
 pub mod ResultShown
+pub mod AnswersShown
