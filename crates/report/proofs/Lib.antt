@@ -1,3 +1,4 @@
 pub mod Placing
 pub mod Widths
+pub mod Lines
 pub mod Taking

@@ -28,6 +28,10 @@ pub text-line : (l : Line) (ls : List Line) → text (l ∷ ls) ≡ lineText l +
 unfolding text
 text-line l ls = ap (λ (t : List ℕ). t ++ text ls) (sym (line-text l))
 
+pub text-one : (l : Line) → text (l ∷ []) ≡ lineText l
+unfolding lineText
+text-one l = refl
+
 -- ---- the buffer's length and the place
 
 pub placed-length : (t out : List ℕ) (at : ℕ) → length (placed t out at .1) ≡ length out
@@ -118,9 +122,12 @@ tab-next i m f =
     ap (λ (j : ℕ). f j ∷ tab m (λ k. f (i + suc k))) (omega arith)
     ∙ ap (λ (t : List Line). f i ∷ t) (tab-ext m (λ k. f (i + suc k)) (λ k. f (i + 1 + k)) (λ k h. ap f (omega arith)))
 
+pub from-start : (n : ℕ) (f : ℕ → Line) → tabFrom 0 n f ≡ tab n f
+from-start n f = ap (λ (m : ℕ). tab m (λ k. f (0 + k))) (omega arith) ∙ tab-ext n (λ k. f (0 + k)) f (λ k h. ap f (omega arith))
+
 pub from-next : (i n : ℕ) (f : ℕ → Line) → i < n → tabFrom i n f ≡ f i ∷ tabFrom (i + 1) n f
 from-next i n f h = ap (λ (m : ℕ). tab m (λ k. f (i + k))) (omega arith) ∙ tab-next i (n - (i + 1)) f
 
 pub from-end : (i n : ℕ) (f : ℕ → Line) → n ≤ i → tabFrom i n f ≡ []
 unfolding tab
-from-end i n f h = ap (λ (m : ℕ). tab m (λ k. f (i + k))) (omega arith)
+from-end i n f h = let z : n - i ≡ 0 = omega arith in rw z refl

@@ -23,7 +23,7 @@ use Rattle.case.proofs.Fields.{size-whole}
 use Rattle.case.proofs.Running.{fieldAt}
 use Rattle.report.specs.declared.Taken.{Taken}
 use Rattle.report.specs.Texts.{ledgerLines, wholeFirst, wholeSize, wholeFields, bytesOf, PartTaken, takePart, TakesPart}
-use Rattle.report.proofs.Placing.{text-append, text-line}
+use Rattle.report.proofs.Placing.{text-append, text-one}
 use Rattle.report.proofs.Widths.{s-line-most}
 
 -- ---- the first field of a part
@@ -34,6 +34,18 @@ pub record First (s : List ℕ) (size : ℕ) : Type 0 where
   pub is : size ≡ fieldSize s
   pub least : 3 ≤ size
   pub most : size ≤ length s
+
+pub size-none : (s : List ℕ) → length s < 3 → 0 ≡ wholeSize s
+unfolding wholeSize
+size-none s h = rw (lt-leb 3 (length s) h) refl
+
+pub size-cut : (s : List ℕ) → 3 ≤ length s → length s < fieldSize s → 0 ≡ wholeSize s
+unfolding wholeSize
+size-cut s h l = rw (le-leb 3 (length s) h, lt-leb (fieldSize s) (length s) l) refl
+
+pub size-all : (s : List ℕ) → 3 ≤ length s → fieldSize s ≤ length s → fieldSize s ≡ wholeSize s
+unfolding wholeSize
+size-all s h l = rw (le-leb 3 (length s) h, le-leb (fieldSize s) (length s) l) refl
 
 module _ (s : List ℕ) (size : ℕ) (e : size ≡ wholeSize s) where
   pub first-whole : (size ≡ 0 → ⊥) → First s size
@@ -66,13 +78,13 @@ fields-next : (n : ℕ) (s : List ℕ) (size : ℕ) → First s size → 0 < n �
 unfolding wholeFields
 fields-next zero s size f h = absurd (omega arith)
 fields-next (suc n) s size f h =
-    rw (f .whole) (ap (λ (k : ℕ). take k s ∷ wholeFields n (drop k s)) (sym (f .is)))
-    ∙ ap (λ (k : ℕ). take size s ∷ wholeFields k (drop size s)) (omega arith)
+    let k : suc n - 1 ≡ n = omega arith in
+    rw (k, f .is, wholeFields, f .whole) refl
 
 pub fields-none : (n : ℕ) (s : List ℕ) → wholeFirst s ≡ false → wholeFields n s ≡ []
 unfolding wholeFields
 fields-none zero s e = refl
-fields-none (suc n) s e = rw e refl
+fields-none (suc n) s e = rw (wholeFields, e) refl
 
 -- ---- the loop
 
@@ -115,6 +127,10 @@ module _ (h : Held) (input old new : List ℕ) (held : Held) (used written : ℕ
   pub field-ends : used + size ≤ length input
   field-ends = omega (arith, first .most, length-drop used input)
 
+  -- what is left is less
+  pub field-some : length input - (used + size) < length input - used
+  field-some = omega (arith, first .least, field-ends)
+
   next : wholeFields (g .fuel) (drop used input) ≡ fieldAt input used size ∷ wholeFields (g .fuel - 1) (drop (used + size) input)
   next =
       fields-next (g .fuel) (drop used input) size first (omega (arith, g .enough))
@@ -126,7 +142,11 @@ module _ (h : Held) (input old new : List ℕ) (held : Held) (used written : ℕ
   -- the s line needs the field's tag only
   same-line : (n : ℕ) → sLine (fieldAt input used size) n ≡ sLine (getD input used 0 ∷ []) n
   unfolding sLine
-  same-line n = ?
+  same-line n = by-size size (first .least)
+    where
+      by-size : (k : ℕ) → 3 ≤ k → sLine (take k (drop used input)) n ≡ sLine (getD input used 0 ∷ []) n
+      by-size zero h = absurd (omega arith)
+      by-size (suc k) h = rw (drop-cons input used 0 p) refl
 
   pub goes : (o : Applied) → o ≡ applied held (fieldAt input used size) → getD input used 0 < 256 → o .answer < 256
     → (r : ℕ) (last : List ℕ) → _≡_ {A = Placed} (r, last) (placed (lineText (sLine (getD input used 0 ∷ []) (o .answer))) new written)
@@ -138,9 +158,11 @@ module _ (h : Held) (input old new : List ℕ) (held : Held) (used written : ℕ
       let most : length t ≤ 10 = s-line-most (getD input used 0) (o .answer) tag answer in
       let three = first .least in
       let fe = field-ends in
-      let fits : (r, last) ≡ (written + length t, sets new written t) = w ∙ placed-fits t new written (omega (arith, g .size, g .room, g .short)) in
+      let fits : _≡_ {A = Placed} (r, last) (written + length t, sets new written t) = w ∙ placed-fits t new written (omega (arith, g .size, g .room, g .short)) in
       let to : r ≡ written + length t = ap (λ (q : Placed). q .0) fits in
-      let all : text (g .done ++ (line ∷ [])) ≡ text (g .done) ++ t = text-append (g .done) (line ∷ []) in
+      let from : written ≡ 0 + length (text (g .done)) = omega (arith, g .told) in
+      let left = wholeFields (g .fuel - 1) (drop (used + size) input) in
+      let all : text (g .done ++ (line ∷ [])) ≡ text (g .done) ++ t = text-append (g .done) (line ∷ []) ∙ ap (λ (x : List ℕ). text (g .done) ++ x) (text-one line) in
       record {
         place = fe;
         size = ap (λ (q : Placed). length (q .1)) fits ∙ length-sets new written t ∙ g .size;
@@ -152,11 +174,55 @@ module _ (h : Held) (input old new : List ℕ) (held : Held) (used written : ℕ
         told = to ∙ ap (λ (k : ℕ). k + length t) (g .told) ∙ sym (length-append (text (g .done)) t) ∙ ap length (sym all);
         out =
         ap (λ (q : Placed). q .1) fits
-        ∙ ap (λ (k : ℕ). sets new k t) (g .told)
-        ∙ ap (λ (x : List ℕ). sets x (length (text (g .done))) t) (g .out)
+        ∙ ap (λ (k : ℕ). sets new k t) from
+        ∙ ap (λ (x : List ℕ). sets x (0 + length (text (g .done))) t) (g .out)
         ∙ sets-then old 0 (text (g .done)) t
         ∙ ap (sets old 0) (sym all);
-        lines = ?;
-        ends = ?;
-        counted = ?;
+        lines =
+        append-assoc (g .done) (line ∷ []) (ledgerLines (o .held) left)
+        ∙ ap (λ (x : Line). g .done ++ (x ∷ ledgerLines (o .held) left)) (sym (same-line (o .answer)))
+        ∙ ap (λ (q : Applied). g .done ++ (sLine (fieldAt input used size) (q .answer) ∷ ledgerLines (q .held) left)) f
+        ∙ ap (λ (fs : List (List ℕ)). g .done ++ ledgerLines held fs) (sym next)
+        ∙ g .lines;
+        ends = ap (λ (q : Applied). ledgerAfter (q .held) left) f ∙ ap (ledgerAfter held) (sym next) ∙ g .ends;
+        counted = omega (arith, ap bytesOf next, field-length, g .counted);
       }
+
+-- nothing is taken from a part for which there is no room
+pub takes-none : (h : Held) (input old : List ℕ) → length old / 4 < length input → TakesPart h input old old (record { held = h; used = 0; written = 0 })
+unfolding takePart
+takes-none h input old r =
+    record {
+      is = rw (lt-leb (4 * length input) (length old) (omega arith)) refl;
+      used = omega arith;
+      short = omega arith;
+      fits = omega arith;
+    }
+
+-- no whole field is left
+pub takes : (h : Held) (input old new : List ℕ) (held : Held) (used written : ℕ) → Taking h input old new held used written → wholeFirst (drop used input) ≡ false
+    → TakesPart h input old new (record { held = held; used = used; written = written })
+unfolding takePart ledgerLines ledgerAfter bytesOf
+takes h input old new held used written g w =
+    let none : wholeFields (g .fuel) (drop used input) ≡ [] = fields-none (g .fuel) (drop used input) w in
+    let done : g .done ≡ ledgerLines h (wholeFields (length input) input) =
+    sym (append-nil (g .done)) ∙ ap (λ (fs : List (List ℕ)). g .done ++ ledgerLines held fs) (sym none) ∙ g .lines in
+    let after : held ≡ ledgerAfter h (wholeFields (length input) input) = ap (ledgerAfter held) (sym none) ∙ g .ends in
+    let bytes : used ≡ bytesOf (wholeFields (length input) input) = omega (arith, ap bytesOf none, g .counted) in
+    let told : written ≡ length (text (ledgerLines h (wholeFields (length input) input))) = g .told ∙ ap (λ (ls : List Line). length (text ls)) done in
+    let out : new ≡ sets old 0 (text (ledgerLines h (wholeFields (length input) input))) = g .out ∙ ap (λ (ls : List Line). sets old 0 (text ls)) done in
+    record {
+      is = rw (le-leb (4 * length input) (length old) (g .room)) (λ i. (record { held = after i; used = bytes i; written = told i }, out i));
+      used = g .place;
+      short = g .short;
+      fits = omega (arith, g .short, g .place, g .room);
+    }
+
+-- the input's end
+pub ends-cut : (input : List ℕ) (used : ℕ) → length input ≤ used → wholeFirst (drop used input) ≡ false
+ends-cut input used h = rw (drop-of-length-le input {i = used} h) refl
+
+-- ---- the part of the input as the code lends it
+
+pub sized : (input : List ℕ) (used size : ℕ) → size ≡ wholeSize (take (length input - used) (drop used input)) → size ≡ wholeSize (drop used input)
+sized input used size e = e ∙ ap wholeSize (take-all (length input - used) (drop used input) (omega (arith, length-drop used input)))

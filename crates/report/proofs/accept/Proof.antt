@@ -9,7 +9,7 @@ after-requires : tie.Need-after-requires
 after-requires c κs = search needs
 
 returns : tie.Need-returns
-returns c = ?
+returns c = rw (c .after .ensures)
 
 pub accept-spec : {M : Type 1} → statement M
 accept-spec = tie.close (tie.spec after-requires returns)

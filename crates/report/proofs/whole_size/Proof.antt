@@ -1,3 +1,7 @@
+-- `report::whole_size` meets its contract. Assumes nothing.
+use Rattle.case.proofs.Fields.{size-whole}
+use native.Mathlib.Omega.{arith}
+use Rattle.report.proofs.Taking.{size-none, size-cut, size-all}
 use borrow.Author.Needs.{needs}
 use Rattle.report.proofs.whole_size.Statement.{statement}
 use Rattle.report.proofs.whole_size.Tie as tie
@@ -6,7 +10,7 @@ use Rattle.report.proofs.whole_size.Lts as lts
 use Rattle.report.proofs.wide.Reads as wide-reads
 
 returns : tie.Need-returns
-returns c = ?
+returns c = size-none (c .before .before .args .input .now) (c .if1 .taken)
 
 shared-slice-read-wide : tie.Need-shared-slice-read-wide
 shared-slice-read-wide c = search needs
@@ -30,10 +34,16 @@ add-size-2 : tie.Need-add-size-2
 add-size-2 c = search needs
 
 returns-2 : tie.Need-returns-2
-returns-2 c = ?
+returns-2 c = 
+    let s = c .before .before .before .before .before .before .before .args .input .now in
+    let e = size-whole s (c .before .before .before .before .before .if1 .left) in
+    size-cut s (c .before .before .before .before .before .if1 .left) (omega (arith, e))
 
 returns-3 : tie.Need-returns-3
-returns-3 c = ?
+returns-3 c = 
+    let s = c .before .before .before .before .before .before .before .args .input .now in
+    let e = size-whole s (c .before .before .before .before .before .if1 .left) in
+    omega (arith, e, size-all s (c .before .before .before .before .before .if1 .left) (omega (arith, e)))
 
 pub whole-size-spec : {M : Type 1} → statement M
 whole-size-spec =

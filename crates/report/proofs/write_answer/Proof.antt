@@ -1,3 +1,9 @@
+-- `report::write_answer` meets its contract. Assumes nothing.
+use mathlib.Core.Path.{_≡_, refl, sym, ap, _∙_}
+use mathlib.Core.List.{List, [], _∷_, _++_, map}
+use Rattle.machine.specs.Printed.{Line, sLine}
+use Rattle.lines.specs.Placed.{Placed, placed, lineText}
+use Rattle.report.proofs.Lines.{s-line}
 use borrow.Author.Needs.{needs}
 use Rattle.report.proofs.write_answer.Statement.{statement}
 use Rattle.report.proofs.write_answer.Tie as tie
@@ -12,7 +18,7 @@ same-length : tie.Need-same-length
 same-length c = search needs
 
 returns : tie.Need-returns
-returns c = ?
+returns c = c .before .before .write-line .ensures
 
 pub write-answer-spec : {M : Type 1} → statement M
 write-answer-spec = tie.close (tie.spec write-line-requires same-length returns)

@@ -1,3 +1,8 @@
+-- `report::write_loss` meets its contract. Assumes nothing.
+use mathlib.Core.Path.{_≡_, refl, sym, ap, _∙_}
+use Rattle.machine.specs.Printed.{Line, sLine}
+use Rattle.lines.specs.Placed.{Placed, placed, lineText}
+use Rattle.report.proofs.Lines.{l-line}
 use borrow.Author.Needs.{needs}
 use Rattle.report.proofs.write_loss.Statement.{statement}
 use Rattle.report.proofs.write_loss.Tie as tie
@@ -30,7 +35,10 @@ same-length : tie.Need-same-length
 same-length c = search needs
 
 returns : tie.Need-returns
-returns c = ?
+returns c = 
+    let a = c .before .before .before .before .before .before .args in
+    c .before .before .write-line .ensures
+    ∙ ap (λ (l : Line). placed (lineText l) (a .out .now) (a .at)) (l-line (a .result) (search needs))
 
 pub write-loss-spec : {M : Type 1} → statement M
 write-loss-spec =

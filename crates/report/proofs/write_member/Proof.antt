@@ -1,3 +1,8 @@
+-- `report::write_member` meets its contract. Assumes nothing.
+use mathlib.Core.Path.{_≡_, refl, sym, ap, _∙_}
+use Rattle.machine.specs.Printed.{Line, sLine}
+use Rattle.lines.specs.Placed.{Placed, placed, lineText}
+use Rattle.report.proofs.Lines.{m-line}
 use borrow.Author.Needs.{needs}
 use Rattle.report.proofs.write_member.Statement.{statement}
 use Rattle.report.proofs.write_member.Tie as tie
@@ -23,7 +28,10 @@ same-length : tie.Need-same-length
 same-length c = search needs
 
 returns : tie.Need-returns
-returns c = ?
+returns c = 
+    let a = c .before .before .before .before .before .before .before .before .before .before .before .args in
+    c .before .before .write-line .ensures
+    ∙ ap (λ (l : Line). placed (lineText l) (a .out .now) (a .at)) (m-line (a .result) (a .m) _ _ _ (c .before .before .before .before .before .before .rank-at .ensures) (c .before .before .before .before .before .number-at .ensures) (c .before .before .before .before .number-at2 .ensures))
 
 pub write-member-spec : {M : Type 1} → statement M
 write-member-spec =

@@ -1,3 +1,8 @@
+-- `report::write_pool` meets its contract. Assumes nothing.
+use mathlib.Core.Path.{_≡_, refl, sym, ap, _∙_}
+use Rattle.machine.specs.Printed.{Line, sLine}
+use Rattle.lines.specs.Placed.{Placed, placed, lineText}
+use Rattle.report.proofs.Lines.{p-line}
 use borrow.Author.Needs.{needs}
 use Rattle.report.proofs.write_pool.Statement.{statement}
 use Rattle.report.proofs.write_pool.Tie as tie
@@ -28,7 +33,10 @@ same-length : tie.Need-same-length
 same-length c = search needs
 
 returns : tie.Need-returns
-returns c = ?
+returns c = 
+    let a = c .before .before .before .before .before .before .before .before .before .before .before .args in
+    c .before .before .write-line .ensures
+    ∙ ap (λ (l : Line). placed (lineText l) (a .out .now) (a .at)) (p-line (a .case) (a .pool) _ _ _ _ _ (c .before .before .before .before .before .before .before .before .count .ensures) (c .before .before .before .before .before .before .before .count2 .ensures) (c .before .before .before .before .before .before .count3 .ensures) (c .before .before .before .before .before .count4 .ensures) (c .before .before .before .before .count5 .ensures))
 
 pub write-pool-spec : {M : Type 1} → statement M
 write-pool-spec =
