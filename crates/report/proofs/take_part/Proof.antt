@@ -56,7 +56,9 @@ part-read-call-start : tie.Need-part-read-call-start Inv-loop μ-loop
 part-read-call-start c = search needs
 
 part-read-call-end : tie.Need-part-read-call-end Inv-loop μ-loop
-part-read-call-end c = search needs
+part-read-call-end c = 
+    let h = field-ends _ _ _ _ _ _ _ (c .before .before .before .before .loop .inv) (c .before .before .before .loop-test .taken) _ (sized (c .before .before .before .before .before .before .before .before .args .input .now) (c .before .before .before .before .loop .used) _ (c .before .whole-size .ensures)) (c .if2 .left) in
+    search needs
 
 read-call-requires : tie.Need-read-call-requires Inv-loop μ-loop
 read-call-requires c κs = search needs

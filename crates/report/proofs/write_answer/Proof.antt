@@ -18,7 +18,10 @@ same-length : tie.Need-same-length
 same-length c = search needs
 
 returns : tie.Need-returns
-returns c = c .before .before .write-line .ensures
+returns c = 
+    let a = c .before .before .before .before .before .args in
+    c .before .before .write-line .ensures
+    ∙ ap (λ (l : Line). placed (lineText l) (a .out .now) (a .at)) (s-line (a .tag) (a .answer))
 
 pub write-answer-spec : {M : Type 1} → statement M
 write-answer-spec = tie.close (tie.spec write-line-requires same-length returns)

@@ -1,4 +1,5 @@
 -- `report::write_cut` meets its contract. Assumes nothing.
+use lib.ListN.{getD}
 use mathlib.Core.Path.{_≡_, refl, sym, ap, _∙_}
 use Rattle.report.proofs.Placing.{lines-none, lines-one}
 use Rattle.report.proofs.Lines.{cut-none, cut-some}
