@@ -9,3 +9,7 @@ pub mod BiddingSteps
 pub mod PlacingSteps
 pub mod ClosingSteps
 pub mod Steps
+pub mod Decoded
+pub mod Observations
+pub mod Claim
+pub mod Finishes

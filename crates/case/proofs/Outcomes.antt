@@ -7,20 +7,19 @@ use mathlib.Core.Path.{_≡_, ap, _∙_}
 use Prim.Native.Nat.{ℕ, min}
 use native.Mathlib.Omega.{arith}
 use lib.Dec.{ltb, eqb}
-use lib.ListN.{length, take, getD, length-take, List·getD-eq-default}
+use lib.ListN.{take, getD, length-take, List·getD-eq-default}
 use lib.Seq.{getD-take}
 use borrow.Author.Tests.{eq-eqb, ne-eqb, ltb-true, ltb-false}
 use Rattle.lists.specs.Lists.{if_then_else_}
 use Rattle.lists.proofs.Bools.{by-test}
 use Rattle.machine.specs.Wire as Wire
 use Rattle.book.specs.declared.Book.{Book}
-use Rattle.book.specs.Books.{roundBook}
 use Rattle.book.specs.Answers.{roundAnswer}
 use Rattle.case.specs.declared.Case.{Case}
 use Rattle.case.specs.declared.Outcome.{Outcome}
 use Rattle.case.specs.declared.Held.{Held}
 use Rattle.case.specs.declared.Applied.{Applied}
-use Rattle.case.specs.Cases.{bookAnswer, caseAfter, withBook, outcome, outcomeOf, reserveIf, answerTo, afterAsked, takeAsked}
+use Rattle.case.specs.Cases.{bookAnswer, caseAfter, outcome, outcomeOf, reserveIf, answerTo, afterAsked, takeAsked}
 
 -- ---- a call as a method
 
@@ -31,12 +30,12 @@ outcome-accepted : (n : ℕ) (old new : Case) → n ≡ 0 → _≡_ {A = Outcome
 outcome-accepted n old new h = rw (eq-eqb n 0 h)
 
 pub declined : (c : Case) (call : Wire.Call) (n : ℕ) → n ≡ bookAnswer (c .book) call → (n ≡ 0 → ⊥)
-  → _≡_ {A = Outcome} (record { answer = n; case = c }) (outcomeOf c call)
+    → _≡_ {A = Outcome} (record { answer = n; case = c }) (outcomeOf c call)
 unfolding outcomeOf
 declined c call n e h = outcome-declined n c (caseAfter c call) h ∙ ap (λ (k : ℕ). outcome k c (caseAfter c call)) e
 
 pub accepted : (c : Case) (call : Wire.Call) (n : ℕ) (d : Case) → n ≡ bookAnswer (c .book) call → n ≡ 0 → d ≡ caseAfter c call
-  → _≡_ {A = Outcome} (record { answer = n; case = d }) (outcomeOf c call)
+    → _≡_ {A = Outcome} (record { answer = n; case = d }) (outcomeOf c call)
 unfolding outcomeOf
 accepted c call n d e h f =
     outcome-accepted n c d h ∙ ap (λ (x : Case). outcome n c x) f ∙ ap (λ (k : ℕ). outcome k c (caseAfter c call)) e
@@ -48,19 +47,21 @@ after-answer : ℕ → Held → Held → Applied
 after-answer n old new = record { answer = n; held = if eqb n 0 then new else old }
 
 pub take-declined : (h : Held) (a : Option Wire.Call) (n : ℕ) → n ≡ answerTo (h .present) (h .case .book) a → (n ≡ 0 → ⊥)
-  → _≡_ {A = Applied} (record { answer = n; held = h }) (takeAsked h a)
+    → _≡_ {A = Applied} (record { answer = n; held = h }) (takeAsked h a)
 unfolding takeAsked after-answer
 take-declined h a n e g = go ∙ ap (λ (k : ℕ). after-answer k h (record { present = true; case = afterAsked (h .case) a })) e
   where
     go : _≡_ {A = Applied} (record { answer = n; held = h }) (after-answer n h (record { present = true; case = afterAsked (h .case) a }))
     go = rw (ne-eqb n 0 g)
 
-pub take-accepted : (h : Held) (a : Option Wire.Call) (n : ℕ) (d : Case) → n ≡ answerTo (h .present) (h .case .book) a → n ≡ 0 → d ≡ afterAsked (h .case) a
-  → _≡_ {A = Applied} (record { answer = n; held = record { present = true; case = d } }) (takeAsked h a)
+pub take-accepted : (h : Held) (a : Option Wire.Call) (n : ℕ) (k : Held) → n ≡ answerTo (h .present) (h .case .book) a → n ≡ 0
+    → k ≡ record { present = true; case = afterAsked (h .case) a }
+    → _≡_ {A = Applied} (record { answer = n; held = k }) (takeAsked h a)
 unfolding takeAsked after-answer
-take-accepted h a n d e g f = go ∙ ap (λ (x : Case). after-answer n h (record { present = true; case = x })) f ∙ ap (λ (k : ℕ). after-answer k h (record { present = true; case = afterAsked (h .case) a })) e
+take-accepted h a n k e g f =
+    go ∙ ap (after-answer n h) f ∙ ap (λ (m : ℕ). after-answer m h (record { present = true; case = afterAsked (h .case) a })) e
   where
-    go : _≡_ {A = Applied} (record { answer = n; held = record { present = true; case = d } }) (after-answer n h (record { present = true; case = d }))
+    go : _≡_ {A = Applied} (record { answer = n; held = k }) (after-answer n h k)
     go = rw (eq-eqb n 0 g)
 
 -- ---- the reserves of ROUND
@@ -77,11 +78,6 @@ module _ (n p q r s : ℕ) where
   reserves = p ∷ q ∷ r ∷ s ∷ []
 
   pub round-answered : (b : Book)
-    → roundAnswer b (min n 4) (reserveIf n 0 p) (reserveIf n 1 q) (reserveIf n 2 r) (reserveIf n 3 s) ≡ bookAnswer b (Wire.ROUND (take n (p ∷ q ∷ r ∷ s ∷ [])))
+      → roundAnswer b (min n 4) (reserveIf n 0 p) (reserveIf n 1 q) (reserveIf n 2 r) (reserveIf n 3 s) ≡ bookAnswer b (Wire.ROUND (take n (p ∷ q ∷ r ∷ s ∷ [])))
   unfolding bookAnswer reserves
   round-answered b = rw (length-take n reserves, reserve-at n 0 reserves, reserve-at n 1 reserves, reserve-at n 2 reserves, reserve-at n 3 reserves)
-
-  pub round-taken : (c : Case)
-    → withBook c (roundBook (c .book) (reserveIf n 0 p) (reserveIf n 1 q) (reserveIf n 2 r) (reserveIf n 3 s)) ≡ caseAfter c (Wire.ROUND (take n (p ∷ q ∷ r ∷ s ∷ [])))
-  unfolding caseAfter reserves
-  round-taken c = rw (reserve-at n 0 reserves, reserve-at n 1 reserves, reserve-at n 2 reserves, reserve-at n 3 reserves)

@@ -5,7 +5,7 @@ use mathlib.Core.Bool.{true}
 use mathlib.Core.List.{List, [], _∷_, _++_, append-assoc, append-nil}
 use mathlib.Core.Logic.{_⊎_, inl, inr}
 use mathlib.Core.Option.{Option}
-use Prim.Native.Nat.{ℕ, zero, suc, _+_, _-_, _≤_, _<_, min}
+use Prim.Native.Nat.{ℕ, suc, _+_, _-_, _≤_, _<_, min}
 use native.Mathlib.Numerals.{add-one}
 use native.Mathlib.Omega.{arith}
 use lib.ListN.{length, set, take, drop, length-set, length-drop, take-append-drop, drop-of-length-le}
@@ -14,7 +14,6 @@ use Rattle.machine.specs.Wire as Wire
 use Rattle.machine.specs.Printed.{fieldsIn}
 use Rattle.case.specs.declared.Held.{Held}
 use Rattle.case.specs.declared.Applied.{Applied}
-use Rattle.case.specs.declared.Ran.{Ran}
 use Rattle.case.specs.Cases.{answerTo, afterAsked, takeAsked, applied, noHeld}
 use Rattle.case.specs.Input.{fieldSize, ledgerAfter, ledgerAnswers}
 use Rattle.case.proofs.Outcomes.{take-declined, take-accepted}
@@ -29,12 +28,9 @@ module _ (h : Held) (a : Option Wire.Call) (s : List ℕ) (n : ℕ) (answered : 
   asked-declined g = take-declined h a n answered g ∙ ap (takeAsked h) read
 
   pub asked-accepted : (k : Held) → n ≡ 0 → k ≡ record { present = true; case = afterAsked (h .case) a }
-    → _≡_ {A = Applied} (record { answer = n; held = k }) (applied h s)
+      → _≡_ {A = Applied} (record { answer = n; held = k }) (applied h s)
   unfolding applied
-  asked-accepted k z e =
-      ap (λ (x : Held). record { answer = n; held = x }) e
-      ∙ take-accepted h a n (afterAsked (h .case) a) answered z refl
-      ∙ ap (takeAsked h) read
+  asked-accepted k z e = take-accepted h a n k answered z e ∙ ap (takeAsked h) read
 
 -- ---- the loop
 
@@ -71,14 +67,14 @@ module _ (input : List ℕ) (at : ℕ) (p : at < length input) where
 
   -- the field that is taken next, and what is left
   next-field : (n size : ℕ) → size ≡ first-size (drop at input)
-    → fieldsIn (suc n) (drop at input) ≡ fieldAt input at size ∷ fieldsIn n (drop (at + size) input)
+      → fieldsIn (suc n) (drop at input) ≡ fieldAt input at size ∷ fieldsIn n (drop (at + size) input)
   next-field n size e =
       let q : 0 < length (drop at input) = simp length-drop (omega arith) in
       rw (← drop-drop size at input, e) (fields-more n (drop at input) q)
 
 module _ (input old new : List ℕ) (held : Held) (at count : ℕ) (g : Going input old new held at count) (h : count < length old) (p : at < length input) where
   pub goes : (size : ℕ) → size ≡ first-size (drop at input) → (o : Applied) → o ≡ applied held (fieldAt input at size)
-    → Going input old (set new count (o .answer)) (o .held) (at + size) (count + 1)
+      → Going input old (set new count (o .answer)) (o .held) (at + size) (count + 1)
   unfolding ledgerAnswers ledgerAfter
   goes size e o f =
       let l : length old - count ≡ suc (length old - (count + 1)) = omega arith in
@@ -125,7 +121,7 @@ module _ (input : List ℕ) (at size : ℕ) where
   rest-all = take-all (length input - at) (drop at input) (omega (arith, length-drop at input))
 
   pub sized : size ≡ min (fieldSize (take (length input - at) (drop at input))) (length (take (length input - at) (drop at input)))
-    → size ≡ first-size (drop at input)
+      → size ≡ first-size (drop at input)
   unfolding first-size
   sized e = rw rest-all at e
 

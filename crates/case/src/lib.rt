@@ -412,16 +412,15 @@ pub fn after(case: Case, call: Call) -> Case
 pub fn take(held: Held, call: Call) -> Applied
     ensures { λ r. ⌜ r ≡ takeAsked held (asked call) ⌝ }
 {
-    let case = held.case;
-    let answer = answer_to(held.present, case.book, call);
+    let book = held.case.book;
+    let answer = answer_to(held.present, book, call);
     if answer != 0 {
         return Applied { answer, held };
     }
-    let next = Held {
-        present: true,
-        case: after(case, call),
-    };
-    Applied { answer, held: next }
+    Applied {
+        answer,
+        held: accept(held, call),
+    }
 }
 
 // One call, from ANY bytes.
@@ -472,10 +471,8 @@ pub fn run(input: &[u8], answers: &mut [u8]) -> Ran
         let size = field_size(rest);
         let end = at + size;
         let call = wire::read_call(&input[at..end]);
-        let present = held.present;
-        let case = held.case;
-        let book = case.book;
-        let answer = answer_to(present, book, call);
+        let book = held.case.book;
+        let answer = answer_to(held.present, book, call);
         answers[count] = answer;
         count += 1;
         at = end;

@@ -2,9 +2,6 @@
 use borrow.Author.Needs.{needs}
 use Rattle.case.proofs.accept.Statement.{statement}
 use Rattle.case.proofs.accept.Tie as tie
-use Rattle.case.proofs.accept.Reads as reads
-use Rattle.case.proofs.accept.Lts as lts
-use Rattle.case.proofs.after.Reads as after-reads
 
 after-requires : tie.Need-after-requires
 after-requires c κs = search needs

@@ -5,22 +5,6 @@ use Rattle.case.proofs.Outcomes.{reserve-at}
 use borrow.Author.Needs.{needs}
 use Rattle.case.proofs.after.Statement.{statement}
 use Rattle.case.proofs.after.Tie as tie
-use Rattle.case.proofs.after.Reads as reads
-use Rattle.case.proofs.after.Lts as lts
-use Rattle.case.proofs.Case.after_allocate.Reads as after-allocate-reads
-use Rattle.case.proofs.Case.after_bid.Reads as after-bid-reads
-use Rattle.case.proofs.Case.after_call.Reads as after-call-reads
-use Rattle.case.proofs.Case.after_close.Reads as after-close-reads
-use Rattle.case.proofs.Case.after_finish.Reads as after-finish-reads
-use Rattle.case.proofs.Case.after_member.Reads as after-member-reads
-use Rattle.case.proofs.Case.after_miss.Reads as after-miss-reads
-use Rattle.case.proofs.Case.after_move.Reads as after-move-reads
-use Rattle.case.proofs.Case.after_pay.Reads as after-pay-reads
-use Rattle.case.proofs.Case.after_pool.Reads as after-pool-reads
-use Rattle.case.proofs.Case.after_round.Reads as after-round-reads
-use Rattle.case.proofs.Case.after_tear.Reads as after-tear-reads
-use Rattle.case.proofs.Case.new.Reads as new-reads
-use Rattle.case.proofs.reserve_if.Reads as reserve-if-reads
 
 enum-known-call : tie.Need-enum-known-call
 enum-known-call c = search needs

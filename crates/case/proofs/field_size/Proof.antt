@@ -4,9 +4,6 @@ use Rattle.case.proofs.Fields.{size-cut, size-whole}
 use borrow.Author.Needs.{needs}
 use Rattle.case.proofs.field_size.Statement.{statement}
 use Rattle.case.proofs.field_size.Tie as tie
-use Rattle.case.proofs.field_size.Reads as reads
-use Rattle.case.proofs.field_size.Lts as lts
-use Rattle.case.proofs.wide.Reads as wide-reads
 
 returns : tie.Need-returns
 returns c = size-cut (c .before .before .args .input .now) (c .if1 .taken)

@@ -4,9 +4,6 @@ use Rattle.case.specs.Cases.{firstAnswer, firstAnswerTo}
 use borrow.Author.Needs.{needs}
 use Rattle.case.proofs.first_answer.Statement.{statement}
 use Rattle.case.proofs.first_answer.Tie as tie
-use Rattle.case.proofs.first_answer.Reads as reads
-use Rattle.case.proofs.first_answer.Lts as lts
-use Rattle.book.proofs.head_answer.Reads as head-answer-reads
 
 enum-known-call : tie.Need-enum-known-call
 enum-known-call c = search needs

@@ -10,13 +10,6 @@ use Rattle.case.proofs.Running.{Going, starts, sized, field-ends, field
 use Rattle.case.proofs.Claim.{runs}
 use Rattle.case.proofs.run.Statement.{statement}
 use Rattle.case.proofs.run.Tie as tie
-use Rattle.case.proofs.run.Reads as reads
-use Rattle.case.proofs.run.Lts as lts
-use Rattle.case.proofs.Held.none.Reads as none-reads
-use Rattle.case.proofs.accept.Reads as accept-reads
-use Rattle.case.proofs.answer_to.Reads as answer-to-reads
-use Rattle.case.proofs.field_size.Reads as field-size-reads
-use Rattle.wire.proofs.read_call.Reads as read-call-reads
 
 abbrev Inv-loop : tie.InvT-loop
 Inv-loop input answers₀ held₀ at₀ count₀ answers held at count = Going input answers₀ answers held at count
@@ -80,7 +73,7 @@ slice-write-answers : tie.Need-slice-write-answers Inv-loop μ-loop
 slice-write-answers c = omega arith
 
 add-count : tie.Need-add-count Inv-loop μ-loop
-add-count c = let g = c .before .before .before .before .before .before .before .before .before .loop .inv in omega arith
+add-count c = let g = c .before .before .before .before .before .before .before .before .loop .inv in omega arith
 
 accept-requires : tie.Need-accept-requires Inv-loop μ-loop
 accept-requires c κs = search needs
@@ -90,22 +83,22 @@ loop-less c = simp length-set (omega arith)
 
 loop-again : tie.Need-loop-again Inv-loop μ-loop
 loop-again c =
-    let input = now (c .before .before .before .before .before .before .before .before .before .before .before .before .before .before .before .args .input) in
-    let l = c .before .before .before .before .before .before .before .before .before .before .before .loop in
-    let size = c .before .before .before .before .before .before .before .field-size .result in
-    goes _ _ _ _ _ _ (l .inv) (let s = l .inv .size in omega arith) (omega arith) _ (sized input (l .at) size (c .before .before .before .before .before .before .before .field-size .ensures)) _
-    (asked-accepted (l .held) _ _ _ (c .before .before .answer-to .ensures) (field-read input (l .at) size _ (c .before .before .before .before .before .read-call .ensures)) _ (c .before .if2 .taken) (c .accept .ensures))
+    let input = now (c .before .before .before .before .before .before .before .before .before .before .before .before .before .before .args .input) in
+    let l = c .before .before .before .before .before .before .before .before .before .before .loop in
+    let size = c .before .before .before .before .before .before .field-size .result in
+    goes _ _ _ _ _ _ (l .inv) (let s = l .inv .size in omega arith) (omega arith) _ (sized input (l .at) size (c .before .before .before .before .before .before .field-size .ensures)) _
+    (asked-accepted (l .held) _ _ _ (c .before .before .answer-to .ensures) (field-read input (l .at) size _ (c .before .before .before .before .read-call .ensures)) _ (c .before .if2 .taken) (c .accept .ensures))
 
 loop-less-2 : tie.Need-loop-less-2 Inv-loop μ-loop
 loop-less-2 c = simp length-set (omega arith)
 
 loop-again-2 : tie.Need-loop-again-2 Inv-loop μ-loop
 loop-again-2 c =
-    let input = now (c .before .before .before .before .before .before .before .before .before .before .before .before .before .before .args .input) in
-    let l = c .before .before .before .before .before .before .before .before .before .before .loop in
-    let size = c .before .before .before .before .before .before .field-size .result in
-    goes _ _ _ _ _ _ (l .inv) (let s = l .inv .size in omega arith) (omega arith) _ (sized input (l .at) size (c .before .before .before .before .before .before .field-size .ensures)) _
-    (asked-declined (l .held) _ _ _ (c .before .answer-to .ensures) (field-read input (l .at) size _ (c .before .before .before .before .read-call .ensures)) (c .if2 .left))
+    let input = now (c .before .before .before .before .before .before .before .before .before .before .before .before .before .args .input) in
+    let l = c .before .before .before .before .before .before .before .before .before .loop in
+    let size = c .before .before .before .before .before .field-size .result in
+    goes _ _ _ _ _ _ (l .inv) (let s = l .inv .size in omega arith) (omega arith) _ (sized input (l .at) size (c .before .before .before .before .before .field-size .ensures)) _
+    (asked-declined (l .held) _ _ _ (c .before .answer-to .ensures) (field-read input (l .at) size _ (c .before .before .before .read-call .ensures)) (c .if2 .left))
 
 same-length-2 : tie.Need-same-length-2 Inv-loop μ-loop
 same-length-2 c = c .before .loop .inv .size

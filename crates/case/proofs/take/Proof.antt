@@ -3,10 +3,6 @@ use Rattle.case.proofs.Outcomes.{take-declined, take-accepted}
 use borrow.Author.Needs.{needs}
 use Rattle.case.proofs.take.Statement.{statement}
 use Rattle.case.proofs.take.Tie as tie
-use Rattle.case.proofs.take.Reads as reads
-use Rattle.case.proofs.take.Lts as lts
-use Rattle.case.proofs.after.Reads as after-reads
-use Rattle.case.proofs.answer_to.Reads as answer-to-reads
 
 answer-to-requires : tie.Need-answer-to-requires
 answer-to-requires c κs = search needs
@@ -14,11 +10,11 @@ answer-to-requires c κs = search needs
 returns : tie.Need-returns
 returns c = take-declined _ _ _ (c .before .answer-to .ensures) (c .if1 .taken)
 
-after-requires : tie.Need-after-requires
-after-requires c κs = search needs
+accept-requires : tie.Need-accept-requires
+accept-requires c κs = search needs
 
 returns-2 : tie.Need-returns-2
-returns-2 c = take-accepted _ _ _ _ (c .before .before .answer-to .ensures) (c .before .if1 .left) (c .after .ensures)
+returns-2 c = take-accepted _ _ _ _ (c .before .before .answer-to .ensures) (c .before .if1 .left) (c .accept .ensures)
 
 pub take-spec : {M : Type 1} → statement M
-take-spec = tie.close (tie.spec answer-to-requires returns after-requires returns-2)
+take-spec = tie.close (tie.spec answer-to-requires returns accept-requires returns-2)

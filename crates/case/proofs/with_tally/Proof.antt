@@ -3,9 +3,6 @@ use Rattle.case.specs.Cases.{tallied}
 use borrow.Author.Needs.{needs}
 use Rattle.case.proofs.with_tally.Statement.{statement}
 use Rattle.case.proofs.with_tally.Tie as tie
-use Rattle.case.proofs.with_tally.Reads as reads
-use Rattle.case.proofs.with_tally.Lts as lts
-use Rattle.roll.proofs.Roll.tally.Reads as tally-reads
 
 tally-requires : tie.Need-tally-requires
 tally-requires c κs = search needs

@@ -4,12 +4,6 @@ use Rattle.case.specs.Cases.{allocateCase}
 use borrow.Author.Needs.{needs}
 use Rattle.case.proofs.Case.after_allocate.Statement.{statement}
 use Rattle.case.proofs.Case.after_allocate.Tie as tie
-use Rattle.case.proofs.Case.after_allocate.Reads as reads
-use Rattle.case.proofs.Case.after_allocate.Lts as lts
-use Rattle.accounts.proofs.members.Members.allocate.Reads as allocate-reads
-use Rattle.book.proofs.Book.allocation.Reads as allocation-reads
-use Rattle.case.proofs.with_tally.Reads as with-tally-reads
-use Rattle.roll.proofs.Roll.give.Reads as give-reads
 
 allocation-requires : tie.Need-allocation-requires
 allocation-requires c κs = search needs

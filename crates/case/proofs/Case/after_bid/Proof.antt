@@ -2,9 +2,6 @@
 use borrow.Author.Needs.{needs}
 use Rattle.case.proofs.Case.after_bid.Statement.{statement}
 use Rattle.case.proofs.Case.after_bid.Tie as tie
-use Rattle.case.proofs.Case.after_bid.Reads as reads
-use Rattle.case.proofs.Case.after_bid.Lts as lts
-use Rattle.book.proofs.Book.take_bid.Reads as take-bid-reads
 
 take-bid-requires : tie.Need-take-bid-requires
 take-bid-requires c κs = search needs

@@ -2,9 +2,6 @@
 use borrow.Author.Needs.{needs}
 use Rattle.case.proofs.Case.after_call.Statement.{statement}
 use Rattle.case.proofs.Case.after_call.Tie as tie
-use Rattle.case.proofs.Case.after_call.Reads as reads
-use Rattle.case.proofs.Case.after_call.Lts as lts
-use Rattle.book.proofs.Book.take_call.Reads as take-call-reads
 
 take-call-requires : tie.Need-take-call-requires
 take-call-requires c κs = search needs

@@ -4,13 +4,6 @@ use Rattle.case.specs.Cases.{closeCase}
 use borrow.Author.Needs.{needs}
 use Rattle.case.proofs.Case.after_close.Statement.{statement}
 use Rattle.case.proofs.Case.after_close.Tie as tie
-use Rattle.case.proofs.Case.after_close.Reads as reads
-use Rattle.case.proofs.Case.after_close.Lts as lts
-use Rattle.accounts.proofs.bids.Bids.won_table.Reads as won-table-reads
-use Rattle.accounts.proofs.members.Members.win.Reads as win-reads
-use Rattle.book.proofs.round_of.Reads as round-of-reads
-use Rattle.case.proofs.Case.close_pool.Reads as close-pool-reads
-use Rattle.case.proofs.with_tally.Reads as with-tally-reads
 
 round-of-requires : tie.Need-round-of-requires
 round-of-requires c κs = search needs
@@ -38,16 +31,17 @@ with-tally-requires c κs = search needs
 
 returns : tie.Need-returns
 unfolding closeCase
-returns c = 
+returns c =
     c .with-tally .ensures
     ∙ rw (
-    c .before .before .win .ensures,
-    c .before .before .before .won-table .ensures,
-    c .before .before .before .before .before .before .before .close-pool4 .ensures,
-    c .before .before .before .before .before .before .before .before .close-pool3 .ensures,
-    c .before .before .before .before .before .before .before .before .before .close-pool2 .ensures,
-    c .before .before .before .before .before .before .before .before .before .before .close-pool .ensures,
-    c .before .before .before .before .before .before .before .before .before .before .before .round-of .ensures)
+      c .before .before .win .ensures,
+      c .before .before .before .won-table .ensures,
+      c .before .before .before .before .before .before .before .close-pool4 .ensures,
+      c .before .before .before .before .before .before .before .before .close-pool3 .ensures,
+      c .before .before .before .before .before .before .before .before .before .close-pool2 .ensures,
+      c .before .before .before .before .before .before .before .before .before .before .close-pool .ensures,
+      c .before .before .before .before .before .before .before .before .before .before .before .round-of .ensures,
+    )
 
 pub after-close-spec : {M : Type 1} → statement M
 after-close-spec =

@@ -2,9 +2,6 @@
 use borrow.Author.Needs.{needs}
 use Rattle.case.proofs.Case.after_finish.Statement.{statement}
 use Rattle.case.proofs.Case.after_finish.Tie as tie
-use Rattle.case.proofs.Case.after_finish.Reads as reads
-use Rattle.case.proofs.Case.after_finish.Lts as lts
-use Rattle.book.proofs.Book.take_finish.Reads as take-finish-reads
 
 take-finish-requires : tie.Need-take-finish-requires
 take-finish-requires c κs = search needs

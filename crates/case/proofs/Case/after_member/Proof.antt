@@ -2,9 +2,6 @@
 use borrow.Author.Needs.{needs}
 use Rattle.case.proofs.Case.after_member.Statement.{statement}
 use Rattle.case.proofs.Case.after_member.Tie as tie
-use Rattle.case.proofs.Case.after_member.Reads as reads
-use Rattle.case.proofs.Case.after_member.Lts as lts
-use Rattle.book.proofs.Book.take_member.Reads as take-member-reads
 
 take-member-requires : tie.Need-take-member-requires
 take-member-requires c κs = search needs

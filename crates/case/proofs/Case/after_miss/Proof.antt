@@ -4,10 +4,6 @@ use Rattle.case.specs.Cases.{missCase}
 use borrow.Author.Needs.{needs}
 use Rattle.case.proofs.Case.after_miss.Statement.{statement}
 use Rattle.case.proofs.Case.after_miss.Tie as tie
-use Rattle.case.proofs.Case.after_miss.Reads as reads
-use Rattle.case.proofs.Case.after_miss.Lts as lts
-use Rattle.case.proofs.with_tally.Reads as with-tally-reads
-use Rattle.roll.proofs.Roll.miss.Reads as miss-reads
 
 miss-requires : tie.Need-miss-requires
 miss-requires c κs = search needs

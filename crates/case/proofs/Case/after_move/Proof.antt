@@ -4,12 +4,6 @@ use Rattle.case.specs.Cases.{moveCase}
 use borrow.Author.Needs.{needs}
 use Rattle.case.proofs.Case.after_move.Statement.{statement}
 use Rattle.case.proofs.Case.after_move.Tie as tie
-use Rattle.case.proofs.Case.after_move.Reads as reads
-use Rattle.case.proofs.Case.after_move.Lts as lts
-use Rattle.accounts.proofs.members.Members.move_out.Reads as move-out-reads
-use Rattle.accounts.proofs.members.Members.owes.Reads as owes-reads
-use Rattle.case.proofs.with_tally.Reads as with-tally-reads
-use Rattle.roll.proofs.Roll.move_to.Reads as move-to-reads
 
 owes-requires : tie.Need-owes-requires
 owes-requires c κs = search needs

@@ -2,9 +2,6 @@
 use borrow.Author.Needs.{needs}
 use Rattle.case.proofs.Case.after_pay.Statement.{statement}
 use Rattle.case.proofs.Case.after_pay.Tie as tie
-use Rattle.case.proofs.Case.after_pay.Reads as reads
-use Rattle.case.proofs.Case.after_pay.Lts as lts
-use Rattle.book.proofs.Book.take_pay.Reads as take-pay-reads
 
 take-pay-requires : tie.Need-take-pay-requires
 take-pay-requires c κs = search needs

@@ -4,11 +4,6 @@ use Rattle.case.specs.Cases.{poolCase}
 use borrow.Author.Needs.{needs}
 use Rattle.case.proofs.Case.after_pool.Statement.{statement}
 use Rattle.case.proofs.Case.after_pool.Tie as tie
-use Rattle.case.proofs.Case.after_pool.Reads as reads
-use Rattle.case.proofs.Case.after_pool.Lts as lts
-use Rattle.accounts.proofs.pools.Pools.put.Reads as put-reads
-use Rattle.case.proofs.with_tally.Reads as with-tally-reads
-use Rattle.roll.proofs.Roll.put_up.Reads as put-up-reads
 
 put-requires : tie.Need-put-requires
 put-requires c κs = search needs

@@ -2,9 +2,6 @@
 use borrow.Author.Needs.{needs}
 use Rattle.case.proofs.Case.after_round.Statement.{statement}
 use Rattle.case.proofs.Case.after_round.Tie as tie
-use Rattle.case.proofs.Case.after_round.Reads as reads
-use Rattle.case.proofs.Case.after_round.Lts as lts
-use Rattle.book.proofs.Book.take_round.Reads as take-round-reads
 
 take-round-requires : tie.Need-take-round-requires
 take-round-requires c κs = search needs

@@ -4,10 +4,6 @@ use Rattle.case.specs.Cases.{tearCase}
 use borrow.Author.Needs.{needs}
 use Rattle.case.proofs.Case.after_tear.Statement.{statement}
 use Rattle.case.proofs.Case.after_tear.Tie as tie
-use Rattle.case.proofs.Case.after_tear.Reads as reads
-use Rattle.case.proofs.Case.after_tear.Lts as lts
-use Rattle.case.proofs.with_tally.Reads as with-tally-reads
-use Rattle.roll.proofs.Roll.tear.Reads as tear-reads
 
 tear-requires : tie.Need-tear-requires
 tear-requires c κs = search needs

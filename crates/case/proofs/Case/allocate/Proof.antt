@@ -4,10 +4,6 @@ use Rattle.case.proofs.Outcomes.{declined, accepted}
 use borrow.Author.Needs.{needs}
 use Rattle.case.proofs.Case.allocate.Statement.{statement}
 use Rattle.case.proofs.Case.allocate.Tie as tie
-use Rattle.case.proofs.Case.allocate.Reads as reads
-use Rattle.case.proofs.Case.allocate.Lts as lts
-use Rattle.book.proofs.Book.allocate_answer.Reads as allocate-answer-reads
-use Rattle.case.proofs.Case.after_allocate.Reads as after-allocate-reads
 
 allocate-answer-requires : tie.Need-allocate-answer-requires
 allocate-answer-requires c κs = search needs

@@ -4,10 +4,6 @@ use Rattle.case.proofs.Outcomes.{declined, accepted}
 use borrow.Author.Needs.{needs}
 use Rattle.case.proofs.Case.bid.Statement.{statement}
 use Rattle.case.proofs.Case.bid.Tie as tie
-use Rattle.case.proofs.Case.bid.Reads as reads
-use Rattle.case.proofs.Case.bid.Lts as lts
-use Rattle.book.proofs.Book.bid_answer.Reads as bid-answer-reads
-use Rattle.case.proofs.Case.after_bid.Reads as after-bid-reads
 
 bid-answer-requires : tie.Need-bid-answer-requires
 bid-answer-requires c κs = search needs

@@ -4,10 +4,6 @@ use Rattle.case.proofs.Outcomes.{declined, accepted}
 use borrow.Author.Needs.{needs}
 use Rattle.case.proofs.Case.call.Statement.{statement}
 use Rattle.case.proofs.Case.call.Tie as tie
-use Rattle.case.proofs.Case.call.Reads as reads
-use Rattle.case.proofs.Case.call.Lts as lts
-use Rattle.book.proofs.Book.call_answer.Reads as call-answer-reads
-use Rattle.case.proofs.Case.after_call.Reads as after-call-reads
 
 call-answer-requires : tie.Need-call-answer-requires
 call-answer-requires c κs = search needs

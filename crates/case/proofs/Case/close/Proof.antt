@@ -4,10 +4,6 @@ use Rattle.case.proofs.Outcomes.{declined, accepted}
 use borrow.Author.Needs.{needs}
 use Rattle.case.proofs.Case.close.Statement.{statement}
 use Rattle.case.proofs.Case.close.Tie as tie
-use Rattle.case.proofs.Case.close.Reads as reads
-use Rattle.case.proofs.Case.close.Lts as lts
-use Rattle.book.proofs.Book.close_answer.Reads as close-answer-reads
-use Rattle.case.proofs.Case.after_close.Reads as after-close-reads
 
 close-answer-requires : tie.Need-close-answer-requires
 close-answer-requires c κs = search needs

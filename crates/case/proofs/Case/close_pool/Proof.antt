@@ -4,14 +4,6 @@ use Rattle.case.specs.Cases.{closePool}
 use borrow.Author.Needs.{needs}
 use Rattle.case.proofs.Case.close_pool.Statement.{statement}
 use Rattle.case.proofs.Case.close_pool.Tie as tie
-use Rattle.case.proofs.Case.close_pool.Reads as reads
-use Rattle.case.proofs.Case.close_pool.Lts as lts
-use Rattle.accounts.proofs.bids.Bids.take_wins.Reads as take-wins-reads
-use Rattle.accounts.proofs.bids.Bids.wins.Reads as wins-reads
-use Rattle.accounts.proofs.rounds.Rounds.reserve.Reads as reserve-reads
-use Rattle.book.proofs.Book.open_units.Reads as open-units-reads
-use Rattle.book.proofs.round_of.Reads as round-of-reads
-use Rattle.roll.proofs.Roll.give.Reads as give-reads
 
 returns : tie.Need-returns
 unfolding closePool
@@ -40,15 +32,16 @@ give-requires c κs = search needs
 
 returns-2 : tie.Need-returns-2
 unfolding closePool
-returns-2 c = 
+returns-2 c =
     rw (
-    lt-ltb _ _ (c .before .before .before .before .before .before .before .before .before .before .if1 .left),
-    c .give .ensures,
-    c .before .before .before .take-wins .ensures,
-    c .before .before .before .before .wins .ensures,
-    c .before .before .before .before .before .reserve .ensures,
-    c .before .before .before .before .before .before .open-units .ensures,
-    c .before .before .before .before .before .before .before .before .before .round-of .ensures)
+      lt-ltb _ _ (c .before .before .before .before .before .before .before .before .before .before .if1 .left),
+      c .give .ensures,
+      c .before .before .before .take-wins .ensures,
+      c .before .before .before .before .wins .ensures,
+      c .before .before .before .before .before .reserve .ensures,
+      c .before .before .before .before .before .before .open-units .ensures,
+      c .before .before .before .before .before .before .before .before .before .round-of .ensures,
+    )
 
 pub close-pool-spec : {M : Type 1} → statement M
 close-pool-spec =

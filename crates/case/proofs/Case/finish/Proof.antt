@@ -4,10 +4,6 @@ use Rattle.case.proofs.Outcomes.{declined, accepted}
 use borrow.Author.Needs.{needs}
 use Rattle.case.proofs.Case.finish.Statement.{statement}
 use Rattle.case.proofs.Case.finish.Tie as tie
-use Rattle.case.proofs.Case.finish.Reads as reads
-use Rattle.case.proofs.Case.finish.Lts as lts
-use Rattle.book.proofs.Book.finish_answer.Reads as finish-answer-reads
-use Rattle.case.proofs.Case.after_finish.Reads as after-finish-reads
 
 finish-answer-requires : tie.Need-finish-answer-requires
 finish-answer-requires c κs = search needs

@@ -3,10 +3,6 @@ use Rattle.case.specs.Cases.{headOutcome}
 use borrow.Author.Needs.{needs}
 use Rattle.case.proofs.Case.head.Statement.{statement}
 use Rattle.case.proofs.Case.head.Tie as tie
-use Rattle.case.proofs.Case.head.Reads as reads
-use Rattle.case.proofs.Case.head.Lts as lts
-use Rattle.book.proofs.head_answer.Reads as head-answer-reads
-use Rattle.case.proofs.Case.new.Reads as new-reads
 
 head-answer-requires : tie.Need-head-answer-requires
 head-answer-requires c κs = search needs

@@ -4,10 +4,6 @@ use Rattle.case.proofs.Outcomes.{declined, accepted}
 use borrow.Author.Needs.{needs}
 use Rattle.case.proofs.Case.member.Statement.{statement}
 use Rattle.case.proofs.Case.member.Tie as tie
-use Rattle.case.proofs.Case.member.Reads as reads
-use Rattle.case.proofs.Case.member.Lts as lts
-use Rattle.book.proofs.Book.member_answer.Reads as member-answer-reads
-use Rattle.case.proofs.Case.after_member.Reads as after-member-reads
 
 member-answer-requires : tie.Need-member-answer-requires
 member-answer-requires c κs = search needs

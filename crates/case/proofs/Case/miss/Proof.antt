@@ -4,10 +4,6 @@ use Rattle.case.proofs.Outcomes.{declined, accepted}
 use borrow.Author.Needs.{needs}
 use Rattle.case.proofs.Case.miss.Statement.{statement}
 use Rattle.case.proofs.Case.miss.Tie as tie
-use Rattle.case.proofs.Case.miss.Reads as reads
-use Rattle.case.proofs.Case.miss.Lts as lts
-use Rattle.book.proofs.Book.miss_answer.Reads as miss-answer-reads
-use Rattle.case.proofs.Case.after_miss.Reads as after-miss-reads
 
 miss-answer-requires : tie.Need-miss-answer-requires
 miss-answer-requires c κs = search needs

@@ -4,10 +4,6 @@ use Rattle.case.proofs.Outcomes.{declined, accepted}
 use borrow.Author.Needs.{needs}
 use Rattle.case.proofs.Case.move_units.Statement.{statement}
 use Rattle.case.proofs.Case.move_units.Tie as tie
-use Rattle.case.proofs.Case.move_units.Reads as reads
-use Rattle.case.proofs.Case.move_units.Lts as lts
-use Rattle.book.proofs.Book.move_answer.Reads as move-answer-reads
-use Rattle.case.proofs.Case.after_move.Reads as after-move-reads
 
 move-answer-requires : tie.Need-move-answer-requires
 move-answer-requires c κs = search needs

@@ -4,10 +4,6 @@ use Rattle.case.proofs.Outcomes.{declined, accepted}
 use borrow.Author.Needs.{needs}
 use Rattle.case.proofs.Case.pay.Statement.{statement}
 use Rattle.case.proofs.Case.pay.Tie as tie
-use Rattle.case.proofs.Case.pay.Reads as reads
-use Rattle.case.proofs.Case.pay.Lts as lts
-use Rattle.book.proofs.Book.pay_answer.Reads as pay-answer-reads
-use Rattle.case.proofs.Case.after_pay.Reads as after-pay-reads
 
 pay-answer-requires : tie.Need-pay-answer-requires
 pay-answer-requires c κs = search needs

@@ -4,10 +4,6 @@ use Rattle.case.proofs.Outcomes.{declined, accepted}
 use borrow.Author.Needs.{needs}
 use Rattle.case.proofs.Case.pool.Statement.{statement}
 use Rattle.case.proofs.Case.pool.Tie as tie
-use Rattle.case.proofs.Case.pool.Reads as reads
-use Rattle.case.proofs.Case.pool.Lts as lts
-use Rattle.book.proofs.Book.pool_answer.Reads as pool-answer-reads
-use Rattle.case.proofs.Case.after_pool.Reads as after-pool-reads
 
 pool-answer-requires : tie.Need-pool-answer-requires
 pool-answer-requires c κs = search needs

@@ -5,10 +5,6 @@ use Rattle.case.proofs.Outcomes.{declined, accepted}
 use borrow.Author.Needs.{needs}
 use Rattle.case.proofs.Case.round.Statement.{statement}
 use Rattle.case.proofs.Case.round.Tie as tie
-use Rattle.case.proofs.Case.round.Reads as reads
-use Rattle.case.proofs.Case.round.Lts as lts
-use Rattle.case.proofs.after.Reads as after-reads
-use Rattle.case.proofs.answer_in.Reads as answer-in-reads
 
 answer-in-requires : tie.Need-answer-in-requires
 answer-in-requires c κs = search needs

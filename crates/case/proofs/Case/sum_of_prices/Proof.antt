@@ -1,8 +1,8 @@
 -- `case::Case::sum_of_prices` meets its contract. Assumes nothing.
 use mathlib.Core.Path.{_∙_, ap}
 use native.Mathlib.Omega.{arith}
-use Prim.Native.Nat.{_*_, _<_, _^_}
-use lib.IntN.{ℤ, subℕ}
+use Prim.Native.Nat.{_*_}
+use lib.IntN.{ℤ}
 use mir.Syntax.{w64}
 use mir.Val.{toZ, ofZ}
 use mir.Facts.{toZ-ofZ}
@@ -12,11 +12,6 @@ use Rattle.case.proofs.Signed.{sub-fits}
 use borrow.Author.Needs.{needs}
 use Rattle.case.proofs.Case.sum_of_prices.Statement.{statement}
 use Rattle.case.proofs.Case.sum_of_prices.Tie as tie
-use Rattle.case.proofs.Case.sum_of_prices.Reads as reads
-use Rattle.case.proofs.Case.sum_of_prices.Lts as lts
-use Rattle.book.proofs.Book.priced.Reads as priced-reads
-use Rattle.book.proofs.Book.prices.Reads as prices-reads
-use Rattle.case.proofs.difference.Reads as difference-reads
 
 prices-requires : tie.Need-prices-requires
 prices-requires c κs = search needs

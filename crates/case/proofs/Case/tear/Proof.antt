@@ -4,10 +4,6 @@ use Rattle.case.proofs.Outcomes.{declined, accepted}
 use borrow.Author.Needs.{needs}
 use Rattle.case.proofs.Case.tear.Statement.{statement}
 use Rattle.case.proofs.Case.tear.Tie as tie
-use Rattle.case.proofs.Case.tear.Reads as reads
-use Rattle.case.proofs.Case.tear.Lts as lts
-use Rattle.book.proofs.Book.tear_answer.Reads as tear-answer-reads
-use Rattle.case.proofs.Case.after_tear.Reads as after-tear-reads
 
 tear-answer-requires : tie.Need-tear-answer-requires
 tear-answer-requires c κs = search needs
