@@ -3,6 +3,6 @@ pub mod Bounds
 pub mod Finished
 pub mod Ranges
 pub mod Shown
+pub mod AnswersShown
 pub mod Outputs
 pub mod ResultShown
-pub mod AnswersShown

@@ -1,7 +1,3 @@
-pub mod Outcomes
-pub mod Signed
-pub mod Fields
-pub mod Running
 pub mod Showing
 pub mod SetupSteps
 pub mod CallingSteps
@@ -13,3 +9,7 @@ pub mod Decoded
 pub mod Observations
 pub mod Claim
 pub mod Finishes
+pub mod Outcomes
+pub mod Signed
+pub mod Fields
+pub mod Running
