@@ -2,3 +2,6 @@ pub mod Placing
 pub mod Widths
 pub mod Lines
 pub mod Taking
+pub mod Ending
+pub mod Splitting
+pub mod Printing

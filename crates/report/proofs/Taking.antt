@@ -47,34 +47,33 @@ pub size-all : (s : List ℕ) → 3 ≤ length s → fieldSize s ≤ length s �
 unfolding wholeSize
 size-all s h l = rw (le-leb 3 (length s) h, le-leb (fieldSize s) (length s) l) refl
 
+pub first-of : (s : List ℕ) (size : ℕ) → wholeFirst s ≡ true → size ≡ fieldSize s → First s size
+first-of s size w i =
+    let three : 3 ≤ length s = leb-true 3 (length s) (and-left (leb 3 (length s)) (leb (fieldSize s) (length s)) w) in
+    record {
+      whole = w;
+      is = i;
+      least = omega (arith, i, size-whole s three);
+      most = omega (arith, i, leb-true (fieldSize s) (length s) (and-right (leb 3 (length s)) (leb (fieldSize s) (length s)) w));
+    }
+
 module _ (s : List ℕ) (size : ℕ) (e : size ≡ wholeSize s) where
   pub first-whole : (size ≡ 0 → ⊥) → First s size
   unfolding wholeSize
   first-whole some =
-      cases (wholeFirst s) (First s size)
-      (λ w.
-      let i : size ≡ fieldSize s = e ∙ rw w refl in
-      let three : 3 ≤ length s = leb-true 3 (length s) (and-left (leb 3 (length s)) (leb (fieldSize s) (length s)) w) in
-      record {
-        whole = w;
-        is = i;
-        least = omega (arith, i, size-whole s three);
-        most = omega (arith, i, leb-true (fieldSize s) (length s) (and-right (leb 3 (length s)) (leb (fieldSize s) (length s)) w));
-      })
-      (λ w. absurd (some (e ∙ rw w refl)))
+      cases (wholeFirst s) (First s size) (λ w. first-of s size w (e ∙ rw w refl)) (λ w. absurd (some (e ∙ rw w refl)))
 
   pub first-cut : size ≡ 0 → wholeFirst s ≡ false
   unfolding wholeSize
   first-cut z =
       cases (wholeFirst s) (wholeFirst s ≡ false)
       (λ w.
-      let i : size ≡ fieldSize s = e ∙ rw w refl in
-      let three : 3 ≤ length s = leb-true 3 (length s) (and-left (leb 3 (length s)) (leb (fieldSize s) (length s)) w) in
-      absurd (omega (arith, i, z, size-whole s three)))
+      let f : First s size = first-of s size w (e ∙ rw w refl) in
+      absurd (omega (arith, z, f .least)))
       (λ w. w)
 
 -- the whole fields, where the first is all there
-fields-next : (n : ℕ) (s : List ℕ) (size : ℕ) → First s size → 0 < n → wholeFields n s ≡ take size s ∷ wholeFields (n - 1) (drop size s)
+pub fields-next : (n : ℕ) (s : List ℕ) (size : ℕ) → First s size → 0 < n → wholeFields n s ≡ take size s ∷ wholeFields (n - 1) (drop size s)
 unfolding wholeFields
 fields-next zero s size f h = absurd (omega arith)
 fields-next (suc n) s size f h =
