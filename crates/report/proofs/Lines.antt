@@ -43,9 +43,9 @@ six (a ∷ b ∷ c ∷ d ∷ e ∷ f ∷ g ∷ xs) h = absurd (omega arith)
 pub l-line : (r : Result) → length (r .charges) ≡ 6
     → lineOf 108 8
     (r .loss ∷ getD (r .charges) 0 0 ∷ getD (r .charges) 1 0 ∷ getD (r .charges) 2 0 ∷ getD (r .charges) 3 0 ∷ getD (r .charges) 4 0
-      ∷ getD (r .charges) 5 0
-      ∷ r .uncovered
-      ∷ [])
+    ∷ getD (r .charges) 5 0
+    ∷ r .uncovered
+    ∷ [])
     ≡ lLineOf r
 unfolding lLineOf
 l-line r h = sym (ap (λ (xs : List ℕ). record { letter = 108; numbers = r .loss ∷ xs ++ (r .uncovered ∷ []) }) (six (r .charges) h))

@@ -148,8 +148,8 @@ module _ (h : Held) (input old new : List ℕ) (held : Held) (used written : ℕ
       by-size (suc k) h = rw (drop-cons input used 0 p) refl
 
   pub goes : (o : Applied) → o ≡ applied held (fieldAt input used size) → getD input used 0 < 256 → o .answer < 256
-    → (r : ℕ) (last : List ℕ) → _≡_ {A = Placed} (r, last) (placed (lineText (sLine (getD input used 0 ∷ []) (o .answer))) new written)
-    → Taking h input old last (o .held) (used + size) r
+      → (r : ℕ) (last : List ℕ) → _≡_ {A = Placed} (r, last) (placed (lineText (sLine (getD input used 0 ∷ []) (o .answer))) new written)
+      → Taking h input old last (o .held) (used + size) r
   unfolding ledgerLines ledgerAfter bytesOf
   goes o f tag answer r last w =
       let line = sLine (getD input used 0 ∷ []) (o .answer) in
@@ -172,17 +172,17 @@ module _ (h : Held) (input old new : List ℕ) (held : Held) (used written : ℕ
         done = g .done ++ (line ∷ []);
         told = to ∙ ap (λ (k : ℕ). k + length t) (g .told) ∙ sym (length-append (text (g .done)) t) ∙ ap length (sym all);
         out =
-        ap (λ (q : Placed). q .1) fits
-        ∙ ap (λ (k : ℕ). sets new k t) from
-        ∙ ap (λ (x : List ℕ). sets x (0 + length (text (g .done))) t) (g .out)
-        ∙ sets-then old 0 (text (g .done)) t
-        ∙ ap (sets old 0) (sym all);
+            ap (λ (q : Placed). q .1) fits
+            ∙ ap (λ (k : ℕ). sets new k t) from
+            ∙ ap (λ (x : List ℕ). sets x (0 + length (text (g .done))) t) (g .out)
+            ∙ sets-then old 0 (text (g .done)) t
+            ∙ ap (sets old 0) (sym all);
         lines =
-        append-assoc (g .done) (line ∷ []) (ledgerLines (o .held) left)
-        ∙ ap (λ (x : Line). g .done ++ (x ∷ ledgerLines (o .held) left)) (sym (same-line (o .answer)))
-        ∙ ap (λ (q : Applied). g .done ++ (sLine (fieldAt input used size) (q .answer) ∷ ledgerLines (q .held) left)) f
-        ∙ ap (λ (fs : List (List ℕ)). g .done ++ ledgerLines held fs) (sym next)
-        ∙ g .lines;
+            append-assoc (g .done) (line ∷ []) (ledgerLines (o .held) left)
+            ∙ ap (λ (x : Line). g .done ++ (x ∷ ledgerLines (o .held) left)) (sym (same-line (o .answer)))
+            ∙ ap (λ (q : Applied). g .done ++ (sLine (fieldAt input used size) (q .answer) ∷ ledgerLines (q .held) left)) f
+            ∙ ap (λ (fs : List (List ℕ)). g .done ++ ledgerLines held fs) (sym next)
+            ∙ g .lines;
         ends = ap (λ (q : Applied). ledgerAfter (q .held) left) f ∙ ap (ledgerAfter held) (sym next) ∙ g .ends;
         counted = omega (arith, ap bytesOf next, field-length, g .counted);
       }

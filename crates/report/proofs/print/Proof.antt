@@ -1,3 +1,14 @@
+-- `report::print` meets its contract. Assumes nothing.
+use native.Mathlib.Omega.{arith}
+use Prim.Native.Nat.{ℕ, _+_, _-_, _*_, _^_, _≤_, _<_}
+use lib.ListN.{length, getD, drop}
+use mathlib.Core.Path.{_≡_, refl, sym, ap, _∙_}
+use mathlib.Core.List.{List, [], _∷_, _++_, map}
+use Rattle.lists.proofs.Each.{each-of}
+use Rattle.lines.specs.Placed.{Placed}
+use Rattle.report.specs.Texts.{TakesPart, cutLines, placedLines}
+use Rattle.case.specs.declared.Held.{Held}
+use Rattle.report.proofs.Printing.{prints-none, rest-lent, prints}
 use borrow.Author.Needs.{needs}
 use Rattle.report.proofs.print.Statement.{statement}
 use Rattle.report.proofs.print.Tie as tie
@@ -9,13 +20,13 @@ use Rattle.report.proofs.write_cut.Reads as write-cut-reads
 use Rattle.report.proofs.write_end.Reads as write-end-reads
 
 returns : tie.Need-returns
-returns c = ?
+returns c = prints-none _ _ (omega arith)
 
 sub-if2 : tie.Need-sub-if2
 sub-if2 c = search needs
 
 returns-2 : tie.Need-returns-2
-returns-2 c = ?
+returns-2 c = prints-none _ _ (omega arith)
 
 none-requires : tie.Need-none-requires
 none-requires c κs = search needs
@@ -42,7 +53,16 @@ same-length : tie.Need-same-length
 same-length c = search needs
 
 returns-3 : tie.Need-returns-3
-returns-3 c = ?
+returns-3 c =
+    let a = c .before .before .before .before .before .before .before .before .before .before .before .before .before .before .before .before .before .before .before .args in
+    let input = a .input .now in
+    let t = c .before .before .before .before .before .before .before .before .before .before .before .before .take-part in
+    prints input (a .out .now) _ _ _ (t .result) (c .before .before .before .before .before .before .write-cut .result) _
+    (each-of (λ (b : ℕ). b < 256) input 0 (λ i h. omega (arith, c .before .before .before .before .before .before .before .before .before .before .before .before .before .before .before .before .before .before .shared-slice-known .given i)))
+    (omega (arith, c .before .before .before .before .before .before .before .before .before .before .before .before .before .before .before .before .if1 .left, c .before .before .before .before .before .before .before .before .before .before .before .before .before .before .before .if2 .left))
+    (rw (c .before .before .before .before .before .before .before .before .before .before .before .before .before .before .none .ensures) at (t .ensures))
+    (rw (rest-lent input (t .result .used)) at (c .before .before .before .before .before .before .write-cut .ensures))
+    (c .before .before .write-end .ensures)
 
 pub print-spec : {M : Type 1} → statement M
 print-spec =

@@ -46,7 +46,7 @@ returns-2 : tie.Need-returns-2 Inv-loop μ-loop
 returns-2 c = takes _ _ _ _ _ _ _ (c .before .before .before .before .loop .inv) (first-cut _ _ (sized (c .before .before .before .before .before .before .before .before .args .input .now) (c .before .before .before .before .loop .used) _ (c .before .whole-size .ensures)) (c .if2 .taken))
 
 add-end : tie.Need-add-end Inv-loop μ-loop
-add-end c = 
+add-end c =
     omega (arith, field-ends _ _ _ _ _ _ _ (c .before .before .before .before .loop .inv) (c .before .before .before .loop-test .taken) _ (sized (c .before .before .before .before .before .before .before .before .args .input .now) (c .before .before .before .before .loop .used) _ (c .before .whole-size .ensures)) (c .if2 .left))
 
 sub-read-call : tie.Need-sub-read-call Inv-loop μ-loop
@@ -56,7 +56,7 @@ part-read-call-start : tie.Need-part-read-call-start Inv-loop μ-loop
 part-read-call-start c = search needs
 
 part-read-call-end : tie.Need-part-read-call-end Inv-loop μ-loop
-part-read-call-end c = 
+part-read-call-end c =
     let h = field-ends _ _ _ _ _ _ _ (c .before .before .before .before .loop .inv) (c .before .before .before .loop-test .taken) _ (sized (c .before .before .before .before .before .before .before .before .args .input .now) (c .before .before .before .before .loop .used) _ (c .before .whole-size .ensures)) (c .if2 .left) in
     search needs
 
@@ -76,11 +76,11 @@ accept-requires : tie.Need-accept-requires Inv-loop μ-loop
 accept-requires c κs = search needs
 
 loop-less : tie.Need-loop-less Inv-loop μ-loop
-loop-less c = 
+loop-less c =
     omega (arith, field-some _ _ _ _ _ _ _ (c .before .before .before .before .before .before .before .before .before .before .before .before .before .before .before .before .loop .inv) (c .before .before .before .before .before .before .before .before .before .before .before .before .before .before .before .loop-test .taken) _ (sized (c .before .before .before .before .before .before .before .before .before .before .before .before .before .before .before .before .before .before .before .before .args .input .now) (c .before .before .before .before .before .before .before .before .before .before .before .before .before .before .before .before .loop .used) _ (c .before .before .before .before .before .before .before .before .before .before .before .before .before .whole-size .ensures)) (c .before .before .before .before .before .before .before .before .before .before .before .before .if2 .left))
 
 loop-again : tie.Need-loop-again Inv-loop μ-loop
-loop-again c = 
+loop-again c =
     let input = c .before .before .before .before .before .before .before .before .before .before .before .before .before .before .before .before .before .before .before .before .args .input .now in
     let l = c .before .before .before .before .before .before .before .before .before .before .before .before .before .before .before .before .loop in
     let size = c .before .before .before .before .before .before .before .before .before .before .before .before .before .whole-size .result in
@@ -91,11 +91,11 @@ loop-again c =
     _ _ (c .before .before .before .before .write-answer .ensures)
 
 loop-less-2 : tie.Need-loop-less-2 Inv-loop μ-loop
-loop-less-2 c = 
+loop-less-2 c =
     omega (arith, field-some _ _ _ _ _ _ _ (c .before .before .before .before .before .before .before .before .before .before .before .before .before .before .before .loop .inv) (c .before .before .before .before .before .before .before .before .before .before .before .before .before .before .loop-test .taken) _ (sized (c .before .before .before .before .before .before .before .before .before .before .before .before .before .before .before .before .before .before .before .args .input .now) (c .before .before .before .before .before .before .before .before .before .before .before .before .before .before .before .loop .used) _ (c .before .before .before .before .before .before .before .before .before .before .before .before .whole-size .ensures)) (c .before .before .before .before .before .before .before .before .before .before .before .if2 .left))
 
 loop-again-2 : tie.Need-loop-again-2 Inv-loop μ-loop
-loop-again-2 c = 
+loop-again-2 c =
     let input = c .before .before .before .before .before .before .before .before .before .before .before .before .before .before .before .before .before .before .before .args .input .now in
     let l = c .before .before .before .before .before .before .before .before .before .before .before .before .before .before .before .loop in
     let size = c .before .before .before .before .before .before .before .before .before .before .before .before .whole-size .result in

@@ -34,13 +34,13 @@ add-size-2 : tie.Need-add-size-2
 add-size-2 c = search needs
 
 returns-2 : tie.Need-returns-2
-returns-2 c = 
+returns-2 c =
     let s = c .before .before .before .before .before .before .before .args .input .now in
     let e = size-whole s (c .before .before .before .before .before .if1 .left) in
     size-cut s (c .before .before .before .before .before .if1 .left) (omega (arith, e))
 
 returns-3 : tie.Need-returns-3
-returns-3 c = 
+returns-3 c =
     let s = c .before .before .before .before .before .before .before .args .input .now in
     let e = size-whole s (c .before .before .before .before .before .if1 .left) in
     omega (arith, e, size-all s (c .before .before .before .before .before .if1 .left) (omega (arith, e)))

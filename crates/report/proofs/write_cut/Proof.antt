@@ -15,7 +15,7 @@ use Rattle.report.proofs.write_cut.Lts as lts
 use Rattle.report.proofs.write_answer.Reads as write-answer-reads
 
 returns : tie.Need-returns
-returns c = 
+returns c =
     let a = c .before .before .before .args in
     lines-none (a .out .now) (a .at) ∙ ap (λ (ls : List Line). placedLines ls (a .out .now) (a .at)) (cut-none (a .rest .now) (c .if1 .taken))
 
@@ -29,7 +29,7 @@ same-length : tie.Need-same-length
 same-length c = search needs
 
 returns-2 : tie.Need-returns-2
-returns-2 c = 
+returns-2 c =
     let a = c .before .before .before .before .before .before .before .before .args in
     c .before .before .write-answer .ensures
     ∙ lines-one (sLine (getD (a .rest .now) 0 0 ∷ []) 1) (a .out .now) (a .at)

@@ -24,14 +24,14 @@ same-length : tie.Need-same-length
 same-length c = search needs
 
 returns : tie.Need-returns
-returns c = 
+returns c =
     let a = c .before .before .before .before .before .before .before .before .before .before .before .before .args in
     let b = a .held .case .book in
     lines-then (tab (b .pools .given) (pLineOf (a .held .case))) (finishLines b) (a .out .now) _ _ (a .at) _ _ (c .before .before .before .before .before .before .write-pools .ensures) (c .before .before .write-finish .ensures)
     ∙ ap (λ (ls : List Line). placedLines ls (a .out .now) (a .at)) (held-some (a .held) (c .before .before .before .before .before .before .before .before .before .before .if1 .taken))
 
 returns-2 : tie.Need-returns-2
-returns-2 c = 
+returns-2 c =
     let a = c .before .before .args in
     lines-none (a .out .now) (a .at)
     ∙ ap (λ (ls : List Line). placedLines ls (a .out .now) (a .at)) (held-none (a .held) (c .if1 .left))

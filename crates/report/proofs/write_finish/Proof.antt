@@ -18,7 +18,7 @@ letter-requires : tie.Need-letter-requires
 letter-requires c κs = search needs
 
 returns : tie.Need-returns
-returns c = 
+returns c =
     let a = c .before .before .before .args in
     lines-none (a .out .now) (a .at)
     ∙ ap (λ (ls : List Line). placedLines ls (a .out .now) (a .at)) (not-finished (a .book) _ (c .before .letter .ensures) (c .if1 .taken))
@@ -33,7 +33,7 @@ same-length : tie.Need-same-length
 same-length c = search needs
 
 returns-2 : tie.Need-returns-2
-returns-2 c = 
+returns-2 c =
     let a = c .before .before .before .before .before .before .before .before .before .args in
     c .before .before .write-result .ensures
     ∙ ap (λ (ls : List Line). placedLines ls (a .out .now) (a .at)) (finished (a .book) _ (c .before .before .before .before .before .before .before .letter .ensures) (c .before .before .before .before .before .before .if1 .left) _ (c .before .before .before .before .result .ensures))

@@ -28,7 +28,7 @@ same-length : tie.Need-same-length
 same-length c = search needs
 
 returns : tie.Need-returns
-returns c = 
+returns c =
     let a = c .before .before .before .before .before .before .before .before .before .before .before .args in
     c .before .before .write-line .ensures
     ∙ ap (λ (l : Line). placed (lineText l) (a .out .now) (a .at)) (m-line (a .result) (a .m) _ _ _ (c .before .before .before .before .before .before .rank-at .ensures) (c .before .before .before .before .before .number-at .ensures) (c .before .before .before .before .number-at2 .ensures))

@@ -21,7 +21,7 @@ use Rattle.sets.proofs.next.Reads as next-reads
 use Rattle.sets.proofs.without_least.Reads as without-least-reads
 
 abbrev Inv-loop : tie.InvT-loop
-Inv-loop result set out₀ at to₀ left₀ out to left = 
+Inv-loop result set out₀ at to₀ left₀ out to left =
     (left < 2 ^ 32) × (length out ≡ length out₀)
     × (placedLines (map (mLineOf result) (members left)) out to ≡ placedLines (map (mLineOf result) (members set)) out₀ at)
 
@@ -53,7 +53,7 @@ loop-less : tie.Need-loop-less Inv-loop μ-loop
 loop-less c = turn (c .before .before .before .before) .shorter
 
 loop-again : tie.Need-loop-again Inv-loop μ-loop
-loop-again c = 
+loop-again c =
     let a = c .before .before .before .before .before .before .before .before .before .args in
     let l = c .before .before .before .before .before .before .before .loop in
     let t = turn (c .before .before .before .before) in
@@ -69,7 +69,7 @@ same-length : tie.Need-same-length Inv-loop μ-loop
 same-length c = search needs
 
 returns : tie.Need-returns Inv-loop μ-loop
-returns c = 
+returns c =
     let a = c .before .before .before .args in
     let l = c .before .loop in
     lines-none (l .out) (l .to)

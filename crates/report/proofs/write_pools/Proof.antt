@@ -16,7 +16,7 @@ use Rattle.report.proofs.write_pools.Lts as lts
 use Rattle.report.proofs.write_pool.Reads as write-pool-reads
 
 abbrev Inv-loop : tie.InvT-loop
-Inv-loop case out₀ at given to₀ pool₀ out to pool = 
+Inv-loop case out₀ at given to₀ pool₀ out to pool =
     (pool ≤ given) × (length out ≡ length out₀)
     × (placedLines (tabFrom pool given (pLineOf case)) out to ≡ placedLines (tab given (pLineOf case)) out₀ at)
 
@@ -24,7 +24,7 @@ abbrev μ-loop : tie.MeasureT-loop
 μ-loop case out₀ at given to₀ pool₀ out to pool = given - pool
 
 loop-holds : tie.Need-loop-holds Inv-loop μ-loop
-loop-holds c = 
+loop-holds c =
     let a = c .before .before .before .args in
     (omega arith, refl, ap (λ (ls : List Line). placedLines ls (a .out .now) (a .at)) (from-start (a .case .book .pools .given) (pLineOf (a .case))))
 
@@ -38,7 +38,7 @@ loop-less : tie.Need-loop-less Inv-loop μ-loop
 loop-less c = search needs
 
 loop-again : tie.Need-loop-again Inv-loop μ-loop
-loop-again c = 
+loop-again c =
     let a = c .before .before .before .before .before .before .before .before .before .args in
     let l = c .before .before .before .before .before .loop in
     let f = pLineOf (a .case) in
@@ -54,7 +54,7 @@ same-length : tie.Need-same-length Inv-loop μ-loop
 same-length c = search needs
 
 returns : tie.Need-returns Inv-loop μ-loop
-returns c = 
+returns c =
     let a = c .before .before .before .before .before .args in
     let l = c .before .loop in
     lines-none (l .out) (l .to)

@@ -24,7 +24,7 @@ same-length : tie.Need-same-length
 same-length c = search needs
 
 returns : tie.Need-returns
-returns c = 
+returns c =
     let a = c .before .before .before .before .before .before .before .before .before .args in
     c .before .before .write-members .ensures
     ∙ line-next (lLineOf (a .result)) (map (mLineOf (a .result)) (members (a .set))) (a .out .now) (a .at) _ _ (c .before .before .before .before .before .before .write-loss .ensures)
