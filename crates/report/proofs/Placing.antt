@@ -65,6 +65,17 @@ lines-inside (l ∷ ls) out at h =
     let i = placed-inside (lineText l) out at h in
     omega (arith, e, lines-inside ls (p .1) (p .0) (omega (arith, e, i)))
 
+pub lines-within : (ls : List Line) (out : List ℕ) (at r : ℕ) (last : List ℕ) → _≡_ {A = Placed} (r, last) (placedLines ls out at) → at ≤ length out
+    → r ≤ length last
+lines-within ls out at r last e h =
+    omega (
+      arith,
+      ap (λ (p : Placed). p .0) e,
+      ap (λ (p : Placed). length (p .1)) e,
+      lines-inside ls out at h,
+      lines-length ls out at,
+    )
+
 -- ---- in turn
 
 -- the first line put, and the others behind it
