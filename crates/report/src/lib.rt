@@ -234,10 +234,8 @@ pub fn take_part(held: Held, input: &[u8], out: &mut [u8]) -> Taken
         }
         let end = used + size;
         let call = wire::read_call(&input[used..end]);
-        let present = next.present;
-        let case = next.case;
-        let book = case.book;
-        let answer = case::answer_to(present, book, call);
+        let book = next.case.book;
+        let answer = case::answer_to(next.present, book, call);
         written = write_answer(input[used], answer, out, written);
         used = end;
         if answer == 0 {
