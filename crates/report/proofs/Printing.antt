@@ -1,11 +1,10 @@
 -- The text of a whole input is what document 01's machine prints for it. Assumes nothing.
 use mathlib.Core.Path.{_≡_, refl, sym, ap, ap₂, subst, _∙_}
-use mathlib.Core.Bool.{Bool, true, false}
+use mathlib.Core.Bool.{true, false}
 use mathlib.Core.List.{List, [], _∷_, _++_, append-assoc}
 use mathlib.Core.Option.{none}
-use Prim.Native.Nat.{ℕ, zero, suc, _+_, _-_, _*_, _≤_, _<_}
+use Prim.Native.Nat.{ℕ, _+_, _-_, _*_, _≤_, _<_}
 use native.Mathlib.Omega.{arith}
-use lib.Dec.{leb}
 use lib.ListN.{length, take, drop, length-append, length-drop}
 use lib.Seq.{sets, take-all}
 use borrow.Author.Tests.{le-leb, lt-leb}
@@ -14,14 +13,13 @@ use Rattle.machine.specs.State as M
 use Rattle.machine.specs.Machine.{step}
 use Rattle.machine.specs.Run.{runFrom}
 use Rattle.machine.specs.Printed.{Line, sLine, fieldsIn, linesFrom, text, printed}
-use Rattle.lines.specs.Placed.{Placed, lineText}
+use Rattle.lines.specs.Placed.{Placed}
 use Rattle.case.specs.declared.Held.{Held}
 use Rattle.case.specs.Cases.{applied, noHeld}
 use Rattle.case.specs.Claim.{Bytes}
 use Rattle.case.specs.Input.{ledgerAfter}
 use Rattle.case.proofs.Claim.{Tied, takes, ledger-tied, fields-bytes}
 use Rattle.report.specs.declared.Taken.{Taken}
-use Rattle.report.specs.declared.Written.{Written}
 use Rattle.report.specs.Texts.{ledgerLines, heldLines, cutLines, placedLines, wholeFirst, wholeFields, bytesOf, PartTaken, takePart, TakesPart, Prints}
 use Rattle.report.proofs.Placing.{text-append, text-one, lines-then, lines-fit}
 use Rattle.report.proofs.Widths.{line-most}

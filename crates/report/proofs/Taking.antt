@@ -1,7 +1,7 @@
 -- What holds at each turn of `take_part`: the s lines written so far, and those of the whole fields left from what is held, are the s lines of all
 -- whole fields; and what is held after the fields left is what is held after all. Assumes nothing.
 use mathlib.Core.Path.{_≡_, refl, sym, ap, _∙_}
-use mathlib.Core.Bool.{Bool, true, false, _&&_}
+use mathlib.Core.Bool.{true, false}
 use mathlib.Core.List.{List, [], _∷_, _++_, append-assoc, append-nil}
 use Prim.Native.Nat.{ℕ, zero, suc, _+_, _-_, _*_, _/_, _≤_, _<_}
 use native.Mathlib.Omega.{arith}
@@ -9,8 +9,7 @@ use lib.Dec.{leb}
 use lib.ListN.{length, getD, take, drop, length-append, length-take, length-drop, drop-of-length-le}
 use lib.Seq.{sets, length-sets, drop-cons, drop-drop, take-all}
 use borrow.Author.Tests.{le-leb, lt-leb, leb-true}
-use Rattle.lists.specs.Lists.{if_then_else_}
-use Rattle.lists.proofs.Bools.{cases, and-left, and-right, and-false}
+use Rattle.lists.proofs.Bools.{cases, and-left, and-right}
 use Rattle.machine.specs.Printed.{Line, sLine, text}
 use Rattle.lines.specs.Placed.{Placed, placed, lineText}
 use Rattle.lines.proofs.Stores.{sets-then}
@@ -21,8 +20,7 @@ use Rattle.case.specs.Cases.{applied}
 use Rattle.case.specs.Input.{fieldSize, ledgerAfter}
 use Rattle.case.proofs.Fields.{size-whole}
 use Rattle.case.proofs.Running.{fieldAt}
-use Rattle.report.specs.declared.Taken.{Taken}
-use Rattle.report.specs.Texts.{ledgerLines, wholeFirst, wholeSize, wholeFields, bytesOf, PartTaken, takePart, TakesPart}
+use Rattle.report.specs.Texts.{ledgerLines, wholeFirst, wholeSize, wholeFields, bytesOf, takePart, TakesPart}
 use Rattle.report.proofs.Placing.{text-append, text-one}
 use Rattle.report.proofs.Widths.{s-line-most}
 

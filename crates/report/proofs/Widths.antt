@@ -1,6 +1,5 @@
 -- The bytes that numbers and lines take. Assumes nothing.
-use mathlib.Core.Path.{_≡_, refl, sym, ap, _∙_}
-use mathlib.Core.List.{List, [], _∷_, _++_}
+use mathlib.Core.List.{List, [], _∷_}
 use Prim.Native.Nat.{ℕ, zero, suc, _+_, _*_, _/_, _%_, _^_, _≤_, _<_}
 use native.Mathlib.Nat.{pow-suc, div-lt-iff-lt-mul}
 use native.Mathlib.Omega.{arith}
@@ -9,7 +8,7 @@ use lib.ListN.{length, length-append}
 use borrow.Author.Tests.{lt-ltb}
 use Rattle.lists.specs.Lists.{if_then_else_}
 use Rattle.lists.proofs.Bools.{either}
-use Rattle.machine.specs.Printed.{Line, sLine, decimal, numbersText, text}
+use Rattle.machine.specs.Printed.{Line, sLine, decimal, numbersText}
 use Rattle.lines.specs.Placed.{lineText}
 use Rattle.lines.proofs.Numbers.{length-line}
 

@@ -5,8 +5,6 @@ use borrow.Author.Needs.{needs}
 use lib.ListN.{length}
 use Rattle.ledger.proofs.slide.Statement.{statement}
 use Rattle.ledger.proofs.slide.Tie as tie
-use Rattle.ledger.proofs.slide.Reads as reads
-use Rattle.ledger.proofs.slide.Lts as lts
 
 abbrev Inv-loop : tie.InvT-loop
 Inv-loop buf₀ start end n i₀ buf i = (i ≤ n) × (length buf ≡ length buf₀)

@@ -5,13 +5,6 @@ use borrow.Author.Needs.{needs}
 use lib.ListN.{length}
 use Rattle.ledger.proofs.take_input.Statement.{statement}
 use Rattle.ledger.proofs.take_input.Tie as tie
-use Rattle.ledger.proofs.take_input.Reads as reads
-use Rattle.ledger.proofs.take_input.Lts as lts
-use Rattle.case.proofs.Held.none.Reads as none-reads
-use Rattle.io.proofs.write_all.Reads as write-all-reads
-use Rattle.ledger.proofs.read_at.Reads as read-at-reads
-use Rattle.ledger.proofs.slide.Reads as slide-reads
-use Rattle.report.proofs.take_part.Reads as take-part-reads
 
 abbrev Inv-loop : tie.InvT-loop
 Inv-loop buf₀ out₀ held₀ len₀ turns₀ buf out held len turns = (len ≤ length buf) × (length buf ≡ length buf₀) × (length out ≡ length out₀)

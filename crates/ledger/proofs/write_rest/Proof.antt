@@ -4,11 +4,6 @@ use Rattle.report.proofs.Placing.{lines-within}
 use borrow.Author.Needs.{needs}
 use Rattle.ledger.proofs.write_rest.Statement.{statement}
 use Rattle.ledger.proofs.write_rest.Tie as tie
-use Rattle.ledger.proofs.write_rest.Reads as reads
-use Rattle.ledger.proofs.write_rest.Lts as lts
-use Rattle.io.proofs.write_all.Reads as write-all-reads
-use Rattle.report.proofs.write_cut.Reads as write-cut-reads
-use Rattle.report.proofs.write_end.Reads as write-end-reads
 
 write-cut-requires : tie.Need-write-cut-requires
 write-cut-requires c κs = search needs

@@ -1,23 +1,11 @@
 -- `report::print` meets its contract. Assumes nothing.
 use native.Mathlib.Omega.{arith}
-use Prim.Native.Nat.{ℕ, _+_, _-_, _*_, _^_, _≤_, _<_}
-use lib.ListN.{length, getD, drop}
-use mathlib.Core.Path.{_≡_, refl, sym, ap, _∙_}
-use mathlib.Core.List.{List, [], _∷_, _++_, map}
+use Prim.Native.Nat.{ℕ, _<_}
 use Rattle.lists.proofs.Each.{each-of}
-use Rattle.lines.specs.Placed.{Placed}
-use Rattle.report.specs.Texts.{TakesPart, cutLines, placedLines}
-use Rattle.case.specs.declared.Held.{Held}
 use Rattle.report.proofs.Printing.{prints-none, rest-lent, prints}
 use borrow.Author.Needs.{needs}
 use Rattle.report.proofs.print.Statement.{statement}
 use Rattle.report.proofs.print.Tie as tie
-use Rattle.report.proofs.print.Reads as reads
-use Rattle.report.proofs.print.Lts as lts
-use Rattle.case.proofs.Held.none.Reads as none-reads
-use Rattle.report.proofs.take_part.Reads as take-part-reads
-use Rattle.report.proofs.write_cut.Reads as write-cut-reads
-use Rattle.report.proofs.write_end.Reads as write-end-reads
 
 returns : tie.Need-returns
 returns c = prints-none _ _ (omega arith)

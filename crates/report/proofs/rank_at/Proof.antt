@@ -4,8 +4,6 @@ use Rattle.report.proofs.Lines.{past}
 use borrow.Author.Needs.{needs}
 use Rattle.report.proofs.rank_at.Statement.{statement}
 use Rattle.report.proofs.rank_at.Tie as tie
-use Rattle.report.proofs.rank_at.Reads as reads
-use Rattle.report.proofs.rank_at.Lts as lts
 
 array-read-result : tie.Need-array-read-result
 array-read-result c = search needs

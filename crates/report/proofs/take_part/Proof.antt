@@ -1,19 +1,12 @@
 -- `report::take_part` meets its contract. The invariant is `Taking`; its laws begin, keep and end it. Assumes nothing.
 use native.Mathlib.Omega.{arith}
 use borrow.Author.Needs.{needs}
-use Prim.Native.Nat.{ℕ, _+_, _-_, _*_, _^_, _≤_, _<_}
-use lib.ListN.{length, getD, drop}
+use Prim.Native.Nat.{_-_}
+use lib.ListN.{length}
 use Rattle.case.proofs.Running.{field-read, asked-declined, asked-accepted}
 use Rattle.report.proofs.Taking.{Taking, starts, takes, takes-none, ends-cut, first-cut, field-ends, field-some, sized, goes}
 use Rattle.report.proofs.take_part.Statement.{statement}
 use Rattle.report.proofs.take_part.Tie as tie
-use Rattle.report.proofs.take_part.Reads as reads
-use Rattle.report.proofs.take_part.Lts as lts
-use Rattle.case.proofs.answer_to.Reads as answer-to-reads
-use Rattle.report.proofs.accept.Reads as accept-reads
-use Rattle.report.proofs.whole_size.Reads as whole-size-reads
-use Rattle.report.proofs.write_answer.Reads as write-answer-reads
-use Rattle.wire.proofs.read_call.Reads as read-call-reads
 
 abbrev Inv-loop : tie.InvT-loop
 Inv-loop input out₀ next₀ used₀ written₀ out next used written = Taking next₀ input out₀ out next used written

@@ -5,9 +5,6 @@ use Rattle.report.proofs.Taking.{size-none, size-cut, size-all}
 use borrow.Author.Needs.{needs}
 use Rattle.report.proofs.whole_size.Statement.{statement}
 use Rattle.report.proofs.whole_size.Tie as tie
-use Rattle.report.proofs.whole_size.Reads as reads
-use Rattle.report.proofs.whole_size.Lts as lts
-use Rattle.report.proofs.wide.Reads as wide-reads
 
 returns : tie.Need-returns
 returns c = size-none (c .before .before .args .input .now) (c .if1 .taken)

@@ -1,15 +1,11 @@
 -- `report::write_answer` meets its contract. Assumes nothing.
-use mathlib.Core.Path.{_≡_, refl, sym, ap, _∙_}
-use mathlib.Core.List.{List, [], _∷_, _++_, map}
-use Rattle.machine.specs.Printed.{Line, sLine}
-use Rattle.lines.specs.Placed.{Placed, placed, lineText}
+use mathlib.Core.Path.{ap, _∙_}
+use Rattle.machine.specs.Printed.{Line}
+use Rattle.lines.specs.Placed.{placed, lineText}
 use Rattle.report.proofs.Lines.{s-line}
 use borrow.Author.Needs.{needs}
 use Rattle.report.proofs.write_answer.Statement.{statement}
 use Rattle.report.proofs.write_answer.Tie as tie
-use Rattle.report.proofs.write_answer.Reads as reads
-use Rattle.report.proofs.write_answer.Lts as lts
-use Rattle.lines.proofs.write_line.Reads as write-line-reads
 
 write-line-requires : tie.Need-write-line-requires
 write-line-requires c κs = search needs

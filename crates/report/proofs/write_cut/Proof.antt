@@ -1,18 +1,14 @@
 -- `report::write_cut` meets its contract. Assumes nothing.
 use lib.ListN.{getD}
-use mathlib.Core.Path.{_≡_, refl, sym, ap, _∙_}
+use mathlib.Core.Path.{ap, _∙_}
 use Rattle.report.proofs.Placing.{lines-none, lines-one}
 use Rattle.report.proofs.Lines.{cut-none, cut-some}
-use Rattle.lines.specs.Placed.{Placed, placed, lineText}
-use mathlib.Core.List.{List, [], _∷_, _++_, map}
+use mathlib.Core.List.{List, [], _∷_}
 use Rattle.machine.specs.Printed.{Line, sLine}
 use Rattle.report.specs.Texts.{placedLines}
 use borrow.Author.Needs.{needs}
 use Rattle.report.proofs.write_cut.Statement.{statement}
 use Rattle.report.proofs.write_cut.Tie as tie
-use Rattle.report.proofs.write_cut.Reads as reads
-use Rattle.report.proofs.write_cut.Lts as lts
-use Rattle.report.proofs.write_answer.Reads as write-answer-reads
 
 returns : tie.Need-returns
 returns c =

@@ -1,18 +1,14 @@
 -- `report::write_end` meets its contract. Assumes nothing.
-use mathlib.Core.Path.{_≡_, refl, sym, ap, _∙_}
-use mathlib.Core.List.{List, [], _∷_, _++_, map}
-use Rattle.machine.specs.Printed.{Line, sLine}
+use mathlib.Core.Path.{ap, _∙_}
+use mathlib.Core.List.{List}
+use Rattle.machine.specs.Printed.{Line}
 use Rattle.report.proofs.Placing.{lines-none, lines-then}
 use Rattle.report.proofs.Lines.{held-some, held-none}
-use Rattle.report.specs.Texts.{placedLines, pLineOf, lLineOf, mLineOf, resultLines, finishLines}
+use Rattle.report.specs.Texts.{placedLines, pLineOf, finishLines}
 use Rattle.lists.specs.Lists.{tab}
 use borrow.Author.Needs.{needs}
 use Rattle.report.proofs.write_end.Statement.{statement}
 use Rattle.report.proofs.write_end.Tie as tie
-use Rattle.report.proofs.write_end.Reads as reads
-use Rattle.report.proofs.write_end.Lts as lts
-use Rattle.report.proofs.write_finish.Reads as write-finish-reads
-use Rattle.report.proofs.write_pools.Reads as write-pools-reads
 
 write-pools-requires : tie.Need-write-pools-requires
 write-pools-requires c κs = search needs

@@ -1,18 +1,13 @@
 -- `report::write_finish` meets its contract. Assumes nothing.
-use mathlib.Core.Path.{_≡_, refl, sym, ap, _∙_}
-use mathlib.Core.List.{List, [], _∷_, _++_, map}
-use Rattle.machine.specs.Printed.{Line, sLine}
+use mathlib.Core.Path.{ap, _∙_}
+use mathlib.Core.List.{List}
+use Rattle.machine.specs.Printed.{Line}
 use Rattle.report.proofs.Placing.{lines-none}
 use Rattle.report.proofs.Lines.{not-finished, finished}
-use Rattle.report.specs.Texts.{placedLines, pLineOf, lLineOf, mLineOf, resultLines, finishLines}
+use Rattle.report.specs.Texts.{placedLines}
 use borrow.Author.Needs.{needs}
 use Rattle.report.proofs.write_finish.Statement.{statement}
 use Rattle.report.proofs.write_finish.Tie as tie
-use Rattle.report.proofs.write_finish.Reads as reads
-use Rattle.report.proofs.write_finish.Lts as lts
-use Rattle.book.proofs.Book.result.Reads as result-reads
-use Rattle.book.proofs.letter.Reads as letter-reads
-use Rattle.report.proofs.write_result.Reads as write-result-reads
 
 letter-requires : tie.Need-letter-requires
 letter-requires c κs = search needs

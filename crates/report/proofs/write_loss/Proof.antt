@@ -1,14 +1,11 @@
 -- `report::write_loss` meets its contract. Assumes nothing.
-use mathlib.Core.Path.{_≡_, refl, sym, ap, _∙_}
-use Rattle.machine.specs.Printed.{Line, sLine}
-use Rattle.lines.specs.Placed.{Placed, placed, lineText}
+use mathlib.Core.Path.{ap, _∙_}
+use Rattle.machine.specs.Printed.{Line}
+use Rattle.lines.specs.Placed.{placed, lineText}
 use Rattle.report.proofs.Lines.{l-line}
 use borrow.Author.Needs.{needs}
 use Rattle.report.proofs.write_loss.Statement.{statement}
 use Rattle.report.proofs.write_loss.Tie as tie
-use Rattle.report.proofs.write_loss.Reads as reads
-use Rattle.report.proofs.write_loss.Lts as lts
-use Rattle.lines.proofs.write_line.Reads as write-line-reads
 
 array-read-t8 : tie.Need-array-read-t8
 array-read-t8 c = search needs

@@ -1,16 +1,11 @@
 -- `report::write_member` meets its contract. Assumes nothing.
-use mathlib.Core.Path.{_≡_, refl, sym, ap, _∙_}
-use Rattle.machine.specs.Printed.{Line, sLine}
-use Rattle.lines.specs.Placed.{Placed, placed, lineText}
+use mathlib.Core.Path.{ap, _∙_}
+use Rattle.machine.specs.Printed.{Line}
+use Rattle.lines.specs.Placed.{placed, lineText}
 use Rattle.report.proofs.Lines.{m-line}
 use borrow.Author.Needs.{needs}
 use Rattle.report.proofs.write_member.Statement.{statement}
 use Rattle.report.proofs.write_member.Tie as tie
-use Rattle.report.proofs.write_member.Reads as reads
-use Rattle.report.proofs.write_member.Lts as lts
-use Rattle.lines.proofs.write_line.Reads as write-line-reads
-use Rattle.report.proofs.number_at.Reads as number-at-reads
-use Rattle.report.proofs.rank_at.Reads as rank-at-reads
 
 rank-at-requires : tie.Need-rank-at-requires
 rank-at-requires c κs = search needs

@@ -1,24 +1,18 @@
 -- `report::write_members` meets its contract. The invariant: the lines of the members left, put behind those that are put, give the whole. Assumes nothing.
 use mathlib.Core.Path.{_≡_, refl, sym, ap, _∙_}
-use mathlib.Core.List.{List, [], _∷_, _++_, map}
-use Prim.Native.Nat.{ℕ, _+_, _-_, _*_, _^_, _≤_, _<_}
+use mathlib.Core.List.{List, map}
+use Prim.Native.Nat.{ℕ, _^_, _<_}
 use native.Mathlib.Omega.{arith}
-use lib.ListN.{length, getD, drop}
+use lib.ListN.{length}
 use borrow.Author.Needs.{needs}
-use Rattle.machine.specs.Printed.{Line, sLine}
 use Rattle.sets.specs.Set.{members}
 use Rattle.sets.proofs.Bits.{members-none}
 use Rattle.sets.proofs.Members.{Taken, taken}
 use Rattle.report.proofs.Placing.{line-next, lines-none}
 use Rattle.report.proofs.Lines.{next-small}
-use Rattle.report.specs.Texts.{placedLines, pLineOf, lLineOf, mLineOf, resultLines, finishLines}
+use Rattle.report.specs.Texts.{placedLines, mLineOf}
 use Rattle.report.proofs.write_members.Statement.{statement}
 use Rattle.report.proofs.write_members.Tie as tie
-use Rattle.report.proofs.write_members.Reads as reads
-use Rattle.report.proofs.write_members.Lts as lts
-use Rattle.report.proofs.write_member.Reads as write-member-reads
-use Rattle.sets.proofs.next.Reads as next-reads
-use Rattle.sets.proofs.without_least.Reads as without-least-reads
 
 abbrev Inv-loop : tie.InvT-loop
 Inv-loop result set out₀ at to₀ left₀ out to left =

@@ -1,15 +1,11 @@
 -- `report::write_pool` meets its contract. Assumes nothing.
-use mathlib.Core.Path.{_≡_, refl, sym, ap, _∙_}
-use Rattle.machine.specs.Printed.{Line, sLine}
-use Rattle.lines.specs.Placed.{Placed, placed, lineText}
+use mathlib.Core.Path.{ap, _∙_}
+use Rattle.machine.specs.Printed.{Line}
+use Rattle.lines.specs.Placed.{placed, lineText}
 use Rattle.report.proofs.Lines.{p-line}
 use borrow.Author.Needs.{needs}
 use Rattle.report.proofs.write_pool.Statement.{statement}
 use Rattle.report.proofs.write_pool.Tie as tie
-use Rattle.report.proofs.write_pool.Reads as reads
-use Rattle.report.proofs.write_pool.Lts as lts
-use Rattle.lines.proofs.write_line.Reads as write-line-reads
-use Rattle.roll.proofs.Roll.count.Reads as count-reads
 
 count-requires : tie.Need-count-requires
 count-requires c κs = search needs

@@ -1,19 +1,16 @@
 -- `report::write_pools` meets its contract. The invariant: the lines left, put behind those that are put, give the whole. Assumes nothing.
 use mathlib.Core.Path.{_≡_, refl, sym, ap, _∙_}
-use mathlib.Core.List.{List, [], _∷_, _++_, map}
-use Prim.Native.Nat.{ℕ, _+_, _-_, _*_, _^_, _≤_, _<_}
+use mathlib.Core.List.{List}
+use Prim.Native.Nat.{_+_, _-_, _≤_}
 use native.Mathlib.Omega.{arith}
-use lib.ListN.{length, getD, drop}
+use lib.ListN.{length}
 use borrow.Author.Needs.{needs}
-use Rattle.machine.specs.Printed.{Line, sLine}
+use Rattle.machine.specs.Printed.{Line}
 use Rattle.report.proofs.Placing.{tabFrom, from-start, from-next, from-end, line-next, lines-none}
 use Rattle.lists.specs.Lists.{tab}
-use Rattle.report.specs.Texts.{placedLines, pLineOf, lLineOf, mLineOf, resultLines, finishLines}
+use Rattle.report.specs.Texts.{placedLines, pLineOf}
 use Rattle.report.proofs.write_pools.Statement.{statement}
 use Rattle.report.proofs.write_pools.Tie as tie
-use Rattle.report.proofs.write_pools.Reads as reads
-use Rattle.report.proofs.write_pools.Lts as lts
-use Rattle.report.proofs.write_pool.Reads as write-pool-reads
 
 abbrev Inv-loop : tie.InvT-loop
 Inv-loop case out₀ at given to₀ pool₀ out to pool =

@@ -1,18 +1,14 @@
 -- `report::write_result` meets its contract. Assumes nothing.
-use mathlib.Core.Path.{_≡_, refl, sym, ap, _∙_}
-use mathlib.Core.List.{List, [], _∷_, _++_, map}
-use Rattle.machine.specs.Printed.{Line, sLine}
+use mathlib.Core.Path.{ap, _∙_}
+use mathlib.Core.List.{List, map}
+use Rattle.machine.specs.Printed.{Line}
 use Rattle.report.proofs.Placing.{line-next}
 use Rattle.report.proofs.Lines.{result-lines}
-use Rattle.report.specs.Texts.{placedLines, pLineOf, lLineOf, mLineOf, resultLines, finishLines}
+use Rattle.report.specs.Texts.{placedLines, lLineOf, mLineOf}
 use Rattle.sets.specs.Set.{members}
 use borrow.Author.Needs.{needs}
 use Rattle.report.proofs.write_result.Statement.{statement}
 use Rattle.report.proofs.write_result.Tie as tie
-use Rattle.report.proofs.write_result.Reads as reads
-use Rattle.report.proofs.write_result.Lts as lts
-use Rattle.report.proofs.write_loss.Reads as write-loss-reads
-use Rattle.report.proofs.write_members.Reads as write-members-reads
 
 write-loss-requires : tie.Need-write-loss-requires
 write-loss-requires c κs = search needs
