@@ -1,5 +1,6 @@
 // The program `ledger`: reads fields from standard input and prints the text of document 01. Everything that it prints is made by `report`: it reads as
-// much as there is, has every whole field of it taken, writes the s lines at once, and keeps what is left for the next read.
+// much as there is, has every whole field of it taken, writes the s lines at once, and keeps what is left for the next read. No contract can say what is read
+// or written; that the text does not depend on where the reads end is `Streams` in the specs of `report`.
 ghost use Prim.Native.Nat.{_+_, _≤_};
 ghost use lib.ListN.{length};
 ghost use Rattle.ledger.specs.Spans.{Span};

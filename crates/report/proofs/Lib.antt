@@ -5,3 +5,4 @@ pub mod Taking
 pub mod Ending
 pub mod Splitting
 pub mod Printing
+pub mod Streaming

@@ -20,11 +20,12 @@ use Rattle.case.specs.Claim.{Bytes}
 use Rattle.case.specs.Input.{ledgerAfter}
 use Rattle.case.proofs.Claim.{Tied, takes, ledger-tied, fields-bytes}
 use Rattle.report.specs.declared.Taken.{Taken}
-use Rattle.report.specs.Texts.{ledgerLines, heldLines, cutLines, placedLines, wholeFirst, wholeFields, bytesOf, PartTaken, takePart, TakesPart, Prints}
+use Rattle.report.specs.Texts.{ledgerLines, heldLines, cutLines, placedLines, wholeFirst, bytesOf, PartTaken, takePart, TakesPart, Prints}
+use Rattle.report.specs.Parts.{whole, rest}
 use Rattle.report.proofs.Placing.{text-append, text-one, lines-then, lines-fit}
 use Rattle.report.proofs.Widths.{line-most}
 use Rattle.report.proofs.Ending.{ends-tied, held-most}
-use Rattle.report.proofs.Splitting.{cutFields, left, left-cut, fields-split, cut-lines, cut-after, lines-two, after-two}
+use Rattle.report.proofs.Splitting.{cutFields, left-cut, fields-split, cut-lines, cut-after, lines-two, after-two}
 
 -- ---- the machine's lines are the program's
 
@@ -41,16 +42,8 @@ none-tied : Tied noHeld none
 unfolding ledgerAfter runFrom
 none-tied = ledger-tied [] tt
 
--- the whole fields of an input
-abbrev whole : List ℕ → List (List ℕ)
-whole input = wholeFields (length input) input
-
--- what is left of it
-abbrev rest : List ℕ → List ℕ
-rest input = left (length input) input
-
--- what is held after it
-abbrev after : List ℕ → Held
+-- what is held after an input
+abbrev pub after : List ℕ → Held
 after input = ledgerAfter noHeld (whole input)
 
 -- the fields of it, the one that is cut off too
@@ -77,7 +70,7 @@ module _ (input : List ℕ) (bytes : Bytes input) where
   bytes-are = subst (λ (fs : List (List ℕ)). Each Bytes fs) fields-are (fields-bytes (length input) input bytes)
 
   -- what the machine prints
-  printed-is : printed input ≡ text (ledgerLines noHeld (whole input) ++ (cutLines (rest input) ++ heldLines (after input)))
+  pub printed-is : printed input ≡ text (ledgerLines noHeld (whole input) ++ (cutLines (rest input) ++ heldLines (after input)))
   unfolding printed
   printed-is =
       ap text

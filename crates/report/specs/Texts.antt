@@ -64,7 +64,7 @@ cutLines (tag ∷ rest) = sLine (tag ∷ []) 1 ∷ []
 
 -- ---- a lent buffer
 
--- lines put into a buffer in turn from a place on, each where it fits; where there is room for all, this is their text (`placed-lines`)
+-- lines put into a buffer in turn from a place on, each where it fits; where there is room for all, this is their text (`lines-fit`)
 unfoldable pub placedLines : List Line → List ℕ → ℕ → Placed
 placedLines [] out at = (at, out)
 placedLines (l ∷ ls) out at =
