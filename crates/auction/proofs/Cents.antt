@@ -9,7 +9,7 @@ use lib.IntN.{ℤ, pos, negsuc, subℕ, negℤ, _+ℤ_, _-ℤ_}
 use lib.ListN.{length}
 use borrow.Author.Tests.{ltb-true, ltb-false}
 use Rattle.lists.specs.Lists.{sum}
-use Rattle.auction.specs.Price.{zeroPrice, cents, sumCents}
+use Rattle.auction.specs.Price.{zeroPrice, cents, sumCents, atLeast0}
 
 -- equal differences
 pub sub-same : (a b c d : ℕ) → a + d ≡ c + b → subℕ a b ≡ subℕ c d
@@ -74,11 +74,6 @@ neg-of-sub a b = go (ltb a b) refl
     go : (x : Bool) → ltb a b ≡ x → negℤ (cond x (negsuc (b - suc a)) (pos (a - b))) ≡ subℕ b a
     go true p = let l = ltb-true a b p in pos-sub _ ∙ sub-same (suc (b - suc a)) 0 b a (omega arith)
     go false p = let l = ltb-false a b p in neg-pos (a - b) ∙ sub-same 0 (a - b) b a (omega arith)
-
--- a number of cents, at least 0
-abbrev pub atLeast0 : ℤ → ℕ
-atLeast0 (pos n) = n
-atLeast0 (negsuc n) = 0
 
 -- `-` on natural numbers is the difference, at least 0
 pub at-least-0 : (a b : ℕ) → atLeast0 (subℕ a b) ≡ a - b

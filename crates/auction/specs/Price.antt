@@ -5,7 +5,7 @@ use mathlib.Core.Bool.{Bool}
 use mathlib.Core.List.{List, [], _∷_}
 use Prim.Native.Nat.{ℕ}
 use lib.Dec.{leb, ltb}
-use lib.IntN.{ℤ, pos, subℕ, _+ℤ_}
+use lib.IntN.{ℤ, pos, negsuc, subℕ, _+ℤ_}
 
 -- a price of 0 cents
 abbrev pub zeroPrice : ℕ
@@ -31,3 +31,8 @@ priceOk price = leb price priceLimit
 -- "a negative price"
 abbrev pub negative : ℕ → Bool
 negative price = ltb price zeroPrice
+
+-- a number of cents, at least 0
+abbrev pub atLeast0 : ℤ → ℕ
+atLeast0 (pos n) = n
+atLeast0 (negsuc n) = 0

@@ -11,10 +11,9 @@ use mathlib.Core.Option.{some}
 use Prim.Native.Nat.{ℕ, _+_, _≤_, _<_}
 use lib.IntN.{pos, _-ℤ_}
 use lib.ListN.{getD}
-use Rattle.lists.specs.Lists.{sum}
-use Rattle.lists.proofs.Each.{Each}
+use Rattle.lists.specs.Lists.{sum, Each}
 use Rattle.sets.specs.Set.{member, members}
-use Rattle.auction.proofs.Cents.{atLeast0}
+use Rattle.auction.specs.Price.{atLeast0}
 use Rattle.machine.specs.Wire.{FINISH, decode}
 use Rattle.machine.specs.Run.{Observed, run}
 use Rattle.book.specs.declared.Book.{Book}

@@ -90,3 +90,8 @@ least (x ∷ y ∷ xs) = min x (least (y ∷ xs))
 -- for each key below n, the values of the entries that have it, added up
 unfoldable pub sumByKey : {A : Type 0} → ℕ → (A → ℕ) → (A → ℕ) → List A → List ℕ
 sumByKey n key value l = tab n (λ k. sum (map (λ x. if eqb (key x) k then value x else 0) l))
+
+-- P holds of each entry of a list
+abbrev pub Each : {A : Type 0} → (A → Type 0) → List A → Type 0
+Each P [] = Unit {0}
+Each P (x ∷ xs) = P x × Each P xs

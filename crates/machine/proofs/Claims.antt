@@ -10,8 +10,7 @@ use lib.ListN.{length, getD}
 use Rattle.lists.specs.Lists.{sum, count, keep}
 use Rattle.lists.proofs.Each.{Each, each-at}
 use Rattle.lists.proofs.Passed.{Passed, First}
-use Rattle.auction.specs.Price.{priceLimit}
-use Rattle.auction.proofs.Cents.{atLeast0}
+use Rattle.auction.specs.Price.{priceLimit, atLeast0}
 use Rattle.machine.specs.Wire.{Call, ALLOCATE, FINISH, decode}
 use Rattle.machine.specs.Roll.{Entry, Sold, Allocated, Moved, noBid, openUnits, priceOf}
 use Rattle.machine.specs.State.{Finished, Case, State, theCase, letter, letterOf, roundOf, withStage, noPool, noMember, noRound, inSet, memberList, memberAt}

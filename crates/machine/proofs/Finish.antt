@@ -11,11 +11,12 @@ use borrow.Author.Tests.{eq-eqb}
 use Rattle.lists.specs.Lists.{sum}
 use Rattle.sets.specs.Set.{members}
 use Rattle.splitting.proofs.Among.{shares-kept-sum, share-le}
-use Rattle.auction.proofs.Cents.{atLeast0, less-prices}
+use Rattle.auction.proofs.Cents.{less-prices}
 use Rattle.waterfall.specs.Charging.{uncovered}
 use Rattle.waterfall.proofs.Layers.{adds-up, charge-le, earlier-spent, uncovered-last as all-spent}
 use Rattle.waterfall.proofs.Ranking.{rank-low, rank-at-most-32}
 use Rattle.waterfall.proofs.ByRank.{charge-within, charges-add-up, members-in-turn}
+use Rattle.auction.specs.Price.{atLeast0}
 use Rattle.machine.specs.Roll.{prices}
 use Rattle.machine.specs.State.{Case, inSet, memberList, memberAt}
 use Rattle.machine.specs.Requirement.{requirement, contributionOf, contributions, prefunded, firstTranche, secondTranche}
