@@ -1,0 +1,4 @@
+pub mod Strings
+pub mod Replaying
+pub mod Asking
+pub mod Machine
