@@ -1,4 +1,5 @@
 pub mod Strings
 pub mod Replaying
 pub mod Asking
+pub mod Prices
 pub mod Machine

@@ -1,5 +1,5 @@
--- `exports::show_case` meets its contract. Assumes nothing.
-use Rattle.exports.specs.Showing.{caseShown}
+-- `exports::show_case` meets its contract. The sum of prices goes by its 64 bits. Assumes nothing.
+use Rattle.exports.proofs.Prices.{with-prices, read-back}
 use borrow.Author.Needs.{needs}
 use Rattle.exports.proofs.show_case.Statement.{statement}
 use Rattle.exports.proofs.show_case.Tie as tie
@@ -29,7 +29,7 @@ prefunded-requires : tie.Need-prefunded-requires
 prefunded-requires c κs = search needs
 
 returns : tie.Need-returns
-unfolding caseShown
+unfolding with-prices
 returns c =
     rw (
       c .before .before .before .before .before .before .before .before .before .before .before .counts .ensures,
@@ -40,7 +40,7 @@ returns c =
       c .before .before .sum-of-prices .ensures,
       c .before .requirement .ensures,
       c .prefunded .ensures,
-    )
+    ) (read-back (c .before .before .before .before .before .before .before .before .before .before .before .before .before .before .args .case))
 
 pub show-case-spec : {M : Type 1} → statement M
 show-case-spec =
