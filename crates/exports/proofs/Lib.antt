@@ -2,4 +2,5 @@ pub mod Strings
 pub mod Replaying
 pub mod Asking
 pub mod Prices
+pub mod Final
 pub mod Machine

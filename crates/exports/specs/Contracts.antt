@@ -9,18 +9,19 @@ use Rattle.case.specs.Cases.{noHeld}
 use Rattle.case.specs.Input.{ledgerAfter, ledgerAnswers}
 use Rattle.exports.specs.declared.Shown.{Shown}
 use Rattle.exports.specs.Strings.{inFront}
-use Rattle.exports.specs.Showing.{shownOf, asks}
+use Rattle.exports.specs.Showing.{asks}
+use Rattle.exports.specs.Machine.{shownBy}
 
--- calls taken in turn, from no case on: the answers in front of what was there, and what is held
+-- of `ledger_calls`: the machine's answers in front of what was there, and what the machine shows after the calls
+pub record Called (calls : List (List ℕ)) (old new : List ℕ) (r : Shown) : Type 0 where
+  pub answers : new ≡ inFront (map (λ (o : Observed). o .answer) (run calls)) old
+  pub shows : r ≡ shownBy (runFrom none calls)
+
+-- of `ledger_holdings`: what members hold after the calls
+abbrev pub holdingsAfter : List (List ℕ) → List ℕ → List ℕ → List ℕ → List ℕ
+holdingsAfter calls = asks (observed 0 (runFrom none calls) .holdings)
+
+-- of `replay`, in the program's own terms: the answers in front of what was there, and what is held
 pub record Replayed (calls : List (List ℕ)) (old new : List ℕ) (h : Held) : Type 0 where
   pub answers : new ≡ inFront (ledgerAnswers noHeld calls) old
   pub held : h ≡ ledgerAfter noHeld calls
-
--- the machine's answers in front of what was there, and what is shown after the calls
-pub record Called (calls : List (List ℕ)) (old new : List ℕ) (r : Shown) : Type 0 where
-  pub answers : new ≡ inFront (map (λ (o : Observed). o .answer) (run calls)) old
-  pub shows : r ≡ shownOf (ledgerAfter noHeld calls)
-
--- what members hold after the calls
-abbrev pub holdingsAfter : List (List ℕ) → List ℕ → List ℕ → List ℕ → List ℕ
-holdingsAfter calls = asks (observed 0 (runFrom none calls) .holdings)

@@ -12,10 +12,10 @@ ghost use Rattle.case.specs.Cases.{afterAsked};
 ghost use Rattle.exports.specs.Strings.{cutAt, stringsIn, inFront};
 ghost use Rattle.exports.specs.Showing.{countTable, owesTable, resultShown, noneShown, caseShown, shownOf, holdingShown, holdingsOf};
 ghost use Rattle.exports.specs.Contracts.{Replayed, Called, holdingsAfter};
-use case::Case;
-use case::Held;
 use book::Book;
 use book::Result;
+use case::Case;
+use case::Held;
 use wire::Call;
 
 // What is shown of a case. Where none is held every number is 0; so is the result before an accepted FINISH. The counts are open, sold,
@@ -269,7 +269,14 @@ pub extern "C" fn ledger_calls(bytes: &[u8], ends: &[usize], answers: &mut [u8])
 // After the same calls: for question k, the units of pool pools[k] that member members[k] holds at the price prices[k], which is cents +
 // 1,000,000. As many questions are answered as all four runs have.
 #[no_mangle]
-pub extern "C" fn ledger_holdings(bytes: &[u8], ends: &[usize], members: &[u8], pools: &[u8], prices: &[u32], units: &mut [u64])
+pub extern "C" fn ledger_holdings(
+    bytes: &[u8],
+    ends: &[usize],
+    members: &[u8],
+    pools: &[u8],
+    prices: &[u32],
+    units: &mut [u64],
+)
     ensures { λ _. ⌜ now (units .exit) ≡ inFront (holdingsAfter (stringsIn (now (bytes .entry)) (now (ends .entry))) (now (members .entry)) (now (pools .entry)) (now (prices .entry))) (now (units .entry)) ⌝ }
 {
     let mut first = [0u8; 1];

@@ -1,6 +1,5 @@
 -- `exports::cut_at` meets its contract. Each way out is a law of `cutAt`. Assumes nothing.
 use Rattle.exports.proofs.Strings.{cut-below, cut-inside, cut-past}
-use borrow.Author.Needs.{needs}
 use Rattle.exports.proofs.cut_at.Statement.{statement}
 use Rattle.exports.proofs.cut_at.Tie as tie
 

@@ -1,5 +1,4 @@
 -- `exports::ledger_holdings` meets its contract. Assumes nothing.
-use mathlib.Core.Path.{_∙_}
 use Prim.Native.Nat.{ℕ, _<_}
 use native.Mathlib.Omega.{arith}
 use denote.Ref.{now}
@@ -24,10 +23,9 @@ same-length c = search needs
 returns : tie.Need-returns
 returns c =
     let a = c .before .before .before .before .before .before .before .before .before .before .before .before .before .args in
-    c .before .before .ask .ensures
-    ∙ held-after (now (a .bytes)) (now (a .ends)) _ _ _
+    held-after (now (a .bytes)) (now (a .ends)) _ _ _
     (each-of (λ (b : ℕ). b < 256) (now (a .bytes)) 0 (λ i h. omega (arith, c .before .before .before .before .before .before .before .before .before .before .before .before .shared-slice-known .given i)))
-    (c .before .before .before .before .before .replay .ensures) (now (a .members)) (now (a .pools)) (now (a .prices)) (now (a .units))
+    (c .before .before .before .before .before .replay .ensures) (now (a .members)) (now (a .pools)) (now (a .prices)) (now (a .units)) _ (c .before .before .ask .ensures)
 
 pub ledger-holdings-spec : {M : Type 1} → statement M
 ledger-holdings-spec =

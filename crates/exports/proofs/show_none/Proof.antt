@@ -1,7 +1,6 @@
 -- `exports::show_none` meets its contract. Assumes nothing.
 use mathlib.Core.Path.{refl}
 use Rattle.exports.specs.Showing.{noneShown}
-use borrow.Author.Needs.{needs}
 use Rattle.exports.proofs.show_none.Statement.{statement}
 use Rattle.exports.proofs.show_none.Tie as tie
 
