@@ -1,0 +1,7 @@
+pub mod Placing
+pub mod Widths
+pub mod Lines
+pub mod Taking
+pub mod Ending
+pub mod Splitting
+pub mod Printing
