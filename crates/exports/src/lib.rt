@@ -9,6 +9,7 @@ ghost use Rattle.machine.specs.Printed.{fieldsIn};
 ghost use Rattle.machine.specs.Run.{Observed, run as machineRun};
 ghost use Rattle.wire.specs.Asked.{asked};
 ghost use Rattle.case.specs.Cases.{afterAsked};
+ghost use Rattle.report.specs.Texts.{Prints};
 ghost use Rattle.exports.specs.Strings.{cutAt, stringsIn, inFront};
 ghost use Rattle.exports.specs.Showing.{countTable, owesTable, resultShown, noneShown, caseShown, shownOf, holdingShown, holdingsOf};
 ghost use Rattle.exports.specs.Contracts.{Replayed, Called, holdingsAfter};
@@ -37,6 +38,13 @@ pub struct Shown {
     pub ranks: [u8; 32],
     pub contributions: [u64; 32],
     pub payments: [u64; 32],
+}
+
+// Whether a whole text was written, and its length.
+#[repr(C)]
+pub struct Printed {
+    pub whole: bool,
+    pub len: usize,
 }
 
 // ---- the strings
@@ -282,4 +290,17 @@ pub extern "C" fn ledger_holdings(
     let mut first = [0u8; 1];
     let held = replay(bytes, ends, &mut first);
     ask(held, members, pools, prices, units)
+}
+
+// The text of a whole input, as the program `ledger` prints it, at the front of the buffer. A buffer with less than four times the input's bytes
+// and 4,096 is untouched.
+#[no_mangle]
+pub extern "C" fn ledger_print(input: &[u8], out: &mut [u8]) -> Printed
+    ensures { λ r. ⌜ Prints (now (input .entry)) (now (out .entry)) (now (out .exit)) (record { whole = r .whole; len = r .len }) ⌝ }
+{
+    let written = report::print(input, out);
+    Printed {
+        whole: written.whole,
+        len: written.len,
+    }
 }
