@@ -55,6 +55,16 @@ struct ledger_shown {
  * for answers. Their answers stand in front in `answers`; the rest of it is as it was. */
 size_t ledger_run(const uint8_t *input, size_t input_len, uint8_t *answers, size_t answers_len);
 
+/* Whether a whole text was written, and its length. */
+struct ledger_printed {
+    bool whole;
+    size_t len;
+};
+
+/* Takes the fields of a whole input in turn and writes the text that the program `ledger` prints for it at the front of `out`, with no 0 byte behind it.
+ * Where out_len is less than 4 * input_len + 4096, `whole` is false and `out` is as it was. */
+struct ledger_printed ledger_print(const uint8_t *input, size_t input_len, uint8_t *out, size_t out_len);
+
 /* Takes calls in turn, from no case on, and shows what they lead to. A call is any string of bytes, also one that is not exactly one field: call k is
  * the bytes from ends[k - 1] (call 0: from 0) on, below ends[k]. An end below the last one or above bytes_len is held to them. The answers stand in
  * front in `answers`, as far as there is room; the rest of it is as it was. */

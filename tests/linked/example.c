@@ -46,6 +46,10 @@ int main(void) {
     uint8_t run_answers[MOST];
     size_t fields = ledger_run(input, sizeof input, run_answers, MOST);
 
+    /* Its text. */
+    static uint8_t printed_text[4 * sizeof input + 4096];
+    struct ledger_printed printed = ledger_print(input, sizeof input, printed_text, sizeof printed_text);
+
     /* The same fields as calls, each handed over with all calls before it. */
     size_t ends[MOST];
     size_t calls = 0;
@@ -95,6 +99,7 @@ int main(void) {
 
     fputs(text, stdout);
     wrong |= strcmp(text, expected) != 0 || shown.prices != -160;
+    wrong |= !printed.whole || printed.len != strlen(expected) || memcmp(printed_text, expected, printed.len) != 0;
     if (wrong) {
         fputs("differs from document 01\n", stderr);
     }

@@ -24,10 +24,19 @@ pub struct Shown {
     pub payments: [u64; 32],
 }
 
+/// Whether a whole text was written, and its length; `struct ledger_printed` of the header.
+#[repr(C)]
+#[derive(Clone, Copy, Debug, PartialEq, Eq)]
+pub struct Printed {
+    pub whole: bool,
+    pub len: usize,
+}
+
 mod c {
     #[link(name = "exports", kind = "static")]
     unsafe extern "C" {
         pub fn ledger_run(input: *const u8, n: usize, answers: *mut u8, a: usize) -> usize;
+        pub fn ledger_print(input: *const u8, n: usize, out: *mut u8, o: usize) -> super::Printed;
         pub fn ledger_calls(bytes: *const u8, n: usize, ends: *const usize, e: usize, answers: *mut u8, a: usize) -> super::Shown;
         pub fn ledger_holdings(
             bytes: *const u8,
@@ -49,6 +58,11 @@ mod c {
 /// The fields of a whole input, as many as there is room for answers.
 pub fn run(input: &[u8], answers: &mut [u8]) -> usize {
     unsafe { c::ledger_run(input.as_ptr(), input.len(), answers.as_mut_ptr(), answers.len()) }
+}
+
+/// The text of a whole input, at the front of the buffer, where that has room for four times the input and 4,096 bytes.
+pub fn print(input: &[u8], out: &mut [u8]) -> Printed {
+    unsafe { c::ledger_print(input.as_ptr(), input.len(), out.as_mut_ptr(), out.len()) }
 }
 
 /// Calls taken in turn, from no case on, and what they lead to.

@@ -1,5 +1,5 @@
 //! `calls [N [SEED]]`: the proved ledger against the roll's model, call by call, on N generated lists (2,000) from consecutive seeds, among
-//! them byte strings that are not one field; then the same lists at once, cut by ends that are out of order, and whole inputs.
+//! them byte strings that are not one field; then the same lists at once, cut by ends that are out of order, and whole inputs with their text.
 use generator::{calls, input, profile_of};
 use linked::Random;
 use linked::ledger::{self, Proved};
@@ -206,7 +206,19 @@ fn compare_input(seed: u64) -> u64 {
         assert_eq!(answers[..count], expected[..count], "answers to the input of seed {seed}");
         assert!(answers[count..].iter().all(|b| *b == 0xee), "room past the answers to the input of seed {seed}");
     }
+    compare_text(seed, &bytes);
     expected.len() as u64
+}
+
+/// The text of an input, and that a buffer too short by one byte is left alone.
+fn compare_text(seed: u64, bytes: &[u8]) {
+    let text = model::print::<Roll>(bytes);
+    let room = 4 * bytes.len() + 4096;
+    let mut out = vec![0xee; room];
+    let printed = ledger::print(bytes, &mut out);
+    assert!(printed.whole && out[..printed.len] == text[..], "the text of the input of seed {seed}");
+    let mut short = vec![0xee; room - 1];
+    assert!(!ledger::print(bytes, &mut short).whole && short.iter().all(|b| *b == 0xee), "a short buffer, input of seed {seed}");
 }
 
 fn main() {
