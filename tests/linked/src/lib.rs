@@ -1,5 +1,7 @@
-//! The proved functions of splitting and the auction, as safe Rust, and random numbers for the tests.
+//! The proved functions of splitting, the auction and the ledger, as safe Rust, and random numbers for the tests.
 pub use model::BidRecord;
+
+pub mod ledger;
 
 mod c {
     use model::BidRecord;

@@ -1,0 +1,7 @@
+pub mod Strings
+pub mod Replaying
+pub mod Asking
+pub mod Prices
+pub mod Final
+pub mod Machine
+pub mod Examples

@@ -1,0 +1,105 @@
+-- What is answered and shown after a list of calls is what the machine answers and shows. Assumes nothing.
+use mathlib.Core.Path.{_≡_, sym, ap, _∙_}
+use mathlib.Core.Bool.{true}
+use mathlib.Core.List.{List}
+use mathlib.Core.Option.{none, some}
+use Prim.Native.Nat.{ℕ, _/_, _%_}
+use native.Mathlib.Nat.{mod-lt}
+use native.Mathlib.Omega.{arith}
+use lib.Dec.{eqb}
+use lib.ListN.{getD}
+use Rattle.lists.specs.Lists.{if_then_else_, tab}
+use Rattle.lists.proofs.Each.{Each}
+use Rattle.lists.proofs.Places.{getD-tab, tab-ext}
+use Rattle.machine.specs.State as M
+use Rattle.machine.specs.Requirement.{owes}
+use Rattle.machine.specs.Run.{Observed, fiveCounts, runFrom, observed}
+use Rattle.machine.proofs.Invariant.{CaseOk}
+use Rattle.roll.specs.Rolls.{countOf}
+use Rattle.roll.proofs.ViewCounts.{view-counts}
+use Rattle.accounts.proofs.ViewPools as P
+use Rattle.book.specs.declared.Result.{Result}
+use Rattle.book.proofs.Sound.{Sound}
+use Rattle.book.proofs.Shown.{requirement-shown, prefunded-shown, debt-shown}
+use Rattle.case.specs.declared.Case.{Case}
+use Rattle.case.specs.declared.Held.{Held}
+use Rattle.case.specs.View.{view}
+use Rattle.case.specs.Readings.{seen}
+use Rattle.case.specs.Claim.{Bytes}
+use Rattle.case.proofs.Observations.{prices-shown}
+use Rattle.case.proofs.Claim.{Tied, ledger-tied, ledger-answers, ledger-shows}
+use Rattle.exports.specs.declared.Shown.{Shown}
+use Rattle.exports.specs.Strings.{stringsIn, inFront}
+use Rattle.exports.specs.Showing.{countTable, owesTable, noResult, resultShown, caseShown, shownOf, holdingShown, asks, holdingsOf}
+use Rattle.exports.specs.Machine.{finalOf, shownIn, shownBy}
+use Rattle.exports.specs.Contracts.{Replayed, Called, holdingsAfter}
+use Rattle.exports.proofs.Strings.{strings-bytes}
+use Rattle.exports.proofs.Final.{final-shown}
+
+-- ---- a case
+
+module _ (c : Case) (sound : Sound (c .book) (c .roll)) (ok : CaseOk (view c)) where
+  count-at : (k : ℕ) → countOf (c .roll) (k / 5) (k % 5) ≡ getD (fiveCounts (view c .roll) (k / 5)) (k % 5) 0
+  count-at k =
+      sym (getD-tab 5 (countOf (c .roll) (k / 5)) (k % 5) 0 (mod-lt k (omega arith)))
+      ∙ ap (λ (xs : List ℕ). getD xs (k % 5) 0) (view-counts (c .roll) (k / 5))
+
+  counts-all : countTable c ≡ tab 20 (λ k. getD (fiveCounts (view c .roll) (k / 5)) (k % 5) 0)
+  unfolding countTable
+  counts-all = tab-ext 20 _ _ (λ k l. count-at k)
+
+  owes-all : owesTable (c .book) ≡ tab 32 (owes (view c .members))
+  unfolding owesTable
+  owes-all = tab-ext 32 _ _ (λ m l. debt-shown (c .book) (c .roll) sound ok m)
+
+  result-all : resultShown (c .book) ≡ (if eqb (M.letter (view c .stage)) 5 then finalOf (view c) else noResult)
+  unfolding resultShown
+  result-all = ap (λ (r : Result). if eqb (M.letter (view c .stage)) 5 then r else noResult) (final-shown (c .book) (c .roll) sound ok)
+
+  pub shown-in : caseShown c ≡ shownIn (view c)
+  unfolding caseShown shownIn
+  shown-in =
+      λ i. record {
+        present = true;
+        stage = M.letter (view c .stage);
+        round = M.roundOf (view c .stage);
+        pools = sym (P.length-view (c .book .pools)) i;
+        counts = counts-all i;
+        prices = prices-shown c sound ok i;
+        requirement = requirement-shown (c .book) (c .roll) sound ok i;
+        prefunded = prefunded-shown (c .book) (c .roll) sound ok i;
+        owes = owes-all i;
+        loss = result-all i .loss;
+        charges = result-all i .charges;
+        uncovered = result-all i .uncovered;
+        ranks = result-all i .ranks;
+        contributions = result-all i .contributions;
+        payments = result-all i .payments;
+      }
+
+-- what is held, case or none
+shown-by : (h : Held) (s : M.State) → Tied h s → shownOf h ≡ shownBy s
+unfolding shownOf shownBy
+shown-by h none t = rw t
+shown-by h (some c) t = rw (t .present) (shown-in (h .case) (t .sound) (t .ok) ∙ ap shownIn (t .shows))
+
+-- ---- after a list of calls
+
+module _ (bytes ends old new : List ℕ) (h : Held) (given : Bytes bytes) (r : Replayed (stringsIn bytes ends) old new h) where
+  each : Each Bytes (stringsIn bytes ends)
+  each = strings-bytes 0 bytes ends given
+
+  pub called : (s : Shown) → s ≡ shownOf h → Called (stringsIn bytes ends) old new s
+  called s e =
+      record {
+        answers = r .answers ∙ ap (λ (l : List ℕ). inFront l old) (ledger-answers (stringsIn bytes ends) each);
+        shows = e ∙ ap shownOf (r .held) ∙ shown-by _ _ (ledger-tied (stringsIn bytes ends) each);
+      }
+
+  holds : holdingShown h ≡ observed 0 (runFrom none (stringsIn bytes ends)) .holdings
+  unfolding holdingShown seen
+  holds = ap (λ (k : Held). seen 0 k .holdings) (r .held) ∙ ap (λ (o : Observed). o .holdings) (ledger-shows (stringsIn bytes ends) each 0)
+
+  pub held-after : (members pools prices units given-back : List ℕ) → given-back ≡ inFront (holdingsOf h members pools prices) units
+      → given-back ≡ inFront (holdingsAfter (stringsIn bytes ends) members pools prices) units
+  held-after members pools prices units given-back e = e ∙ ap (λ (f : ℕ → ℕ → ℕ → ℕ). inFront (asks f members pools prices) units) holds

@@ -1,0 +1,21 @@
+-- `exports::put` meets its contract. A store past the end changes nothing. Assumes nothing.
+use Rattle.exports.proofs.Strings.{set-past}
+use borrow.Author.Needs.{needs}
+use borrow.Author.Needs.{needs}
+use Rattle.exports.proofs.put.Statement.{statement}
+use Rattle.exports.proofs.put.Tie as tie
+
+slice-write-answers : tie.Need-slice-write-answers
+slice-write-answers c = search needs
+
+same-length : tie.Need-same-length
+same-length c = search needs
+
+returns : tie.Need-returns
+returns c = search needs
+
+returns-2 : tie.Need-returns-2
+returns-2 c = set-past _ _ _ (c .if1 .left)
+
+pub put-spec : {M : Type 1} → statement M
+put-spec = tie.close (tie.spec slice-write-answers same-length returns returns-2)

@@ -1,0 +1,4 @@
+pub mod Strings
+pub mod Showing
+pub mod Machine
+pub mod Contracts

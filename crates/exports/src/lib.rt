@@ -1,0 +1,306 @@
+// The ledger for C and Rust. A case holds enums, and such a value cannot be handed over, so a caller hands over the calls made so far and is
+// shown what they lead to; include/ledger.h says how each function is called.
+ghost use mathlib.Core.Path.{_≡_};
+ghost use mathlib.Core.Bool.{true};
+ghost use mathlib.Core.List.{_++_, map};
+ghost use Prim.Native.Nat.{min};
+ghost use lib.ListN.{length, set, drop};
+ghost use Rattle.machine.specs.Printed.{fieldsIn};
+ghost use Rattle.machine.specs.Run.{Observed, run as machineRun};
+ghost use Rattle.wire.specs.Asked.{asked};
+ghost use Rattle.case.specs.Cases.{afterAsked};
+ghost use Rattle.report.specs.Texts.{Prints};
+ghost use Rattle.exports.specs.Strings.{cutAt, stringsIn, inFront};
+ghost use Rattle.exports.specs.Showing.{countTable, owesTable, resultShown, noneShown, caseShown, shownOf, holdingShown, holdingsOf};
+ghost use Rattle.exports.specs.Contracts.{Replayed, Called, holdingsAfter};
+use book::Book;
+use book::Result;
+use case::Case;
+use case::Held;
+use wire::Call;
+
+// What is shown of a case. Where none is held every number is 0; so is the result before an accepted FINISH. The counts are open, sold,
+// allocated, moved and torn of pool 0, then of pools 1 to 3. Money and prices are in cents.
+#[repr(C)]
+pub struct Shown {
+    pub present: bool,
+    pub stage: u8,
+    pub round: u8,
+    pub pools: u8,
+    pub counts: [u64; 20],
+    pub prices: i64,
+    pub requirement: u64,
+    pub prefunded: u64,
+    pub owes: [u64; 32],
+    pub loss: u64,
+    pub charges: [u64; 6],
+    pub uncovered: u64,
+    pub ranks: [u8; 32],
+    pub contributions: [u64; 32],
+    pub payments: [u64; 32],
+}
+
+// Whether a whole text was written, and its length.
+#[repr(C)]
+pub struct Printed {
+    pub whole: bool,
+    pub len: usize,
+}
+
+// ---- the strings
+
+// Where a string ends: an end below its begin or above the number of bytes is held to them.
+fn cut_at(at: usize, n: usize, end: usize) -> usize
+    ensures { λ r. ⌜ r ≡ cutAt at n end ⌝ }
+{
+    if end < at {
+        return at;
+    }
+    if end < n { end } else { n }
+}
+
+// Writes an answer, where there is room.
+fn put(answers: &mut [u8], k: usize, answer: u8)
+    ensures { λ _. ⌜ now (answers .exit) ≡ set (now (answers .entry)) k answer ⌝ }
+{
+    if k < answers.len() {
+        answers[k] = answer;
+    }
+}
+
+// Writes units, where there is room.
+fn put_units(units: &mut [u64], k: usize, n: u64)
+    ensures { λ _. ⌜ now (units .exit) ≡ set (now (units .entry)) k n ⌝ }
+{
+    if k < units.len() {
+        units[k] = n;
+    }
+}
+
+// What is held after a call that was accepted.
+fn accept(held: Held, call: Call) -> Held
+    ensures { λ r. ⌜ r ≡ record { present = true; case = afterAsked (held .case) (asked call) } ⌝ }
+{
+    let case = held.case;
+    Held {
+        present: true,
+        case: case::after(case, call),
+    }
+}
+
+// The strings taken in turn as calls, from no case on. The loop asks first: a call that is declined copies no case.
+fn replay(bytes: &[u8], ends: &[usize], answers: &mut [u8]) -> Held
+    ensures { λ r. ⌜ Replayed (stringsIn (now (bytes .entry)) (now (ends .entry))) (now (answers .entry)) (now (answers .exit)) r ⌝ }
+{
+    let mut held = Held::none();
+    let mut at: usize = 0;
+    let mut k: usize = 0;
+    while k < ends.len() {
+        let end = cut_at(at, bytes.len(), ends[k]);
+        let call = wire::read_call(&bytes[at..end]);
+        let book = held.case.book;
+        let answer = case::answer_to(held.present, book, call);
+        put(answers, k, answer);
+        at = end;
+        k += 1;
+        if answer == 0 {
+            held = accept(held, call);
+        }
+    }
+    held
+}
+
+// ---- what is shown
+
+// The five counts of each pool.
+fn counts(case: Case) -> [u64; 20]
+    ensures { λ r. ⌜ r ≡ countTable case ⌝ }
+{
+    let mut out = [0u64; 20];
+    let mut k: u8 = 0;
+    while k < 20 {
+        out[k as usize] = case.count(k / 5, k % 5);
+        k += 1;
+    }
+    out
+}
+
+// What each member owes.
+fn owes(book: Book) -> [u64; 32]
+    ensures { λ r. ⌜ r ≡ owesTable book ⌝ }
+{
+    let members = book.members;
+    let mut out = [0u64; 32];
+    let mut m: u8 = 0;
+    while m < 32 {
+        out[m as usize] = members.owes(m);
+        m += 1;
+    }
+    out
+}
+
+// What FINISH gave, and zeros before it.
+fn result(book: Book) -> Result
+    ensures { λ r. ⌜ r ≡ resultShown book ⌝ }
+{
+    if book::letter(book.phase) == 5 {
+        return book.result();
+    }
+    Result {
+        loss: 0,
+        charges: [0u64; 6],
+        uncovered: 0,
+        ranks: [0u8; 32],
+        contributions: [0u64; 32],
+        payments: [0u64; 32],
+    }
+}
+
+// What is shown where no case is held.
+fn show_none() -> Shown
+    ensures { λ r. ⌜ r ≡ noneShown ⌝ }
+{
+    Shown {
+        present: false,
+        stage: 0,
+        round: 0,
+        pools: 0,
+        counts: [0u64; 20],
+        prices: 0,
+        requirement: 0,
+        prefunded: 0,
+        owes: [0u64; 32],
+        loss: 0,
+        charges: [0u64; 6],
+        uncovered: 0,
+        ranks: [0u8; 32],
+        contributions: [0u64; 32],
+        payments: [0u64; 32],
+    }
+}
+
+// What is shown of a case.
+fn show_case(case: Case) -> Shown
+    ensures { λ r. ⌜ r ≡ caseShown case ⌝ }
+{
+    let book = case.book;
+    let pools = book.pools;
+    let counts = counts(case);
+    let owes = owes(book);
+    let given = result(book);
+    let charges = given.charges;
+    let ranks = given.ranks;
+    let contributions = given.contributions;
+    let payments = given.payments;
+    Shown {
+        present: true,
+        stage: book::letter(book.phase),
+        round: book::round_of(book.phase),
+        pools: pools.given,
+        counts,
+        prices: case.sum_of_prices(),
+        requirement: book.requirement(),
+        prefunded: book.prefunded(),
+        owes,
+        loss: given.loss,
+        charges,
+        uncovered: given.uncovered,
+        ranks,
+        contributions,
+        payments,
+    }
+}
+
+// What is shown of what is held.
+fn show(held: Held) -> Shown
+    ensures { λ r. ⌜ r ≡ shownOf held ⌝ }
+{
+    if held.present {
+        return show_case(held.case);
+    }
+    show_none()
+}
+
+// The units of a pool that a member holds at a price, and 0 where no case is held.
+fn holding(held: Held, m: u8, pool: u8, price: u32) -> u64
+    ensures { λ r. ⌜ r ≡ holdingShown held m pool price ⌝ }
+{
+    if held.present {
+        let case = held.case;
+        return case.holding(m, pool, price);
+    }
+    0
+}
+
+// The number of questions: as many as all four runs have.
+fn least(a: usize, b: usize) -> usize
+    ensures { λ r. ⌜ r ≡ min a b ⌝ }
+{
+    if a < b { a } else { b }
+}
+
+// What members hold, asked by member, pool and price.
+fn ask(held: Held, members: &[u8], pools: &[u8], prices: &[u32], units: &mut [u64])
+    ensures { λ _. ⌜ now (units .exit) ≡ inFront (holdingsOf held (now (members .entry)) (now (pools .entry)) (now (prices .entry))) (now (units .entry)) ⌝ }
+{
+    let n = least(least(members.len(), pools.len()), prices.len());
+    let mut k: usize = 0;
+    while k < n {
+        let x = holding(held, members[k], pools[k], prices[k]);
+        put_units(units, k, x);
+        k += 1;
+    }
+}
+
+// ---- what is exported
+
+// The fields of a whole input, taken in turn from no case on, as many as there is room for answers: how many were answered.
+#[no_mangle]
+pub extern "C" fn ledger_run(input: &[u8], answers: &mut [u8]) -> usize
+    ensures { λ r. ⌜ r ≡ length (fieldsIn (length (now (answers .entry))) (now (input .entry))) ⌝ }
+    ensures { λ r. ⌜ now (answers .exit) ≡ map (λ (o : Observed). o .answer) (machineRun (fieldsIn (length (now (answers .entry))) (now (input .entry)))) ++ drop r (now (answers .entry)) ⌝ }
+{
+    let ran = case::run(input, answers);
+    ran.count
+}
+
+// Calls of any kind taken in turn, from no case on, and what is shown then. Call k is the bytes from ends[k - 1] on, below ends[k]. The answers
+// stand in front, as far as there is room.
+#[no_mangle]
+pub extern "C" fn ledger_calls(bytes: &[u8], ends: &[usize], answers: &mut [u8]) -> Shown
+    ensures { λ r. ⌜ Called (stringsIn (now (bytes .entry)) (now (ends .entry))) (now (answers .entry)) (now (answers .exit)) r ⌝ }
+{
+    let held = replay(bytes, ends, answers);
+    show(held)
+}
+
+// After the same calls: for question k, the units of pool pools[k] that member members[k] holds at the price prices[k], which is cents +
+// 1,000,000. As many questions are answered as all four runs have.
+#[no_mangle]
+pub extern "C" fn ledger_holdings(
+    bytes: &[u8],
+    ends: &[usize],
+    members: &[u8],
+    pools: &[u8],
+    prices: &[u32],
+    units: &mut [u64],
+)
+    ensures { λ _. ⌜ now (units .exit) ≡ inFront (holdingsAfter (stringsIn (now (bytes .entry)) (now (ends .entry))) (now (members .entry)) (now (pools .entry)) (now (prices .entry))) (now (units .entry)) ⌝ }
+{
+    let mut first = [0u8; 1];
+    let held = replay(bytes, ends, &mut first);
+    ask(held, members, pools, prices, units)
+}
+
+// The text of a whole input, as the program `ledger` prints it, at the front of the buffer. A buffer with less than four times the input's bytes
+// and 4,096 is untouched.
+#[no_mangle]
+pub extern "C" fn ledger_print(input: &[u8], out: &mut [u8]) -> Printed
+    ensures { λ r. ⌜ Prints (now (input .entry)) (now (out .entry)) (now (out .exit)) (record { whole = r .whole; len = r .len }) ⌝ }
+{
+    let written = report::print(input, out);
+    Printed {
+        whole: written.whole,
+        len: written.len,
+    }
+}

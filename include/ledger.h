@@ -1,0 +1,82 @@
+/* The forward default ledger (document 01) for C.
+ *
+ * Make the library and link it:
+ *
+ *     rt staticlib exports                                  (writes target/staticlib/libexports.a)
+ *     cc -I include main.c target/staticlib/libexports.a
+ *
+ * Every function is proved against its contract in crates/exports/src/lib.rt: the answers and all that is shown are those of the machine that
+ * document 01 describes, for every input. No function fails, allocates, keeps anything between two calls or reads or writes outside the runs
+ * that it is lent. The caller sees to what no proof can: that a pointer is valid for its length and aligned for its type, that a run that
+ * is written overlaps no other run, and that the stack has 1 MB left. Where a length is 0 the pointer is not followed.
+ *
+ * A case cannot be handed over, since it holds more than numbers. So a caller keeps the calls made so far as one run of bytes, hands them over
+ * with each call, and is shown what they lead to. A call that was answered by a number other than 0 changed nothing and may be left out.
+ *
+ * A price is held as cents + 1,000,000: 0 is -10,000.00 and 2,000,000 is 10,000.00. Other money is in cents.
+ */
+#ifndef LEDGER_H
+#define LEDGER_H
+
+#include <stdbool.h>
+#include <stddef.h>
+#include <stdint.h>
+
+#ifdef __cplusplus
+extern "C" {
+#endif
+
+enum { LEDGER_POOLS = 4, LEDGER_KINDS = 5, LEDGER_MEMBERS = 32, LEDGER_LAYERS = 6 };
+
+/* The stages: S setup, B bidding, A after a round, C calls out, F finished. */
+enum { LEDGER_NO_CASE = 0, LEDGER_S = 1, LEDGER_B = 2, LEDGER_A = 3, LEDGER_C = 4, LEDGER_F = 5 };
+
+/* What is shown of a case. All is 0 where there is no case; from `loss` on, all is 0 before an accepted FINISH. What stands at the place of a member
+ * that is not in the set has no meaning. */
+struct ledger_shown {
+    bool present;                           /* whether there is a case */
+    uint8_t stage;                          /* one of the stages above */
+    uint8_t round;                          /* 1 or 2 in stages B and A, else 0 */
+    uint8_t pools;                          /* how many POOLs were accepted */
+    uint64_t counts[LEDGER_POOLS * LEDGER_KINDS]; /* open, sold, allocated, moved, torn of pool 0, then of pools 1 to 3 */
+    int64_t prices;                         /* the sum of the prices of the units not open, in cents */
+    uint64_t requirement;
+    uint64_t prefunded;
+    uint64_t owes[LEDGER_MEMBERS];          /* by member */
+    uint64_t loss;
+    uint64_t charges[LEDGER_LAYERS];        /* margin, defaulter's fund, first tranche, contributions, second tranche, payments */
+    uint64_t uncovered;
+    uint8_t ranks[LEDGER_MEMBERS];          /* by member; 1 is the most senior */
+    uint64_t contributions[LEDGER_MEMBERS]; /* charged on contributions, by member */
+    uint64_t payments[LEDGER_MEMBERS];      /* charged on payments, by member */
+};
+
+/* Takes the fields of a whole input in turn, as the program `ledger` does, and answers how many it took: all of them, or as many as there is room
+ * for answers. Their answers stand in front in `answers`; the rest of it is as it was. */
+size_t ledger_run(const uint8_t *input, size_t input_len, uint8_t *answers, size_t answers_len);
+
+/* Whether a whole text was written, and its length. */
+struct ledger_printed {
+    bool whole;
+    size_t len;
+};
+
+/* Takes the fields of a whole input in turn and writes the text that the program `ledger` prints for it at the front of `out`, with no 0 byte behind it.
+ * Where out_len is less than 4 * input_len + 4096, `whole` is false and `out` is as it was. */
+struct ledger_printed ledger_print(const uint8_t *input, size_t input_len, uint8_t *out, size_t out_len);
+
+/* Takes calls in turn, from no case on, and shows what they lead to. A call is any string of bytes, also one that is not exactly one field: call k is
+ * the bytes from ends[k - 1] (call 0: from 0) on, below ends[k]. An end below the last one or above bytes_len is held to them. The answers stand in
+ * front in `answers`, as far as there is room; the rest of it is as it was. */
+struct ledger_shown ledger_calls(const uint8_t *bytes, size_t bytes_len, const size_t *ends, size_t ends_len, uint8_t *answers, size_t answers_len);
+
+/* After the same calls: units[k] is how many units of pool pools[k] the member members[k] holds at the price prices[k] (cents + 1,000,000). As many
+ * questions are answered as all four runs have; the rest of `units` is as it was. */
+void ledger_holdings(const uint8_t *bytes, size_t bytes_len, const size_t *ends, size_t ends_len, const uint8_t *members, size_t members_len,
+                     const uint8_t *pools, size_t pools_len, const uint32_t *prices, size_t prices_len, uint64_t *units, size_t units_len);
+
+#ifdef __cplusplus
+}
+#endif
+
+#endif

@@ -1,0 +1,107 @@
+/* The example of document 01 through include/ledger.h. From the top of the repository, after `rt staticlib exports`:
+ *
+ *     cc -std=c11 -Wall -Wextra -I include tests/linked/example.c target/staticlib/libexports.a -o target/example && target/example
+ *
+ * It prints what document 01 prints, and ends with 1 where a number differs. */
+#include <ledger.h>
+#include <stdio.h>
+#include <string.h>
+
+/* One field a line: tag, length, value. */
+static const uint8_t input[] = {
+    0x01, 0x00, 0x1b, 0x01, 0x00, 0x01, 0x00, 0x00, 0x00, 0x07, 0x00, 0x00, 0x00, 0x00, 0x00, 0x00, 0x00, 0x00, 0x00, 0x00, 0x00, 0x14,
+    0x00, 0x00, 0x00, 0x0a, 0x00, 0x00, 0x00, 0x32,                                                 /* HEAD */
+    0x02, 0x00, 0x04, 0x00, 0x00, 0x0a, 0x00,                                                       /* POOL */
+    0x03, 0x00, 0x0d, 0x00, 0x00, 0x00, 0x00, 0x64, 0x00, 0x04, 0x00, 0x00, 0x00, 0x00, 0x00, 0x00, /* MEMBER */
+    0x03, 0x00, 0x0d, 0x01, 0x00, 0x00, 0x00, 0x64, 0x00, 0x03, 0x00, 0x00, 0x00, 0x00, 0x00, 0x00, /* MEMBER */
+    0x03, 0x00, 0x0d, 0x02, 0x00, 0x00, 0x00, 0x3c, 0x00, 0x03, 0x00, 0x00, 0x00, 0x00, 0x00, 0x00, /* MEMBER */
+    0x04, 0x00, 0x04, 0xff, 0xff, 0xff, 0xe2,                                                       /* ROUND */
+    0x05, 0x00, 0x08, 0x00, 0x00, 0x00, 0x04, 0xff, 0xff, 0xff, 0xf6,                               /* BID */
+    0x05, 0x00, 0x08, 0x00, 0x01, 0x00, 0x05, 0xff, 0xff, 0xff, 0xec,                               /* BID */
+    0x05, 0x00, 0x08, 0x00, 0x02, 0x00, 0x03, 0xff, 0xff, 0xff, 0xec,                               /* BID */
+    0x05, 0x00, 0x08, 0x00, 0x02, 0x00, 0x05, 0xff, 0xff, 0xff, 0xd8,                               /* BID */
+    0x06, 0x00, 0x00,                                                                               /* CLOSE */
+    0x0d, 0x00, 0x00,                                                                               /* FINISH */
+};
+
+/* The printed text of document 01's example. */
+static const char expected[] = "s 1 0\ns 2 0\ns 3 0\ns 3 0\ns 3 0\ns 4 0\ns 5 0\ns 5 0\ns 5 0\ns 5 0\ns 6 0\ns 13 0\n"
+                               "p 0 0 10 0 0 0\nl 160 20 10 30 100 0 0 0\nm 0 2 40 0\nm 1 1 0 0\nm 2 3 60 0\n";
+
+enum { MOST = 16 };
+
+static char text[1024];
+static size_t at;
+
+static void number(const char *before, uint64_t n) {
+    at += (size_t)snprintf(text + at, sizeof text - at, "%s%llu", before, (unsigned long long)n);
+}
+
+static void line_end(void) {
+    at += (size_t)snprintf(text + at, sizeof text - at, "\n");
+}
+
+int main(void) {
+    /* The whole input at once. */
+    uint8_t run_answers[MOST];
+    size_t fields = ledger_run(input, sizeof input, run_answers, MOST);
+
+    /* Its text. */
+    static uint8_t printed_text[4 * sizeof input + 4096];
+    struct ledger_printed printed = ledger_print(input, sizeof input, printed_text, sizeof printed_text);
+
+    /* The same fields as calls, each handed over with all calls before it. */
+    size_t ends[MOST];
+    size_t calls = 0;
+    uint8_t answers[MOST];
+    struct ledger_shown shown = ledger_calls(input, 0, ends, 0, answers, 0);
+    int wrong = shown.present || shown.stage != LEDGER_NO_CASE;
+    for (size_t from = 0; from < sizeof input;) {
+        size_t to = from + 3 + 256u * input[from + 1] + input[from + 2];
+        ends[calls++] = to;
+        shown = ledger_calls(input, to, ends, calls, answers, MOST);
+        wrong |= answers[calls - 1] != run_answers[calls - 1];
+        number("s ", input[from]);
+        number(" ", answers[calls - 1]);
+        line_end();
+        from = to;
+    }
+    wrong |= fields != calls || shown.stage != LEDGER_F;
+
+    for (int pool = 0; pool < shown.pools; pool++) {
+        number("p ", (uint64_t)pool);
+        for (int kind = 0; kind < LEDGER_KINDS; kind++) {
+            number(" ", shown.counts[pool * LEDGER_KINDS + kind]);
+        }
+        line_end();
+    }
+    number("l ", shown.loss);
+    for (int layer = 0; layer < LEDGER_LAYERS; layer++) {
+        number(" ", shown.charges[layer]);
+    }
+    number(" ", shown.uncovered);
+    line_end();
+    for (int member = 0; member < 3; member++) {
+        number("m ", (uint64_t)member);
+        number(" ", shown.ranks[member]);
+        number(" ", shown.contributions[member]);
+        number(" ", shown.payments[member]);
+        line_end();
+    }
+
+    /* What members 0 and 1 hold of pool 0 at -0.10 and at -0.20. */
+    const uint8_t members[] = {0, 1, 1};
+    const uint8_t pools[] = {0, 0, 0};
+    const uint32_t prices[] = {1000000 - 10, 1000000 - 20, 1000000 - 10};
+    uint64_t units[] = {9, 9, 9, 9};
+    ledger_holdings(input, sizeof input, ends, calls, members, 3, pools, 3, prices, 3, units, 4);
+    wrong |= units[0] != 4 || units[1] != 4 || units[2] != 0 || units[3] != 9;
+
+    fputs(text, stdout);
+    wrong |= strcmp(text, expected) != 0 || shown.prices != -160;
+    wrong |= !printed.whole || printed.len != strlen(expected) || memcmp(printed_text, expected, printed.len) != 0;
+    if (wrong) {
+        fputs("differs from document 01\n", stderr);
+    }
+    return wrong ? 1 : 0;
+}

@@ -1,0 +1,242 @@
+//! `calls [N [SEED]]`: the proved ledger against the roll's model, call by call, on N generated lists (2,000) from consecutive seeds, among
+//! them byte strings that are not one field; then the same lists at once, cut by ends that are out of order, and whole inputs with their text.
+use generator::{calls, input, profile_of};
+use linked::Random;
+use linked::ledger::{self, Proved};
+use model::{Ledger, Roll, field, write};
+
+/// Changes to what a list can hold: strings that are no field, cut off, doubled, with a byte changed, or of a wrong length.
+fn odd_strings(r: &mut Random, list: Vec<Vec<u8>>) -> Vec<Vec<u8>> {
+    let mut out = Vec::new();
+    for call in list {
+        if r.once_in(12) {
+            out.push(odd_string(r, &call));
+        }
+        out.push(call);
+    }
+    out
+}
+
+fn odd_string(r: &mut Random, call: &[u8]) -> Vec<u8> {
+    let mut odd = call.to_vec();
+    match r.below(6) {
+        0 => (0..r.below(40)).map(|_| r.next() as u8).collect(),
+        1 => Vec::new(),
+        2 => {
+            odd.truncate(r.below(call.len() as u64 + 1) as usize);
+            odd
+        }
+        3 => {
+            odd.extend_from_slice(call);
+            odd
+        }
+        4 => {
+            odd.push(r.next() as u8);
+            odd
+        }
+        _ => {
+            if let Some(last) = odd.len().checked_sub(1) {
+                odd[r.below(last as u64 + 1) as usize] = r.next() as u8;
+            }
+            odd
+        }
+    }
+}
+
+/// Whether a call of this tag can change what members hold.
+fn moves_units(tag: u8) -> bool {
+    matches!(tag, write::CLOSE | write::ALLOCATE | write::TEAR | write::MOVE | write::MISS)
+}
+
+/// All but the holdings.
+fn compare(proved: &Proved, roll: &Roll, at: &str) {
+    assert_eq!(proved.stage(), roll.stage(), "stage {at}");
+    assert_eq!(proved.pools_given(), roll.pools_given(), "pools {at}");
+    assert_eq!(proved.sum_of_prices(), roll.sum_of_prices(), "sum of prices {at}");
+    assert_eq!(proved.requirement(), roll.requirement(), "requirement {at}");
+    assert_eq!(proved.prefunded(), roll.prefunded(), "prefunded {at}");
+    for pool in 0..5 {
+        assert_eq!(proved.counts(pool), roll.counts(pool), "counts of pool {pool} {at}");
+    }
+    for member in 0..33 {
+        assert_eq!(proved.owes(member), roll.owes(member), "what member {member} owes {at}");
+    }
+    assert_eq!(proved.result(), roll.result(), "result {at}");
+}
+
+/// The holdings of every member at every price that has occurred, and some where nothing can be held. Answers how many were asked.
+fn compare_holdings(proved: &Proved, roll: &Roll, members: &[u8], at: &str) -> u64 {
+    let mut asked = Vec::new();
+    for &member in members {
+        for pool in 0..roll.pools_given() {
+            asked.extend(proved.prices().iter().map(|&price| (member, pool, price)));
+        }
+    }
+    let (one, price) = (members[0], *proved.prices().last().unwrap());
+    asked.extend([(one, 4, price), (one, 255, price), (33, 0, price), (255, 0, price), (one, 0, price + 1), (one, 0, 1_000_001)]);
+    for (a, units) in asked.iter().zip(proved.ask(&asked)) {
+        assert_eq!(units, roll.holding(a.0, a.1, a.2), "holding of {a:?} {at}");
+    }
+    asked.len() as u64
+}
+
+/// The members of HEAD's set, and one that is not in it.
+fn members_of(head: &[u8]) -> Vec<u8> {
+    let set = field::u32_at(head, 6);
+    let mut members: Vec<u8> = (0..32).filter(|m| set >> m & 1 == 1).collect();
+    members.extend((0..32).find(|m| set >> m & 1 == 0));
+    members
+}
+
+#[derive(Default)]
+struct Tally {
+    calls: u64,
+    accepted: u64,
+    holdings: u64,
+    finished: u64,
+    answers: [u64; 32],
+}
+
+/// One list, call by call, then at once.
+fn compare_list(seed: u64, list: &[Vec<u8>], tally: &mut Tally) {
+    let (mut proved, mut roll) = (Proved::default(), Roll::default());
+    let mut members = Vec::new();
+    let mut answers = Vec::new();
+    for (k, call) in list.iter().enumerate() {
+        let at = format!("after call {k} of seed {seed}: {call:02x?}");
+        let before = roll.stage();
+        let answer = roll.call(call);
+        assert_eq!(proved.call(call), answer, "answer {at}");
+        answers.push(answer);
+        tally.calls += 1;
+        tally.answers[usize::from(answer)] += 1;
+        if answer != 0 {
+            continue;
+        }
+        tally.accepted += 1;
+        if before.is_none() {
+            members = members_of(call);
+        }
+        compare(&proved, &roll, &at);
+        if moves_units(call[0]) {
+            tally.holdings += compare_holdings(&proved, &roll, &members, &at);
+        }
+        if call[0] == write::FINISH {
+            tally.finished += 1;
+        }
+    }
+    if !members.is_empty() {
+        tally.holdings += compare_holdings(&proved, &roll, &members, &format!("at the end of seed {seed}"));
+    }
+    at_once(seed, list, &answers, &proved);
+}
+
+/// All strings of a list at once, the declined among them, with room for all answers, for some, and for more.
+fn at_once(seed: u64, list: &[Vec<u8>], answers: &[u8], proved: &Proved) {
+    let bytes = list.concat();
+    let ends: Vec<usize> = list
+        .iter()
+        .scan(0, |at, call| {
+            *at += call.len();
+            Some(*at)
+        })
+        .collect();
+    for room in [answers.len(), answers.len() / 2, answers.len() + 3, 0] {
+        let mut written = vec![0xee; room];
+        let shown = ledger::calls(&bytes, &ends, &mut written);
+        assert_eq!(&shown, proved.shown(), "what is shown at the end of seed {seed}");
+        let both = room.min(answers.len());
+        assert_eq!(written[..both], answers[..both], "the answers of seed {seed} at once");
+        assert!(written[both..].iter().all(|b| *b == 0xee), "room past the answers of seed {seed}");
+    }
+}
+
+/// Strings cut by ends that are out of order or past the bytes: each is held to the last end and to the number of bytes.
+fn compare_cut(seed: u64, list: &[Vec<u8>]) {
+    let mut r = Random(seed);
+    let bytes = list.concat();
+    let mut ends = Vec::new();
+    let mut at = 0;
+    for call in list {
+        at += call.len();
+        ends.push(match r.below(12) {
+            0 => r.below(bytes.len() as u64 + 9) as usize,
+            1 => usize::MAX,
+            2 => at.saturating_sub(1),
+            _ => at,
+        });
+    }
+    if r.once_in(2) {
+        ends.retain(|e| *e != usize::MAX);
+    }
+    let mut roll = Roll::default();
+    let mut from = 0;
+    let expected: Vec<u8> = ends
+        .iter()
+        .map(|&end| {
+            let to = end.max(from).min(bytes.len());
+            let answer = roll.call(&bytes[from..to]);
+            from = to;
+            answer
+        })
+        .collect();
+    let mut written = vec![0xee; ends.len()];
+    let shown = ledger::calls(&bytes, &ends, &mut written);
+    assert_eq!(written, expected, "strings cut at {ends:?} of seed {seed}");
+    assert_eq!((shown.present, shown.prices), (roll.stage().is_some(), roll.sum_of_prices()), "strings cut at {ends:?} of seed {seed}");
+}
+
+/// A whole input, its fields answered in turn.
+fn compare_input(seed: u64) -> u64 {
+    let bytes = input(seed, profile_of(seed));
+    let mut roll = Roll::default();
+    let mut expected = Vec::new();
+    let mut rest = &bytes[..];
+    while let Some(size) = field::size(rest) {
+        expected.push(roll.call(&rest[..size]));
+        rest = &rest[size..];
+    }
+    if !rest.is_empty() {
+        expected.push(1);
+    }
+    for room in [expected.len(), expected.len() / 2, expected.len() + 2] {
+        let mut answers = vec![0xee; room];
+        let count = ledger::run(&bytes, &mut answers);
+        assert_eq!(count, room.min(expected.len()), "fields of the input of seed {seed}");
+        assert_eq!(answers[..count], expected[..count], "answers to the input of seed {seed}");
+        assert!(answers[count..].iter().all(|b| *b == 0xee), "room past the answers to the input of seed {seed}");
+    }
+    compare_text(seed, &bytes);
+    expected.len() as u64
+}
+
+/// The text of an input, and that a buffer too short by one byte is left alone.
+fn compare_text(seed: u64, bytes: &[u8]) {
+    let text = model::print::<Roll>(bytes);
+    let room = 4 * bytes.len() + 4096;
+    let mut out = vec![0xee; room];
+    let printed = ledger::print(bytes, &mut out);
+    assert!(printed.whole && out[..printed.len] == text[..], "the text of the input of seed {seed}");
+    let mut short = vec![0xee; room - 1];
+    assert!(!ledger::print(bytes, &mut short).whole && short.iter().all(|b| *b == 0xee), "a short buffer, input of seed {seed}");
+}
+
+fn main() {
+    let mut given = std::env::args().skip(1).map(|a| a.parse().expect("a number"));
+    let n: u64 = given.next().unwrap_or(2_000);
+    let first: u64 = given.next().unwrap_or(1);
+    let mut tally = Tally::default();
+    let mut fields = 0;
+    for seed in first..first + n {
+        let list = odd_strings(&mut Random(seed), calls(seed, profile_of(seed)));
+        compare_list(seed, &list, &mut tally);
+        compare_cut(seed, &list);
+        fields += compare_input(seed);
+    }
+    println!(
+        "{n} lists from seed {first}: {} calls, {} accepted, {} cases finished, {} holdings; {n} inputs of {fields} fields; no difference",
+        tally.calls, tally.accepted, tally.finished, tally.holdings
+    );
+    let by_answer: Vec<String> = tally.answers.iter().enumerate().filter(|a| *a.1 > 0).map(|a| format!("{}: {}", a.0, a.1)).collect();
+    println!("by answer: {}", by_answer.join(", "));
+}
