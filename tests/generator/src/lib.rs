@@ -13,7 +13,7 @@ mod writer;
 pub use describe::{describe, fields};
 pub use profile::Profile;
 pub use rng::Rng;
-pub use timing::timing;
+pub use timing::{accepted, refused, timing};
 
 use writer::Writer;
 

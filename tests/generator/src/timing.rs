@@ -27,6 +27,45 @@ pub fn timing(fields: usize) -> Vec<u8> {
     calls.concat()
 }
 
+/// An input of so many fields, of which all but the first few are refused: bids for pools and members that are not there, below the least bid or out of
+/// range, calls of other stages, wrong lengths and unknown tags.
+pub fn refused(fields: usize) -> Vec<u8> {
+    let mut rng = Rng::new(fields as u64);
+    let mut calls = opening();
+    while calls.len() < fields {
+        let (pool, member) = (rng.below(4) as u8, rng.below(MEMBERS.into()) as u8);
+        calls.push(match rng.below(10) {
+            0 => write::bid(4 + pool, member, 5, -10),
+            1 => write::bid(pool, MEMBERS + member, 5, -10),
+            2 => write::bid(pool, member, 0, -10),
+            3 => write::bid(pool, member, 5, 1_000_001),
+            4 => write::pool(pool, 10, 0),
+            5 => write::pay(member, 1),
+            6 => write::tear(pool, -1),
+            7 => write::finish(),
+            8 => write::field(write::CLOSE, &[0]),
+            _ => write::field(14 + member, &[1, 2, 3]),
+        });
+    }
+    calls.truncate(fields);
+    calls.concat()
+}
+
+/// An input of so many fields that are all accepted: 256 bids, and payments of a cent.
+pub fn accepted(fields: usize) -> Vec<u8> {
+    let mut rng = Rng::new(fields as u64);
+    let mut calls = opening();
+    calls.extend((0..256).map(|_| any_bid(&mut rng)));
+    calls.push(write::close());
+    calls.extend((0..4).map(|pool| write::tear(pool, -1)));
+    calls.push(write::call());
+    while calls.len() < fields {
+        calls.push(write::pay(rng.below(MEMBERS.into()) as u8, 1));
+    }
+    calls.truncate(fields);
+    calls.concat()
+}
+
 /// HEAD, POOLs, MEMBERs and ROUND of a case that is called for all contributions.
 fn opening() -> Vec<Vec<u8>> {
     let head = Head {

@@ -1,10 +1,10 @@
 //! Writes the input of a seed to standard output, or its calls in words, or one long input for timing.
 
-use generator::{Profile, describe, fields, input, profile_of, timing};
+use generator::{Profile, accepted, describe, fields, input, profile_of, refused, timing};
 use std::io::{self, Write};
 use std::process::ExitCode;
 
-const USAGE: &str = "usage: generate SEED [PROFILE] [--text] | generate --timing FIELDS";
+const USAGE: &str = "usage: generate SEED [PROFILE] [--text] | generate --timing|--refused|--accepted FIELDS";
 
 fn main() -> ExitCode {
     let arguments: Vec<String> = std::env::args().skip(1).collect();
@@ -24,9 +24,9 @@ fn main() -> ExitCode {
 /// None where the arguments make no sense.
 fn output_for(arguments: &[String]) -> Option<Vec<u8>> {
     if let [option, fields] = arguments
-        && option == "--timing"
+        && let Some(long) = long(option)
     {
-        return Some(timing(fields.parse().ok()?));
+        return Some(long(fields.parse().ok()?));
     }
     let text = arguments.iter().any(|argument| argument == "--text");
     let mut rest = arguments.iter().filter(|argument| *argument != "--text");
@@ -37,6 +37,16 @@ fn output_for(arguments: &[String]) -> Option<Vec<u8>> {
     };
     let bytes = input(seed, profile);
     Some(if text { in_words(&bytes) } else { bytes })
+}
+
+/// The long input that an option names.
+fn long(option: &str) -> Option<fn(usize) -> Vec<u8>> {
+    match option {
+        "--timing" => Some(timing),
+        "--refused" => Some(refused),
+        "--accepted" => Some(accepted),
+        _ => None,
+    }
 }
 
 fn in_words(bytes: &[u8]) -> Vec<u8> {

@@ -1,0 +1,8 @@
+pub mod Placing
+pub mod Widths
+pub mod Lines
+pub mod Taking
+pub mod Ending
+pub mod Splitting
+pub mod Printing
+pub mod Streaming
