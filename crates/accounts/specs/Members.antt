@@ -51,6 +51,14 @@ shortfallAt x pool m =
 unfoldable pub shortfallsOf : Members → ℕ → List ℕ
 shortfallsOf x pool = tab 32 (λ m. if ltb pool 4 then shortfallAt x pool m else 0)
 
+-- the same from the units expected, won and allocated alone
+unfoldable pub shortfallFrom : List ℕ → List ℕ → List ℕ → ℕ → ℕ → ℕ
+shortfallFrom expected won allocated pool m =
+    min (getD expected (4 * m + pool) 0 - getD won (4 * m + pool) 0 - getD allocated (4 * m + pool) 0) unitLimit
+
+unfoldable pub shortfallsFrom : List ℕ → List ℕ → List ℕ → ℕ → List ℕ
+shortfallsFrom expected won allocated pool = tab 32 (λ m. if ltb pool 4 then shortfallFrom expected won allocated pool m else 0)
+
 -- over the four pools, each held to a pool's units
 unfoldable pub overPoolsAt : List ℕ → ℕ → ℕ
 overPoolsAt xs m = sumTo 4 (λ p. min (getD xs (4 * m + p) 0) unitLimit)

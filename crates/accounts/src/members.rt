@@ -4,7 +4,7 @@ ghost use Prim.Native.Nat.{_-_, _<_, min};
 ghost use lib.ListN.{length};
 ghost use Rattle.lists.specs.Lists.{if_then_else_};
 ghost use Rattle.auction.specs.Limits.{unitLimit};
-ghost use Rattle.accounts.specs.Members.{noMembers, owesOf, someoneOwesIn, amountsOf, shortfallsOf, overPools, overPoolsAt, putMember, addShares, withShares, withCalls, withPayment, withMove, withWon};
+ghost use Rattle.accounts.specs.Members.{noMembers, owesOf, someoneOwesIn, amountsOf, shortfallsOf, shortfallsFrom, overPools, overPoolsAt, putMember, addShares, withShares, withCalls, withPayment, withMove, withWon};
 
 pub struct Members {
     pub given: u32,
@@ -81,6 +81,29 @@ fn add_shares(pool: u8, shares: [u64; 32], xs: &mut [u64])
     }
 }
 
+// The shortfalls in a pool, from the units expected, won and allocated: whoever asks for them need not copy all of the members.
+pub fn shortfalls_from(
+    expected: [u64; 128],
+    won: [u64; 128],
+    allocated: [u64; 128],
+    pool: u8,
+) -> [u64; 32]
+    ensures { λ r. ⌜ r ≡ shortfallsFrom expected won allocated pool ⌝ }
+{
+    let mut out = [0u64; 32];
+    if 4 <= pool {
+        return out;
+    }
+    let at = pool as usize;
+    let mut m: usize = 0;
+    while m < 32 {
+        let k = 4 * m + at;
+        out[m] = shortfall(expected[k], won[k], allocated[k]);
+        m += 1;
+    }
+    out
+}
+
 impl Members {
     // The most members of a case, and the largest contribution.
     pub const MOST: usize = 32;
@@ -109,7 +132,9 @@ impl Members {
     {
         if m < 32 {
             let at = m as usize;
-            return owed(sets::has(self.moved, m), self.called[at], self.paid[at]);
+            let called = self.called;
+            let paid = self.paid;
+            return owed(sets::has(self.moved, m), called[at], paid[at]);
         }
         0
     }
@@ -118,11 +143,14 @@ impl Members {
     pub fn someone_owes(self) -> bool
         ensures { λ r. ⌜ r ≡ someoneOwesIn self ⌝ }
     {
+        let moved = self.moved;
+        let called = self.called;
+        let paid = self.paid;
         let mut found = false;
         let mut m: u8 = 0;
         while m < 32 {
             let at = m as usize;
-            let left = owed(sets::has(self.moved, m), self.called[at], self.paid[at]);
+            let left = owed(sets::has(moved, m), called[at], paid[at]);
             found = lists::either(found, 0 < left);
             m += 1;
         }
@@ -133,18 +161,10 @@ impl Members {
     pub fn shortfalls(self, pool: u8) -> [u64; 32]
         ensures { λ r. ⌜ r ≡ shortfallsOf self pool ⌝ }
     {
-        let mut out = [0u64; 32];
-        if 4 <= pool {
-            return out;
-        }
-        let at = pool as usize;
-        let mut m: usize = 0;
-        while m < 32 {
-            let k = 4 * m + at;
-            out[m] = shortfall(self.expected[k], self.won[k], self.allocated[k]);
-            m += 1;
-        }
-        out
+        let expected = self.expected;
+        let won = self.won;
+        let allocated = self.allocated;
+        shortfalls_from(expected, won, allocated, pool)
     }
 
     // MEMBER: a member with its contribution and its expected units in pools 0 to 3.

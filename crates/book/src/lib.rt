@@ -8,6 +8,7 @@ ghost use Rattle.lists.specs.Lists.{sum, all};
 ghost use Rattle.auction.specs.Price.{priceOk};
 ghost use Rattle.machine.specs.Refusals.{headOk, poolOk, memberOk, bidOk, paymentOk};
 ghost use Rattle.wire.specs.Asked.{headOf};
+ghost use Rattle.accounts.specs.Members.{shortfallsFrom};
 ghost use Rattle.book.specs.Stages.{letterOf, roundOf};
 ghost use Rattle.book.specs.Books.{nextRound, fourHeld, pricedIn, pricesIn, openIn, anyOpenIn, requirementIn, contributionsIn, prefundedIn, shortIn, allocationIn, callsIn};
 ghost use Rattle.book.specs.Books.{newBook, memberBook, roundBook, bidBook, callBook, payBook, finishBook};
@@ -195,6 +196,14 @@ fn sum_of_shortfalls(xs: [u64; 32]) -> u64
     total
 }
 
+// The total shortfall of a pool.
+fn total_shortfall(expected: [u64; 128], won: [u64; 128], allocated: [u64; 128], pool: u8) -> u64
+    ensures { λ r. ⌜ r ≡ sum (shortfallsFrom expected won allocated pool) ⌝ }
+{
+    let xs = accounts::members::shortfalls_from(expected, won, allocated, pool);
+    sum_of_shortfalls(xs)
+}
+
 // Why HEAD is declined where there is no case, or 0.
 pub fn head_answer(h: Head) -> u8
     ensures { λ r. ⌜ r ≡ headAnswer h ⌝ }
@@ -307,8 +316,10 @@ impl Book {
         ensures { λ r. ⌜ r ≡ shortIn self pool ⌝ }
     {
         let members = self.members;
-        let xs = members.shortfalls(pool);
-        sum_of_shortfalls(xs)
+        let expected = members.expected;
+        let won = members.won;
+        let allocated = members.allocated;
+        total_shortfall(expected, won, allocated, pool)
     }
 
     // ALLOCATE: each member's share of the pool's open units.
@@ -336,7 +347,7 @@ impl Book {
         shares
     }
 
-    // ---- why a call is declined, or 0
+    // ---- why a call is declined, or 0. Tests that sum over the members are asked after the others.
 
     pub fn pool_answer(self, pool: u8, units: u16, mark: u8) -> u8
         ensures { λ r. ⌜ r ≡ poolAnswer self pool units mark ⌝ }
@@ -423,14 +434,21 @@ impl Book {
         let pools = self.pools;
         let mark = pools.mark(pool);
         let open = self.open_units(pool);
-        let short = self.short(pool);
         let ok = price_ok(price);
-        let a10 = lists::decline_if(short == 0, 10, 0);
-        let a9 = lists::decline_if(mark == 1, 9, a10);
+        let a9 = lists::decline_if(mark == 1, 9, 0);
         let a8 = lists::decline_if(open == 0, 8, a9);
         let a5 = lists::decline_if(!ok, 5, a8);
         let a3 = lists::decline_if(head.pools <= pool, 3, a5);
-        lists::decline_if(stage != 3, 2, a3)
+        let first = lists::decline_if(stage != 3, 2, a3);
+        if first != 0 {
+            return first;
+        }
+        let members = self.members;
+        let expected = members.expected;
+        let won = members.won;
+        let allocated = members.allocated;
+        let short = total_shortfall(expected, won, allocated, pool);
+        lists::decline_if(short == 0, 10, 0)
     }
 
     pub fn tear_answer(self, pool: u8, price: u32) -> u8
@@ -451,11 +469,14 @@ impl Book {
     {
         let stage = letter(self.phase);
         let any_open = self.any_open();
+        let a11 = lists::decline_if(any_open, 11, 0);
+        let first = lists::decline_if(stage != 3, 2, a11);
+        if first != 0 {
+            return first;
+        }
         let required = self.requirement();
         let held = self.prefunded();
-        let a12 = lists::decline_if(required <= held, 12, 0);
-        let a11 = lists::decline_if(any_open, 11, a12);
-        lists::decline_if(stage != 3, 2, a11)
+        lists::decline_if(required <= held, 12, 0)
     }
 
     pub fn pay_answer(self, m: u8, amount: u32) -> u8
@@ -506,15 +527,18 @@ impl Book {
     {
         let stage = letter(self.phase);
         let any_open = self.any_open();
+        let a11 = lists::decline_if(any_open, 11, 0);
+        let may = lists::either(stage == 3, stage == 4);
+        let first = lists::decline_if(!may, 2, a11);
+        if first != 0 {
+            return first;
+        }
         let required = self.requirement();
         let held = self.prefunded();
         let members = self.members;
         let owing = members.someone_owes();
         let a15 = lists::decline_if(owing, 15, 0);
-        let a13 = lists::decline_if(lists::both(stage == 3, held < required), 13, a15);
-        let a11 = lists::decline_if(any_open, 11, a13);
-        let may = lists::either(stage == 3, stage == 4);
-        lists::decline_if(!may, 2, a11)
+        lists::decline_if(lists::both(stage == 3, held < required), 13, a15)
     }
 
     // The entries allocated or moved to a member.

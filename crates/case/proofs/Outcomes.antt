@@ -1,9 +1,9 @@
 -- A call that is declined hands the case back unchanged; an accepted one hands back the case after it. Also ROUND's reserves, read one by one.
 -- Assumes nothing.
-use mathlib.Core.Bool.{true}
+use mathlib.Core.Bool.{true, false≢true}
 use mathlib.Core.List.{List, [], _∷_}
-use mathlib.Core.Option.{Option}
-use mathlib.Core.Path.{_≡_, ap, _∙_}
+use mathlib.Core.Option.{Option, none, some}
+use mathlib.Core.Path.{_≡_, refl, ap, _∙_}
 use Prim.Native.Nat.{ℕ, min}
 use native.Mathlib.Omega.{arith}
 use lib.Dec.{ltb, eqb}
@@ -19,7 +19,7 @@ use Rattle.case.specs.declared.Case.{Case}
 use Rattle.case.specs.declared.Outcome.{Outcome}
 use Rattle.case.specs.declared.Held.{Held}
 use Rattle.case.specs.declared.Applied.{Applied}
-use Rattle.case.specs.Cases.{bookAnswer, caseAfter, outcome, outcomeOf, reserveIf, answerTo, afterAsked, takeAsked}
+use Rattle.case.specs.Cases.{bookAnswer, caseAfter, outcome, outcomeOf, reserveIf, answerTo, afterAsked, keepsUnits, keepsUnitsAsked, bookAfter, bookAfterAsked, withBook, takeAsked}
 
 -- ---- a call as a method
 
@@ -63,6 +63,24 @@ take-accepted h a n k e g f =
   where
     go : _≡_ {A = Applied} (record { answer = n; held = k }) (after-answer n h k)
     go = rw (eq-eqb n 0 g)
+
+-- an accepted call that leaves the units as they are changes the book alone
+pub units-kept : (c : Case) (a : Option Wire.Call) → keepsUnitsAsked a ≡ true → withBook c (bookAfterAsked (c .book) a) ≡ afterAsked c a
+unfolding keepsUnitsAsked keepsUnits bookAfterAsked bookAfter afterAsked caseAfter
+units-kept c none h = refl
+units-kept c (some (Wire.HEAD x)) h = absurd (false≢true h)
+units-kept c (some (Wire.POOL pool units mark)) h = absurd (false≢true h)
+units-kept c (some (Wire.MEMBER m contribution es)) h = refl
+units-kept c (some (Wire.ROUND rs)) h = refl
+units-kept c (some (Wire.BID pool m units price)) h = refl
+units-kept c (some Wire.CLOSE) h = absurd (false≢true h)
+units-kept c (some (Wire.ALLOCATE pool price)) h = absurd (false≢true h)
+units-kept c (some (Wire.TEAR pool price)) h = absurd (false≢true h)
+units-kept c (some Wire.CALL) h = refl
+units-kept c (some (Wire.PAY m amount)) h = refl
+units-kept c (some (Wire.MOVE m)) h = absurd (false≢true h)
+units-kept c (some (Wire.MISS m price)) h = absurd (false≢true h)
+units-kept c (some Wire.FINISH) h = refl
 
 -- ---- the reserves of ROUND
 

@@ -1,7 +1,7 @@
 -- What holds at each turn of `run`: the answers written so far, and those that the fields left are given from what is held, are the answers to
 -- all fields; and what is held after the fields left is what is held after all. Assumes nothing.
 use mathlib.Core.Path.{_≡_, refl, sym, ap, ap₂, _∙_}
-use mathlib.Core.Bool.{true}
+use mathlib.Core.Bool.{Bool, true}
 use mathlib.Core.List.{List, [], _∷_, _++_, append-assoc, append-nil}
 use mathlib.Core.Logic.{_⊎_, inl, inr}
 use mathlib.Core.Option.{Option}
@@ -12,14 +12,19 @@ use lib.ListN.{length, set, take, drop, length-set, length-drop, take-append-dro
 use lib.Seq.{take-all, take-suc-set, drop-set-lt, drop-drop}
 use Rattle.machine.specs.Wire as Wire
 use Rattle.machine.specs.Printed.{fieldsIn}
+use Rattle.book.specs.declared.Book.{Book}
+use Rattle.case.specs.declared.Case.{Case}
 use Rattle.case.specs.declared.Held.{Held}
 use Rattle.case.specs.declared.Applied.{Applied}
-use Rattle.case.specs.Cases.{answerTo, afterAsked, takeAsked, applied, noHeld}
+use Rattle.case.specs.Cases.{withBook, answerTo, afterAsked, keepsUnitsAsked, bookAfterAsked, takeAsked, applied, noHeld}
 use Rattle.case.specs.Input.{fieldSize, ledgerAfter, ledgerAnswers}
-use Rattle.case.proofs.Outcomes.{take-declined, take-accepted}
+use Rattle.case.proofs.Outcomes.{take-declined, take-accepted, units-kept}
 use Rattle.case.proofs.Fields.{first-size, fields-more, fields-none}
 
 -- ---- one call, asked first
+
+abbrev heldCase : Case → Held
+heldCase c = record { present = true; case = c }
 
 module _ (h : Held) (a : Option Wire.Call) (s : List ℕ) (n : ℕ) (answered : n ≡ answerTo (h .present) (h .case .book) a) (read : a ≡ Wire.decode s) where
   -- a call that is declined leaves what is held
@@ -31,6 +36,16 @@ module _ (h : Held) (a : Option Wire.Call) (s : List ℕ) (n : ℕ) (answered : 
       → _≡_ {A = Applied} (record { answer = n; held = k }) (applied h s)
   unfolding applied
   asked-accepted k z e = take-accepted h a n k answered z e ∙ ap (takeAsked h) read
+
+  pub asked-after : (d : Case) → n ≡ 0 → d ≡ afterAsked (h .case) a
+      → _≡_ {A = Applied} (record { answer = n; held = record { present = true; case = d } }) (applied h s)
+  asked-after d z e = asked-accepted (heldCase d) z (ap heldCase e)
+
+  -- a call that is accepted and leaves the units as they are changes the book alone
+  pub asked-kept : (more : Book) (keeps : Bool) → n ≡ 0 → keeps ≡ keepsUnitsAsked a → keeps ≡ true → more ≡ bookAfterAsked (h .case .book) a
+      → _≡_ {A = Applied} (record { answer = n; held = record { present = true; case = withBook (h .case) more } }) (applied h s)
+  asked-kept more keeps z e t f =
+      asked-after (withBook (h .case) more) z (ap (withBook (h .case)) f ∙ units-kept (h .case) a (sym e ∙ t))
 
 -- ---- the loop
 

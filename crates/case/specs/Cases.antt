@@ -175,6 +175,46 @@ unfoldable pub afterAsked : Case → Option Wire.Call → Case
 afterAsked c none = c
 afterAsked c (some call) = caseAfter c call
 
+-- whether a call that is accepted leaves the units as they are
+unfoldable pub keepsUnits : Wire.Call → Bool
+keepsUnits (Wire.HEAD h) = false
+keepsUnits (Wire.POOL pool units mark) = false
+keepsUnits (Wire.MEMBER m contribution es) = true
+keepsUnits (Wire.ROUND rs) = true
+keepsUnits (Wire.BID pool m units price) = true
+keepsUnits Wire.CLOSE = false
+keepsUnits (Wire.ALLOCATE pool price) = false
+keepsUnits (Wire.TEAR pool price) = false
+keepsUnits Wire.CALL = true
+keepsUnits (Wire.PAY m amount) = true
+keepsUnits (Wire.MOVE m) = false
+keepsUnits (Wire.MISS m price) = false
+keepsUnits Wire.FINISH = true
+
+unfoldable pub keepsUnitsAsked : Option Wire.Call → Bool
+keepsUnitsAsked none = true
+keepsUnitsAsked (some call) = keepsUnits call
+
+-- the book after such a call
+unfoldable pub bookAfter : Book → Wire.Call → Book
+bookAfter b (Wire.HEAD h) = b
+bookAfter b (Wire.POOL pool units mark) = b
+bookAfter b (Wire.MEMBER m contribution es) = memberBook b m contribution (getD es 0 0) (getD es 1 0) (getD es 2 0) (getD es 3 0)
+bookAfter b (Wire.ROUND rs) = roundBook b (getD rs 0 0) (getD rs 1 0) (getD rs 2 0) (getD rs 3 0)
+bookAfter b (Wire.BID pool m units price) = bidBook b pool m units price
+bookAfter b Wire.CLOSE = b
+bookAfter b (Wire.ALLOCATE pool price) = b
+bookAfter b (Wire.TEAR pool price) = b
+bookAfter b Wire.CALL = callBook b
+bookAfter b (Wire.PAY m amount) = payBook b m amount
+bookAfter b (Wire.MOVE m) = b
+bookAfter b (Wire.MISS m price) = b
+bookAfter b Wire.FINISH = finishBook b
+
+unfoldable pub bookAfterAsked : Book → Option Wire.Call → Book
+bookAfterAsked b none = b
+bookAfterAsked b (some call) = bookAfter b call
+
 -- a call taken: "Each gives its number and the unchanged case (none where there was none); 0 is accepted."
 unfoldable pub takeAsked : Held → Option Wire.Call → Applied
 takeAsked h asked =

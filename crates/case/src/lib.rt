@@ -10,7 +10,7 @@ ghost use Rattle.wire.specs.Asked.{asked};
 ghost use Rattle.roll.specs.Rolls.{countOf};
 ghost use Rattle.book.specs.Books.{memberBook, roundBook, bidBook, callBook, payBook, finishBook};
 ghost use Rattle.case.specs.Cases.{tallied, newCase, poolCase, closePool, closeCase, allocateCase, tearCase, moveCase, missCase};
-ghost use Rattle.case.specs.Cases.{withBook, reserveIf, firstAnswerTo, bookAnswerTo, answerTo, afterAsked, takeAsked, applied, headOutcome, outcomeOf, noHeld};
+ghost use Rattle.case.specs.Cases.{withBook, reserveIf, firstAnswerTo, bookAnswerTo, answerTo, afterAsked, keepsUnitsAsked, bookAfterAsked, takeAsked, applied, headOutcome, outcomeOf, noHeld};
 ghost use Rattle.case.specs.Readings.{holdingIn, sumOfPricesIn};
 ghost use Rattle.case.specs.Input.{fieldSize, Runs};
 use book::Book;
@@ -456,31 +456,140 @@ fn wide(b: u8) -> usize
 }
 
 // The fields of a whole input, taken in turn from no case on, as many as there is room for answers. The loop asks first: a call that is
-// declined copies no case.
+// declined copies no case, and one that leaves the units as they are copies no unit.
 pub fn run(input: &[u8], answers: &mut [u8]) -> Ran
     ensures { λ r. ⌜ Runs (now (input .entry)) (now (answers .entry)) (now (answers .exit)) r ⌝ }
 {
-    let mut held = Held::none();
+    let none = Held::none();
+    let mut present = none.present;
+    let mut case = none.case;
     let mut at: usize = 0;
     let mut count: usize = 0;
     while at < input.len() {
         if answers.len() <= count {
+            let held = Held { present, case };
             return Ran { count, held };
         }
         let rest = &input[at..];
         let size = field_size(rest);
         let end = at + size;
         let call = wire::read_call(&input[at..end]);
-        let book = held.case.book;
-        let answer = answer_to(held.present, book, call);
+        let book = case.book;
+        let answer = answer_to(present, book, call);
         answers[count] = answer;
         count += 1;
         at = end;
         if answer == 0 {
-            held = accept(held, call);
+            present = true;
+            if keeps_units(call) {
+                let old = case.book;
+                let more = book_after(old, call);
+                case.book = more;
+            } else {
+                case = after(case, call);
+            }
         }
     }
+    let held = Held { present, case };
     Ran { count, held }
+}
+
+// Whether a call that is accepted leaves the units as they are.
+pub fn keeps_units(call: Call) -> bool
+    ensures { λ r. ⌜ r ≡ keepsUnitsAsked (asked call) ⌝ }
+{
+    match call {
+        Call::Head(_) => false,
+        Call::Pool {
+            pool: _,
+            units: _,
+            mark: _,
+        } => false,
+        Call::Member {
+            member: _,
+            contribution: _,
+            a: _,
+            b: _,
+            c: _,
+            d: _,
+        } => true,
+        Call::Round {
+            count: _,
+            a: _,
+            b: _,
+            c: _,
+            d: _,
+        } => true,
+        Call::Bid {
+            pool: _,
+            member: _,
+            units: _,
+            price: _,
+        } => true,
+        Call::Close => false,
+        Call::Allocate { pool: _, price: _ } => false,
+        Call::Tear { pool: _, price: _ } => false,
+        Call::Call => true,
+        Call::Pay {
+            member: _,
+            amount: _,
+        } => true,
+        Call::Move { member: _ } => false,
+        Call::Miss {
+            member: _,
+            price: _,
+        } => false,
+        Call::Finish => true,
+        Call::Unknown => true,
+    }
+}
+
+// The book after such a call.
+pub fn book_after(book: Book, call: Call) -> Book
+    ensures { λ r. ⌜ r ≡ bookAfterAsked book (asked call) ⌝ }
+{
+    match call {
+        Call::Head(_) => book,
+        Call::Pool {
+            pool: _,
+            units: _,
+            mark: _,
+        } => book,
+        Call::Member {
+            member,
+            contribution,
+            a,
+            b,
+            c,
+            d,
+        } => book.take_member(member, contribution, a, b, c, d),
+        Call::Round { count, a, b, c, d } => {
+            book.take_round(
+                reserve_if(count, 0, a),
+                reserve_if(count, 1, b),
+                reserve_if(count, 2, c),
+                reserve_if(count, 3, d),
+            )
+        }
+        Call::Bid {
+            pool,
+            member,
+            units,
+            price,
+        } => book.take_bid(pool, member, units, price),
+        Call::Close => book,
+        Call::Allocate { pool: _, price: _ } => book,
+        Call::Tear { pool: _, price: _ } => book,
+        Call::Call => book.take_call(),
+        Call::Pay { member, amount } => book.take_pay(member, amount),
+        Call::Move { member: _ } => book,
+        Call::Miss {
+            member: _,
+            price: _,
+        } => book,
+        Call::Finish => book.take_finish(),
+        Call::Unknown => book,
+    }
 }
 
 // What is held after a call that was accepted.

@@ -1,7 +1,6 @@
 // The printed text of a run (document 01): "s: tag, answer .. p, per pool given: pool, open, sold, allocated, moved, torn .. l: loss, six charges, uncovered; m:
 // member, rank, charge on contribution, on payments", in decimal, into a lent buffer.
 ghost use mathlib.Core.Path.{_≡_};
-ghost use mathlib.Core.Bool.{true};
 ghost use mathlib.Core.List.{[], _∷_, map};
 ghost use Prim.Native.Nat.{_<_};
 ghost use lib.ListN.{getD};
@@ -9,15 +8,12 @@ ghost use Rattle.lists.specs.Lists.{tab};
 ghost use Rattle.sets.specs.Set.{members};
 ghost use Rattle.machine.specs.Printed.{sLine};
 ghost use Rattle.lines.specs.Placed.{Placed, placed, lineText};
-ghost use Rattle.wire.specs.Asked.{asked};
-ghost use Rattle.case.specs.Cases.{afterAsked};
 ghost use Rattle.report.specs.Texts.{pLineOf, lLineOf, mLineOf, resultLines, finishLines, heldLines, cutLines, placedLines};
 ghost use Rattle.report.specs.Texts.{wholeSize, TakesPart, Prints};
 use book::Book;
 use book::Result;
 use case::Case;
 use case::Held;
-use wire::Call;
 
 // What is held after the whole fields at the front of a part of an input, the bytes that they took, and the bytes of text written.
 pub struct Taken {
@@ -197,28 +193,19 @@ fn wide(b: u8) -> usize
     b as usize
 }
 
-// What is held after a call that was accepted.
-fn accept(held: Held, call: Call) -> Held
-    ensures { λ r. ⌜ r ≡ record { present = true; case = afterAsked (held .case) (asked call) } ⌝ }
-{
-    let case = held.case;
-    Held {
-        present: true,
-        case: case::after(case, call),
-    }
-}
-
 // The whole fields at the front of a part of an input, taken in turn, with an s line for each at the front of the buffer. A buffer with less than
-// four times the part's bytes is untouched, and nothing is taken. The loop asks first: a call that is declined copies no case.
+// four times the part's bytes is untouched, and nothing is taken. The loop asks first: a call that is declined copies no case,
+// and one that leaves the units as they are copies no unit.
 pub fn take_part(held: Held, input: &[u8], out: &mut [u8]) -> Taken
     ensures { λ r. ⌜ TakesPart held (now (input .entry)) (now (out .entry)) (now (out .exit)) r ⌝ }
 {
-    let mut next = held;
+    let mut present = held.present;
+    let mut case = held.case;
     let mut used: usize = 0;
     let mut written: usize = 0;
     if out.len() / 4 < input.len() {
         return Taken {
-            held: next,
+            held,
             used,
             written,
         };
@@ -226,6 +213,7 @@ pub fn take_part(held: Held, input: &[u8], out: &mut [u8]) -> Taken
     while used < input.len() {
         let size = whole_size(&input[used..]);
         if size == 0 {
+            let next = Held { present, case };
             return Taken {
                 held: next,
                 used,
@@ -234,14 +222,22 @@ pub fn take_part(held: Held, input: &[u8], out: &mut [u8]) -> Taken
         }
         let end = used + size;
         let call = wire::read_call(&input[used..end]);
-        let book = next.case.book;
-        let answer = case::answer_to(next.present, book, call);
+        let book = case.book;
+        let answer = case::answer_to(present, book, call);
         written = write_answer(input[used], answer, out, written);
         used = end;
         if answer == 0 {
-            next = accept(next, call);
+            present = true;
+            if case::keeps_units(call) {
+                let old = case.book;
+                let more = case::book_after(old, call);
+                case.book = more;
+            } else {
+                case = case::after(case, call);
+            }
         }
     }
+    let next = Held { present, case };
     Taken {
         held: next,
         used,

@@ -6,32 +6,33 @@ use lib.ListN.{length, length-set}
 use denote.Ref.{now}
 use borrow.Author.Needs.{needs}
 use Rattle.lists.proofs.Each.{each-of}
-use Rattle.case.proofs.Running.{Going, starts, sized, field-ends, field-read, asked-declined, asked-accepted, goes, counts-all, answers-all, holds-all}
+use Rattle.case.proofs.Running.{Going, starts, sized, field-ends, field-read, asked-declined, asked-after, asked-kept, goes, counts-all, answers-all, holds-all}
 use Rattle.case.proofs.Claim.{runs}
 use Rattle.case.proofs.run.Statement.{statement}
 use Rattle.case.proofs.run.Tie as tie
 
 abbrev Inv-loop : tie.InvT-loop
-Inv-loop input answers₀ held₀ at₀ count₀ answers held at count = Going input answers₀ answers held at count
+Inv-loop input answers₀ present₀ case₀ at₀ count₀ answers present case at count =
+    Going input answers₀ answers (record { present = present; case = case }) at count
 
 abbrev μ-loop : tie.MeasureT-loop
-μ-loop input answers₀ held₀ at₀ count₀ answers held at count = length answers - count
+μ-loop input answers₀ present₀ case₀ at₀ count₀ answers present case at count = length answers - count
 
 none-requires : tie.Need-none-requires Inv-loop μ-loop
 none-requires c κs = search needs
 
 loop-holds : tie.Need-loop-holds Inv-loop μ-loop
-loop-holds c = starts _ _ _ (c .none .ensures)
+loop-holds c = starts _ _ _ (c .before .none .ensures)
 
 same-length : tie.Need-same-length Inv-loop μ-loop
 same-length c = c .before .before .loop .inv .size
 
 returns : tie.Need-returns Inv-loop μ-loop
 returns c =
-    let a = c .before .before .before .before .before .before .args in
+    let a = c .before .before .before .before .before .before .before .args in
     let l = c .before .before .loop in
     let left : (length (now (a .answers)) ≤ l .count) ⊎ (length (now (a .input)) ≤ l .at) = inl (let s = l .inv .size in omega arith) in
-    runs _ _ _ _ (each-of (λ (b : ℕ). b < 256) (now (a .input)) 0 (λ i h. omega (arith, c .before .before .before .before .before .shared-slice-known .given i)))
+    runs _ _ _ _ (each-of (λ (b : ℕ). b < 256) (now (a .input)) 0 (λ i h. omega (arith, c .before .before .before .before .before .before .shared-slice-known .given i)))
     (counts-all _ _ _ _ _ _ (l .inv) left)
     (answers-all _ _ _ _ _ _ (l .inv) left)
     (holds-all _ _ _ _ _ _ (l .inv) left)
@@ -50,7 +51,7 @@ field-size-requires c κs = search needs
 
 add-end : tie.Need-add-end Inv-loop μ-loop
 add-end c =
-    let input = now (c .before .before .before .before .before .before .before .before .args .input) in
+    let input = now (c .before .before .before .before .before .before .before .before .before .args .input) in
     let at = c .before .before .before .before .loop .at in
     omega (arith, field-ends input at (c .before .before .before .loop-test .taken) _ (sized input at _ (c .field-size .ensures)))
 
@@ -75,40 +76,57 @@ slice-write-answers c = omega arith
 add-count : tie.Need-add-count Inv-loop μ-loop
 add-count c = let g = c .before .before .before .before .before .before .before .before .loop .inv in omega arith
 
-accept-requires : tie.Need-accept-requires Inv-loop μ-loop
-accept-requires c κs = search needs
+keeps-units-requires : tie.Need-keeps-units-requires Inv-loop μ-loop
+keeps-units-requires c κs = search needs
+
+book-after-requires : tie.Need-book-after-requires Inv-loop μ-loop
+book-after-requires c κs = search needs
 
 loop-less : tie.Need-loop-less Inv-loop μ-loop
 loop-less c = simp length-set (omega arith)
 
 loop-again : tie.Need-loop-again Inv-loop μ-loop
 loop-again c =
-    let input = now (c .before .before .before .before .before .before .before .before .before .before .before .before .before .before .args .input) in
-    let l = c .before .before .before .before .before .before .before .before .before .before .loop in
-    let size = c .before .before .before .before .before .before .field-size .result in
-    goes _ _ _ _ _ _ (l .inv) (let s = l .inv .size in omega arith) (omega arith) _ (sized input (l .at) size (c .before .before .before .before .before .before .field-size .ensures)) _
-    (asked-accepted (l .held) _ _ _ (c .before .before .answer-to .ensures) (field-read input (l .at) size _ (c .before .before .before .before .read-call .ensures)) _ (c .before .if2 .taken) (c .accept .ensures))
+    let input = now (c .before .before .before .before .before .before .before .before .before .before .before .before .before .before .before .before .before .before .args .input) in
+    let l = c .before .before .before .before .before .before .before .before .before .before .before .before .before .loop in
+    let size = c .before .before .before .before .before .before .before .before .before .field-size .result in
+    goes _ _ _ _ _ _ (l .inv) (let s = l .inv .size in omega (arith, c .before .before .before .before .before .before .before .before .before .before .before .if1 .left)) (omega (arith, c .before .before .before .before .before .before .before .before .before .before .before .before .loop-test .taken)) _ (sized input (l .at) size (c .before .before .before .before .before .before .before .before .before .field-size .ensures)) _
+    (asked-kept (record { present = l .present; case = l .case }) _ _ _ (c .before .before .before .before .before .answer-to .ensures) (field-read input (l .at) size _ (c .before .before .before .before .before .before .before .read-call .ensures)) _ _ (c .before .before .before .before .if2 .taken) (c .before .before .before .keeps-units .ensures) (c .before .before .if3 .taken) (c .book-after .ensures))
+
+after-requires : tie.Need-after-requires Inv-loop μ-loop
+after-requires c κs = search needs
 
 loop-less-2 : tie.Need-loop-less-2 Inv-loop μ-loop
 loop-less-2 c = simp length-set (omega arith)
 
 loop-again-2 : tie.Need-loop-again-2 Inv-loop μ-loop
 loop-again-2 c =
-    let input = now (c .before .before .before .before .before .before .before .before .before .before .before .before .before .args .input) in
+    let input = now (c .before .before .before .before .before .before .before .before .before .before .before .before .before .before .before .before .before .args .input) in
+    let l = c .before .before .before .before .before .before .before .before .before .before .before .before .loop in
+    let size = c .before .before .before .before .before .before .before .before .field-size .result in
+    goes _ _ _ _ _ _ (l .inv) (let s = l .inv .size in omega arith) (omega arith) _ (sized input (l .at) size (c .before .before .before .before .before .before .before .before .field-size .ensures)) _
+    (asked-after (record { present = l .present; case = l .case }) _ _ _ (c .before .before .before .before .answer-to .ensures) (field-read input (l .at) size _ (c .before .before .before .before .before .before .read-call .ensures)) _ (c .before .before .before .if2 .taken) (c .after .ensures))
+
+loop-less-3 : tie.Need-loop-less-3 Inv-loop μ-loop
+loop-less-3 c = simp length-set (omega arith)
+
+loop-again-3 : tie.Need-loop-again-3 Inv-loop μ-loop
+loop-again-3 c =
+    let input = now (c .before .before .before .before .before .before .before .before .before .before .before .before .before .before .args .input) in
     let l = c .before .before .before .before .before .before .before .before .before .loop in
     let size = c .before .before .before .before .before .field-size .result in
     goes _ _ _ _ _ _ (l .inv) (let s = l .inv .size in omega arith) (omega arith) _ (sized input (l .at) size (c .before .before .before .before .before .field-size .ensures)) _
-    (asked-declined (l .held) _ _ _ (c .before .answer-to .ensures) (field-read input (l .at) size _ (c .before .before .before .read-call .ensures)) (c .if2 .left))
+    (asked-declined (record { present = l .present; case = l .case }) _ _ _ (c .before .answer-to .ensures) (field-read input (l .at) size _ (c .before .before .before .read-call .ensures)) (c .if2 .left))
 
 same-length-2 : tie.Need-same-length-2 Inv-loop μ-loop
 same-length-2 c = c .before .loop .inv .size
 
 returns-2 : tie.Need-returns-2 Inv-loop μ-loop
 returns-2 c =
-    let a = c .before .before .before .before .before .args in
+    let a = c .before .before .before .before .before .before .args in
     let l = c .before .loop in
     let left : (length (now (a .answers)) ≤ l .count) ⊎ (length (now (a .input)) ≤ l .at) = inr (omega arith) in
-    runs _ _ _ _ (each-of (λ (b : ℕ). b < 256) (now (a .input)) 0 (λ i h. omega (arith, c .before .before .before .before .shared-slice-known .given i)))
+    runs _ _ _ _ (each-of (λ (b : ℕ). b < 256) (now (a .input)) 0 (λ i h. omega (arith, c .before .before .before .before .before .shared-slice-known .given i)))
     (counts-all _ _ _ _ _ _ (l .inv) left)
     (answers-all _ _ _ _ _ _ (l .inv) left)
     (holds-all _ _ _ _ _ _ (l .inv) left)
@@ -135,10 +153,14 @@ run-spec =
     answer-to-requires
     slice-write-answers
     add-count
-    accept-requires
+    keeps-units-requires
+    book-after-requires
     loop-less
     loop-again
+    after-requires
     loop-less-2
     loop-again-2
+    loop-less-3
+    loop-again-3
     same-length-2
     returns-2)

@@ -3,16 +3,17 @@ use native.Mathlib.Omega.{arith}
 use borrow.Author.Needs.{needs}
 use Prim.Native.Nat.{_-_}
 use lib.ListN.{length}
-use Rattle.case.proofs.Running.{field-read, asked-declined, asked-accepted}
+use Rattle.case.proofs.Running.{field-read, asked-declined, asked-after, asked-kept}
 use Rattle.report.proofs.Taking.{Taking, starts, takes, takes-none, ends-cut, first-cut, field-ends, field-some, sized, goes}
 use Rattle.report.proofs.take_part.Statement.{statement}
 use Rattle.report.proofs.take_part.Tie as tie
 
 abbrev Inv-loop : tie.InvT-loop
-Inv-loop input out₀ next₀ used₀ written₀ out next used written = Taking next₀ input out₀ out next used written
+Inv-loop input out₀ present₀ case₀ used₀ written₀ out present case used written =
+    Taking (record { present = present₀; case = case₀ }) input out₀ out (record { present = present; case = case }) used written
 
 abbrev μ-loop : tie.MeasureT-loop
-μ-loop input out₀ next₀ used₀ written₀ out next used written = length input - used
+μ-loop input out₀ present₀ case₀ used₀ written₀ out present case used written = length input - used
 
 returns : tie.Need-returns Inv-loop μ-loop
 returns c = takes-none _ _ _ (c .if1 .taken)
@@ -36,11 +37,11 @@ same-length : tie.Need-same-length Inv-loop μ-loop
 same-length c = c .before .before .before .before .loop .inv .size
 
 returns-2 : tie.Need-returns-2 Inv-loop μ-loop
-returns-2 c = takes _ _ _ _ _ _ _ (c .before .before .before .before .loop .inv) (first-cut _ _ (sized (c .before .before .before .before .before .before .before .before .args .input .now) (c .before .before .before .before .loop .used) _ (c .before .whole-size .ensures)) (c .if2 .taken))
+returns-2 c = takes _ _ _ _ _ _ _ (c .before .before .before .before .loop .inv) (first-cut _ _ (sized (c .before .before .before .before .before .before .before .before .before .args .input .now) (c .before .before .before .before .loop .used) _ (c .before .whole-size .ensures)) (c .if2 .taken))
 
 add-end : tie.Need-add-end Inv-loop μ-loop
 add-end c =
-    omega (arith, field-ends _ _ _ _ _ _ _ (c .before .before .before .before .loop .inv) (c .before .before .before .loop-test .taken) _ (sized (c .before .before .before .before .before .before .before .before .args .input .now) (c .before .before .before .before .loop .used) _ (c .before .whole-size .ensures)) (c .if2 .left))
+    omega (arith, field-ends _ _ _ _ _ _ _ (c .before .before .before .before .loop .inv) (c .before .before .before .loop-test .taken) _ (sized (c .before .before .before .before .before .before .before .before .before .args .input .now) (c .before .before .before .before .loop .used) _ (c .before .whole-size .ensures)) (c .if2 .left))
 
 sub-read-call : tie.Need-sub-read-call Inv-loop μ-loop
 sub-read-call c = search needs
@@ -50,7 +51,7 @@ part-read-call-start c = search needs
 
 part-read-call-end : tie.Need-part-read-call-end Inv-loop μ-loop
 part-read-call-end c =
-    let h = field-ends _ _ _ _ _ _ _ (c .before .before .before .before .loop .inv) (c .before .before .before .loop-test .taken) _ (sized (c .before .before .before .before .before .before .before .before .args .input .now) (c .before .before .before .before .loop .used) _ (c .before .whole-size .ensures)) (c .if2 .left) in
+    let h = field-ends _ _ _ _ _ _ _ (c .before .before .before .before .loop .inv) (c .before .before .before .loop-test .taken) _ (sized (c .before .before .before .before .before .before .before .before .before .args .input .now) (c .before .before .before .before .loop .used) _ (c .before .whole-size .ensures)) (c .if2 .left) in
     search needs
 
 read-call-requires : tie.Need-read-call-requires Inv-loop μ-loop
@@ -65,36 +66,57 @@ shared-slice-read-write-answer c = search needs
 write-answer-requires : tie.Need-write-answer-requires Inv-loop μ-loop
 write-answer-requires c κs = search needs
 
-accept-requires : tie.Need-accept-requires Inv-loop μ-loop
-accept-requires c κs = search needs
+keeps-units-requires : tie.Need-keeps-units-requires Inv-loop μ-loop
+keeps-units-requires c κs = search needs
+
+book-after-requires : tie.Need-book-after-requires Inv-loop μ-loop
+book-after-requires c κs = search needs
 
 loop-less : tie.Need-loop-less Inv-loop μ-loop
 loop-less c =
-    omega (arith, field-some _ _ _ _ _ _ _ (c .before .before .before .before .before .before .before .before .before .before .before .before .before .before .before .loop .inv) (c .before .before .before .before .before .before .before .before .before .before .before .before .before .before .loop-test .taken) _ (sized (c .before .before .before .before .before .before .before .before .before .before .before .before .before .before .before .before .before .before .before .args .input .now) (c .before .before .before .before .before .before .before .before .before .before .before .before .before .before .before .loop .used) _ (c .before .before .before .before .before .before .before .before .before .before .before .before .whole-size .ensures)) (c .before .before .before .before .before .before .before .before .before .before .before .if2 .left))
+    omega (arith, field-some _ _ _ _ _ _ _ (c .before .before .before .before .before .before .before .before .before .before .before .before .before .before .before .before .before .before .loop .inv) (c .before .before .before .before .before .before .before .before .before .before .before .before .before .before .before .before .before .loop-test .taken) _ (sized (c .before .before .before .before .before .before .before .before .before .before .before .before .before .before .before .before .before .before .before .before .before .before .before .args .input .now) (c .before .before .before .before .before .before .before .before .before .before .before .before .before .before .before .before .before .before .loop .used) _ (c .before .before .before .before .before .before .before .before .before .before .before .before .before .before .before .whole-size .ensures)) (c .before .before .before .before .before .before .before .before .before .before .before .before .before .before .if2 .left))
 
 loop-again : tie.Need-loop-again Inv-loop μ-loop
 loop-again c =
-    let input = c .before .before .before .before .before .before .before .before .before .before .before .before .before .before .before .before .before .before .before .args .input .now in
-    let l = c .before .before .before .before .before .before .before .before .before .before .before .before .before .before .before .loop in
-    let size = c .before .before .before .before .before .before .before .before .before .before .before .before .whole-size .result in
-    goes _ _ _ _ _ _ _ (l .inv) (c .before .before .before .before .before .before .before .before .before .before .before .before .before .before .loop-test .taken) size (sized (c .before .before .before .before .before .before .before .before .before .before .before .before .before .before .before .before .before .before .before .args .input .now) (c .before .before .before .before .before .before .before .before .before .before .before .before .before .before .before .loop .used) _ (c .before .before .before .before .before .before .before .before .before .before .before .before .whole-size .ensures)) (c .before .before .before .before .before .before .before .before .before .before .before .if2 .left) _
-    (asked-accepted (l .next) _ _ _ (c .before .before .before .before .before .before .before .answer-to .ensures) (field-read input (l .used) size _ (c .before .before .before .before .before .before .before .before .before .read-call .ensures)) _ (c .before .if3 .taken) (c .accept .ensures))
-    (let b = c .before .before .before .before .before .before .before .before .before .before .before .before .before .before .before .before .before .before .shared-slice-known .given (l .used) in omega arith)
+    let input = c .before .before .before .before .before .before .before .before .before .before .before .before .before .before .before .before .before .before .before .before .before .before .before .args .input .now in
+    let l = c .before .before .before .before .before .before .before .before .before .before .before .before .before .before .before .before .before .before .loop in
+    let size = c .before .before .before .before .before .before .before .before .before .before .before .before .before .before .before .whole-size .result in
+    goes _ _ _ _ _ _ _ (l .inv) (c .before .before .before .before .before .before .before .before .before .before .before .before .before .before .before .before .before .loop-test .taken) size (sized input (l .used) _ (c .before .before .before .before .before .before .before .before .before .before .before .before .before .before .before .whole-size .ensures)) (c .before .before .before .before .before .before .before .before .before .before .before .before .before .before .if2 .left) _
+    (asked-kept (record { present = l .present; case = l .case }) _ _ _ (c .before .before .before .before .before .before .before .before .before .before .answer-to .ensures) (field-read input (l .used) size _ (c .before .before .before .before .before .before .before .before .before .before .before .before .read-call .ensures)) _ _ (c .before .before .before .before .if3 .taken) (c .before .before .before .keeps-units .ensures) (c .before .before .if4 .taken) (c .book-after .ensures))
+    (let b = c .before .before .before .before .before .before .before .before .before .before .before .before .before .before .before .before .before .before .before .before .before .before .shared-slice-known .given (l .used) in omega arith)
     (omega arith)
-    _ _ (c .before .before .before .before .write-answer .ensures)
+    _ _ (c .before .before .before .before .before .before .before .write-answer .ensures)
+
+after-requires : tie.Need-after-requires Inv-loop μ-loop
+after-requires c κs = search needs
 
 loop-less-2 : tie.Need-loop-less-2 Inv-loop μ-loop
 loop-less-2 c =
-    omega (arith, field-some _ _ _ _ _ _ _ (c .before .before .before .before .before .before .before .before .before .before .before .before .before .before .loop .inv) (c .before .before .before .before .before .before .before .before .before .before .before .before .before .loop-test .taken) _ (sized (c .before .before .before .before .before .before .before .before .before .before .before .before .before .before .before .before .before .before .args .input .now) (c .before .before .before .before .before .before .before .before .before .before .before .before .before .before .loop .used) _ (c .before .before .before .before .before .before .before .before .before .before .before .whole-size .ensures)) (c .before .before .before .before .before .before .before .before .before .before .if2 .left))
+    omega (arith, field-some _ _ _ _ _ _ _ (c .before .before .before .before .before .before .before .before .before .before .before .before .before .before .before .before .before .loop .inv) (c .before .before .before .before .before .before .before .before .before .before .before .before .before .before .before .before .loop-test .taken) _ (sized (c .before .before .before .before .before .before .before .before .before .before .before .before .before .before .before .before .before .before .before .before .before .before .args .input .now) (c .before .before .before .before .before .before .before .before .before .before .before .before .before .before .before .before .before .loop .used) _ (c .before .before .before .before .before .before .before .before .before .before .before .before .before .before .whole-size .ensures)) (c .before .before .before .before .before .before .before .before .before .before .before .before .before .if2 .left))
 
 loop-again-2 : tie.Need-loop-again-2 Inv-loop μ-loop
 loop-again-2 c =
-    let input = c .before .before .before .before .before .before .before .before .before .before .before .before .before .before .before .before .before .before .args .input .now in
+    let input = c .before .before .before .before .before .before .before .before .before .before .before .before .before .before .before .before .before .before .before .before .before .before .args .input .now in
+    let l = c .before .before .before .before .before .before .before .before .before .before .before .before .before .before .before .before .before .loop in
+    let size = c .before .before .before .before .before .before .before .before .before .before .before .before .before .before .whole-size .result in
+    goes _ _ _ _ _ _ _ (l .inv) (c .before .before .before .before .before .before .before .before .before .before .before .before .before .before .before .before .loop-test .taken) size (sized input (l .used) _ (c .before .before .before .before .before .before .before .before .before .before .before .before .before .before .whole-size .ensures)) (c .before .before .before .before .before .before .before .before .before .before .before .before .before .if2 .left) _
+    (asked-after (record { present = l .present; case = l .case }) _ _ _ (c .before .before .before .before .before .before .before .before .before .answer-to .ensures) (field-read input (l .used) size _ (c .before .before .before .before .before .before .before .before .before .before .before .read-call .ensures)) _ (c .before .before .before .if3 .taken) (c .after .ensures))
+    (let b = c .before .before .before .before .before .before .before .before .before .before .before .before .before .before .before .before .before .before .before .before .before .shared-slice-known .given (l .used) in omega arith)
+    (omega arith)
+    _ _ (c .before .before .before .before .before .before .write-answer .ensures)
+
+loop-less-3 : tie.Need-loop-less-3 Inv-loop μ-loop
+loop-less-3 c =
+    omega (arith, field-some _ _ _ _ _ _ _ (c .before .before .before .before .before .before .before .before .before .before .before .before .before .before .loop .inv) (c .before .before .before .before .before .before .before .before .before .before .before .before .before .loop-test .taken) _ (sized (c .before .before .before .before .before .before .before .before .before .before .before .before .before .before .before .before .before .before .before .args .input .now) (c .before .before .before .before .before .before .before .before .before .before .before .before .before .before .loop .used) _ (c .before .before .before .before .before .before .before .before .before .before .before .whole-size .ensures)) (c .before .before .before .before .before .before .before .before .before .before .if2 .left))
+
+loop-again-3 : tie.Need-loop-again-3 Inv-loop μ-loop
+loop-again-3 c =
+    let input = c .before .before .before .before .before .before .before .before .before .before .before .before .before .before .before .before .before .before .before .args .input .now in
     let l = c .before .before .before .before .before .before .before .before .before .before .before .before .before .before .loop in
     let size = c .before .before .before .before .before .before .before .before .before .before .before .whole-size .result in
-    goes _ _ _ _ _ _ _ (l .inv) (c .before .before .before .before .before .before .before .before .before .before .before .before .before .loop-test .taken) size (sized (c .before .before .before .before .before .before .before .before .before .before .before .before .before .before .before .before .before .before .args .input .now) (c .before .before .before .before .before .before .before .before .before .before .before .before .before .before .loop .used) _ (c .before .before .before .before .before .before .before .before .before .before .before .whole-size .ensures)) (c .before .before .before .before .before .before .before .before .before .before .if2 .left) _
-    (asked-declined (l .next) _ _ _ (c .before .before .before .before .before .before .answer-to .ensures) (field-read input (l .used) size _ (c .before .before .before .before .before .before .before .before .read-call .ensures)) (c .if3 .left))
-    (let b = c .before .before .before .before .before .before .before .before .before .before .before .before .before .before .before .before .before .shared-slice-known .given (l .used) in omega arith)
+    goes _ _ _ _ _ _ _ (l .inv) (c .before .before .before .before .before .before .before .before .before .before .before .before .before .loop-test .taken) size (sized input (l .used) _ (c .before .before .before .before .before .before .before .before .before .before .before .whole-size .ensures)) (c .before .before .before .before .before .before .before .before .before .before .if2 .left) _
+    (asked-declined (record { present = l .present; case = l .case }) _ _ _ (c .before .before .before .before .before .before .answer-to .ensures) (field-read input (l .used) size _ (c .before .before .before .before .before .before .before .before .read-call .ensures)) (c .if3 .left))
+    (let b = c .before .before .before .before .before .before .before .before .before .before .before .before .before .before .before .before .before .before .shared-slice-known .given (l .used) in omega arith)
     (omega arith)
     _ _ (c .before .before .before .write-answer .ensures)
 
@@ -126,10 +148,14 @@ take-part-spec =
     answer-to-requires
     shared-slice-read-write-answer
     write-answer-requires
-    accept-requires
+    keeps-units-requires
+    book-after-requires
     loop-less
     loop-again
+    after-requires
     loop-less-2
     loop-again-2
+    loop-less-3
+    loop-again-3
     same-length-2
     returns-3)

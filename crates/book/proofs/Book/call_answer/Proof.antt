@@ -1,6 +1,6 @@
--- `book::Book::call_answer` meets its contract. The tests stand in the order of their numbers. Assumes nothing.
+-- `book::Book::call_answer` meets its contract. The tests stand in the order of their numbers, and the dearest is asked last. Assumes nothing.
 use Rattle.lists.specs.Tests.{firstOf}
-use Rattle.book.specs.Answers.{callAnswer}
+use Rattle.book.proofs.InTwo.{call-declined, call-let-pass}
 use borrow.Author.Needs.{needs}
 use Rattle.book.proofs.Book.call_answer.Statement.{statement}
 use Rattle.book.proofs.Book.call_answer.Tie as tie
@@ -18,24 +18,28 @@ letter-requires c κs = search needs
 any-open-requires : tie.Need-any-open-requires
 any-open-requires c κs = search needs
 
-requirement-requires : tie.Need-requirement-requires
-requirement-requires c κs = search needs
-
-prefunded-requires : tie.Need-prefunded-requires
-prefunded-requires c κs = search needs
-
 decline-if-requires : tie.Need-decline-if-requires
 decline-if-requires c κs = search needs
 
 decline-if-requires-2 : tie.Need-decline-if-requires-2
 decline-if-requires-2 c κs = search needs
 
+returns : tie.Need-returns
+unfolding firstOf
+returns c = call-declined _ _ (cc) (c .if1 .taken)
+
+requirement-requires : tie.Need-requirement-requires
+requirement-requires c κs = search needs
+
+prefunded-requires : tie.Need-prefunded-requires
+prefunded-requires c κs = search needs
+
 decline-if-requires-3 : tie.Need-decline-if-requires-3
 decline-if-requires-3 c κs = search needs
 
-returns : tie.Need-returns
-unfolding callAnswer firstOf
-returns c = cc
+returns-2 : tie.Need-returns-2
+unfolding firstOf
+returns-2 c = call-let-pass _ _ (cc) (c .before .before .before .if1 .left) _ (cc)
 
 pub call-answer-spec : {M : Type 1} → statement M
 call-answer-spec =
@@ -43,9 +47,10 @@ call-answer-spec =
     (tie.spec
     letter-requires
     any-open-requires
-    requirement-requires
-    prefunded-requires
     decline-if-requires
     decline-if-requires-2
+    returns
+    requirement-requires
+    prefunded-requires
     decline-if-requires-3
-    returns)
+    returns-2)

@@ -1,23 +1,19 @@
--- `book::Book::short` meets its contract. Each shortfall is at most 1,000. Assumes nothing.
+-- `book::Book::short` meets its contract. Assumes nothing.
+use Rattle.accounts.specs.Members.{shortfallAt, shortfallsOf, shortfallFrom, shortfallsFrom}
 use Rattle.book.specs.Books.{shortIn}
-use Rattle.book.proofs.Bounds.{shortfall-le}
 use borrow.Author.Needs.{needs}
 use Rattle.book.proofs.Book.short.Statement.{statement}
 use Rattle.book.proofs.Book.short.Tie as tie
 use Rattle.book.proofs.Book.short.Reads as reads
 use Rattle.book.proofs.Book.short.Lts as lts
-use Rattle.accounts.proofs.members.Members.shortfalls.Reads as shortfalls-reads
-use Rattle.book.proofs.sum_of_shortfalls.Reads as sum-of-shortfalls-reads
+use Rattle.book.proofs.total_shortfall.Reads as total-shortfall-reads
 
-shortfalls-requires : tie.Need-shortfalls-requires
-shortfalls-requires c κs = search needs
-
-sum-of-shortfalls-requires : tie.Need-sum-of-shortfalls-requires
-sum-of-shortfalls-requires c κs = rw (c .shortfalls .ensures) (shortfall-le (c .before .before .args .self .members) (c .before .before .args .pool))
+total-shortfall-requires : tie.Need-total-shortfall-requires
+total-shortfall-requires c κs = search needs
 
 returns : tie.Need-returns
-unfolding shortIn
-returns c = cc
+unfolding shortIn shortfallsOf shortfallAt shortfallsFrom shortfallFrom
+returns c = c .total-shortfall .ensures
 
 pub short-spec : {M : Type 1} → statement M
-short-spec = tie.close (tie.spec shortfalls-requires sum-of-shortfalls-requires returns)
+short-spec = tie.close (tie.spec total-shortfall-requires returns)

@@ -12,14 +12,14 @@ has-requires c κs = search needs
 mul-owed : tie.Need-mul-owed
 mul-owed c = search needs
 
-element-copy-out-owed : tie.Need-element-copy-out-owed
-element-copy-out-owed c = search needs
+array-read-owed : tie.Need-array-read-owed
+array-read-owed c = search needs
 
 mul-owed-2 : tie.Need-mul-owed-2
 mul-owed-2 c = search needs
 
-element-copy-out-owed-2 : tie.Need-element-copy-out-owed-2
-element-copy-out-owed-2 c = search needs
+array-read-owed-2 : tie.Need-array-read-owed-2
+array-read-owed-2 c = search needs
 
 owed-requires : tie.Need-owed-requires
 owed-requires c κs = search needs
@@ -29,7 +29,7 @@ unfolding owesOf
 returns c = cc
 
 returns-2 : tie.Need-returns-2
-returns-2 c = sym (owes-past (c .before .args .t1) (c .before .args .m) (search needs) (search needs) (search needs))
+returns-2 c = sym (owes-past (c .before .args .self) (c .before .args .m) (search needs) (search needs) (search needs))
 
 pub owes-spec : {M : Type 1} → statement M
 owes-spec =
@@ -37,9 +37,9 @@ owes-spec =
     (tie.spec
     has-requires
     mul-owed
-    element-copy-out-owed
+    array-read-owed
     mul-owed-2
-    element-copy-out-owed-2
+    array-read-owed-2
     owed-requires
     returns
     returns-2)

@@ -2,19 +2,22 @@
 use mathlib.Core.Path.{_≡_, sym}
 use Prim.Native.Nat.{_-_, _≤_}
 use lib.Dec.{ltb}
+use lib.ListN.{getD}
 use native.Mathlib.Omega.{arith}
 use Rattle.lists.proofs.Counts.{any-none, any-next}
-use Rattle.lists.specs.Lists.{any, places}
+use Rattle.lists.specs.Lists.{if_then_else_, any, places}
+use Rattle.sets.specs.Set.{member}
 use Rattle.accounts.specs.Members.{owesOf, someoneOwesIn}
 use borrow.Author.Needs.{needs}
 use Rattle.accounts.proofs.members.Members.someone_owes.Statement.{statement}
 use Rattle.accounts.proofs.members.Members.someone_owes.Tie as tie
 
 abbrev Inv-loop : tie.InvT-loop
-Inv-loop self found₀ m₀ found m = (m ≤ 32) × (found ≡ any (λ k. ltb 0 (owesOf self k)) (places m))
+Inv-loop moved called paid found₀ m₀ found m =
+    (m ≤ 32) × (found ≡ any (λ k. ltb 0 (if member moved k then 0 else getD called k 0 - getD paid k 0)) (places m))
 
 abbrev μ-loop : tie.MeasureT-loop
-μ-loop self found₀ m₀ found m = 32 - m
+μ-loop moved called paid found₀ m₀ found m = 32 - m
 
 loop-holds : tie.Need-loop-holds Inv-loop μ-loop
 loop-holds c = (search needs, sym (any-none _))
@@ -28,14 +31,14 @@ has-requires c κs = search needs
 mul-owed : tie.Need-mul-owed Inv-loop μ-loop
 mul-owed c = search needs
 
-element-copy-out-owed : tie.Need-element-copy-out-owed Inv-loop μ-loop
-element-copy-out-owed c = search needs
+array-read-owed : tie.Need-array-read-owed Inv-loop μ-loop
+array-read-owed c = search needs
 
 mul-owed-2 : tie.Need-mul-owed-2 Inv-loop μ-loop
 mul-owed-2 c = search needs
 
-element-copy-out-owed-2 : tie.Need-element-copy-out-owed-2 Inv-loop μ-loop
-element-copy-out-owed-2 c = search needs
+array-read-owed-2 : tie.Need-array-read-owed-2 Inv-loop μ-loop
+array-read-owed-2 c = search needs
 
 owed-requires : tie.Need-owed-requires Inv-loop μ-loop
 owed-requires c κs = search needs
@@ -50,11 +53,10 @@ loop-less : tie.Need-loop-less Inv-loop μ-loop
 loop-less c = search needs
 
 loop-again : tie.Need-loop-again Inv-loop μ-loop
-unfolding owesOf
 loop-again c = (omega arith, rw (any-next) (cc))
 
 returns : tie.Need-returns Inv-loop μ-loop
-unfolding someoneOwesIn
+unfolding someoneOwesIn owesOf
 returns c =
     let all : c .before .loop .m ≡ 32 = omega arith in
     rw all at (c .before .loop .inv .1)
@@ -69,9 +71,9 @@ someone-owes-spec =
     cast-at
     has-requires
     mul-owed
-    element-copy-out-owed
+    array-read-owed
     mul-owed-2
-    element-copy-out-owed-2
+    array-read-owed-2
     owed-requires
     either-requires
     add-m
