@@ -1,0 +1,3 @@
+pub mod Puts
+pub mod Table
+pub mod Codec
