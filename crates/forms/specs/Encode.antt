@@ -33,12 +33,14 @@ unfoldable pub valueFrom : ℕ → ℕ → List ℕ → List ℕ
 valueFrom tag i [] = []
 valueFrom tag i (n ∷ ns) = fieldBytes (kindOf tag i) n ++ valueFrom tag (suc i) ns
 
--- "tag (1 byte), length (2), value"; no call has no bytes
+-- "tag (1 byte), length (2), value"; no value has more than 255 bytes
+abbrev pub tagged : ℕ → List ℕ → List ℕ
+tagged tag v = tag ∷ 0 ∷ length v ∷ v
+
+-- the bytes of a call by its tag and its numbers; no call has no bytes
 unfoldable pub encodeForm : Form → List ℕ
 encodeForm (zero, ns) = []
-encodeForm (suc t, ns) =
-    let v = valueFrom (suc t) 0 ns in
-    suc t ∷ 0 ∷ length v ∷ v
+encodeForm (suc t, ns) = tagged (suc t) (valueFrom (suc t) 0 ns)
 
 unfoldable pub encode : Wire.Call → List ℕ
 encode c = encodeForm (tagOf c, numbersOf c)

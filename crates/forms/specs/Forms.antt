@@ -1,15 +1,14 @@
 -- A call as its tag and its numbers, and what kind of number each is: the form in which a call is written and read, as bytes or as text.
-use mathlib.Core.Path.{_≡_}
 use mathlib.Core.Bool.{_&&_}
 use mathlib.Core.List.{List, [], _∷_}
 use mathlib.Core.Option.{Option, none, some}
-use Prim.Native.Nat.{ℕ, _+_, _*_, _≤_}
+use Prim.Native.Nat.{ℕ, _+_, _*_, min}
 use lib.Dec.{ltb}
-use lib.ListN.{getD, take}
+use lib.ListN.{getD}
 use Rattle.lists.specs.Lists.{if_then_else_}
 use Rattle.machine.specs.Wire as Wire
 use Rattle.wire.specs.declared.Call.{Call}
-use Rattle.wire.specs.Asked.{asked}
+use Rattle.wire.specs.declared.Call.the-variants.{Head as HeadCall, Pool, Member, Round, Bid, Close, Allocate, Tear, Call as CallCall, Pay, Move, Miss, Finish, Unknown}
 use Rattle.forms.specs.declared.Tagged.{Tagged}
 
 -- "tag (1 byte)"
@@ -80,7 +79,19 @@ kindOf tag i = if ltb tag 14 && ltb i 8 then getD kinds (tag * 8 + i) 0 else 0
 abbrev pub flatOf : (tag count a b c d e f g h : ℕ) → Tagged
 flatOf tag count a b c d e f g h = record { tag = tag; count = count; numbers = a ∷ b ∷ c ∷ d ∷ e ∷ f ∷ g ∷ h ∷ [] }
 
--- the tag and the numbers of a call of the program
-pub record Flattened (call : Call) (r : Tagged) : Type 0 where
-  pub form : _≡_ {A = Form} (r .tag, take (r .count) (r .numbers)) (formOf (asked call))
-  pub few : r .count ≤ 8
+-- the tag and the numbers of a call of the program; a ROUND has at most four reserves
+unfoldable pub flattened : Call → Tagged
+flattened (HeadCall h) = flatOf 1 8 (h .pools) (h .least) (h .set) (h .hedge) (h .other) (h .margin) (h .fund) (h .house)
+flattened (Pool pool units mark) = flatOf 2 3 pool units mark 0 0 0 0 0
+flattened (Member m contribution a b c d) = flatOf 3 6 m contribution a b c d 0 0
+flattened (Round n a b c d) = flatOf 4 (min n 4) a b c d 0 0 0 0
+flattened (Bid pool m units price) = flatOf 5 4 pool m units price 0 0 0 0
+flattened Close = flatOf 6 0 0 0 0 0 0 0 0 0
+flattened (Allocate pool price) = flatOf 7 2 pool price 0 0 0 0 0 0
+flattened (Tear pool price) = flatOf 8 2 pool price 0 0 0 0 0 0
+flattened CallCall = flatOf 9 0 0 0 0 0 0 0 0 0
+flattened (Pay m amount) = flatOf 10 2 m amount 0 0 0 0 0 0
+flattened (Move m) = flatOf 11 1 m 0 0 0 0 0 0 0
+flattened (Miss m price) = flatOf 12 2 m price 0 0 0 0 0 0
+flattened Finish = flatOf 13 0 0 0 0 0 0 0 0 0
+flattened Unknown = flatOf 0 0 0 0 0 0 0 0 0 0

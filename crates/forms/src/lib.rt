@@ -4,8 +4,8 @@ ghost use mathlib.Core.List.{[], _∷_};
 ghost use Prim.Native.Nat.{_+_, _%_, _≤_, _<_, min};
 ghost use lib.ListN.{length, take};
 ghost use Rattle.wire.specs.Asked.{asked};
-ghost use Rattle.forms.specs.Forms.{kindOf, flatOf, Flattened};
-ghost use Rattle.forms.specs.Encode.{Written, bytesOf, rawOf, fieldBytes, valueFrom, encodedInto};
+ghost use Rattle.forms.specs.Forms.{kindOf, flatOf, flattened};
+ghost use Rattle.forms.specs.Encode.{Written, tagged, bytesOf, rawOf, fieldBytes, valueFrom, encodedInto};
 ghost use Rattle.forms.specs.Put.{Put};
 use wire::Call;
 
@@ -89,7 +89,7 @@ fn flat_head(h: wire::Head) -> Tagged
 
 // A call as its tag and its numbers.
 pub fn flat(call: Call) -> Tagged
-    ensures { λ r. ⌜ Flattened call r ⌝ }
+    ensures { λ r. ⌜ r ≡ flattened call ⌝ }
 {
     match call {
         Call::Head(head) => flat_head(head),
@@ -189,6 +189,18 @@ fn put_fields(out: &mut [u8], at: usize, tag: u8, count: usize, numbers: [u32; 8
     to
 }
 
+// A field at the front of the buffer, and its length: the value first, and then what stands before it.
+fn put_form(out: &mut [u8], tag: u8, count: usize, numbers: [u32; 8]) -> usize
+    requires { ⌜ (count ≤ 8) × (64 ≤ length (now out)) ⌝ }
+    ensures { λ r. ⌜ Put (now (out .entry)) 0 (tagged tag (valueFrom tag 0 (take count numbers))) 35 r (now (out .exit)) ⌝ }
+{
+    let end = put_fields(out, 3, tag, count, numbers);
+    put(out, 2, (end - 3) as u8);
+    put(out, 1, 0);
+    put(out, 0, tag);
+    end
+}
+
 // The bytes of a call at the front of the buffer, and how many they are: 0 where the call is `Unknown`, or the buffer has less than 64 bytes.
 pub fn write_call(call: Call, out: &mut [u8]) -> usize
     ensures { λ r. ⌜ _≡_ {A = Written} (r, now (out .exit)) (encodedInto (asked call) (now (out .entry))) ⌝ }
@@ -197,13 +209,11 @@ pub fn write_call(call: Call, out: &mut [u8]) -> usize
         return 0;
     }
     let f = flat(call);
+    let tag = f.tag;
+    let count = f.count;
     let numbers = f.numbers;
-    if f.tag == 0 {
+    if tag == 0 {
         return 0;
     }
-    let end = put_fields(out, 3, f.tag, f.count, numbers);
-    put(out, 0, f.tag);
-    put(out, 1, 0);
-    put(out, 2, (end - 3) as u8);
-    end
+    put_form(out, tag, count, numbers)
 }

@@ -1,3 +1,5 @@
+-- `forms::flat` meets its contract. Each call has its own numbers. Assumes nothing.
+use Rattle.forms.specs.Forms.{flattened}
 use borrow.Author.Needs.{needs}
 use Rattle.forms.proofs.flat.Statement.{statement}
 use Rattle.forms.proofs.flat.Tie as tie
@@ -145,46 +147,60 @@ flat-of-requires-13 : tie.Need-flat-of-requires-13
 flat-of-requires-13 c κs = search needs
 
 returns : tie.Need-returns
-returns c = ?
+unfolding flattened
+returns c = simp (c .before .before .call .given .1, c .flat-head .ensures)
 
 returns-2 : tie.Need-returns-2
-returns-2 c = ?
+unfolding flattened
+returns-2 c = simp (c .before .before .before .before .before .call2 .given .1, c .flat-of .ensures, c .before .one-wide2 .ensures, c .before .before .two-wide .ensures, c .before .before .before .one-wide .ensures)
 
 returns-3 : tie.Need-returns-3
-returns-3 c = ?
+unfolding flattened
+returns-3 c = simp (c .before .before .before .before .before .before .before .call3 .given .1, c .flat-of2 .ensures, c .before .two-wide5 .ensures, c .before .before .two-wide4 .ensures, c .before .before .before .two-wide3 .ensures, c .before .before .before .before .two-wide2 .ensures, c .before .before .before .before .before .one-wide3 .ensures)
 
 returns-4 : tie.Need-returns-4
-returns-4 c = ?
+unfolding flattened
+returns-4 c = simp (c .before .before .before .call4 .given .1, c .flat-of3 .ensures, c .before .at-most-four .ensures)
 
 returns-5 : tie.Need-returns-5
-returns-5 c = ?
+unfolding flattened
+returns-5 c = simp (c .before .before .before .before .before .call5 .given .1, c .flat-of4 .ensures, c .before .two-wide6 .ensures, c .before .before .one-wide5 .ensures, c .before .before .before .one-wide4 .ensures)
 
 returns-6 : tie.Need-returns-6
-returns-6 c = ?
+unfolding flattened
+returns-6 c = simp (c .before .enum-told .given .1, c .flat-of5 .ensures)
 
 returns-7 : tie.Need-returns-7
-returns-7 c = ?
+unfolding flattened
+returns-7 c = simp (c .before .before .before .call6 .given .1, c .flat-of6 .ensures, c .before .one-wide6 .ensures)
 
 returns-8 : tie.Need-returns-8
-returns-8 c = ?
+unfolding flattened
+returns-8 c = simp (c .before .before .before .call7 .given .1, c .flat-of7 .ensures, c .before .one-wide7 .ensures)
 
 returns-9 : tie.Need-returns-9
-returns-9 c = ?
+unfolding flattened
+returns-9 c = simp (c .before .enum-told2 .given .1, c .flat-of8 .ensures)
 
 returns-10 : tie.Need-returns-10
-returns-10 c = ?
+unfolding flattened
+returns-10 c = simp (c .before .before .before .call8 .given .1, c .flat-of9 .ensures, c .before .one-wide8 .ensures)
 
 returns-11 : tie.Need-returns-11
-returns-11 c = ?
+unfolding flattened
+returns-11 c = simp (c .before .before .before .call9 .given .1, c .flat-of10 .ensures, c .before .one-wide9 .ensures)
 
 returns-12 : tie.Need-returns-12
-returns-12 c = ?
+unfolding flattened
+returns-12 c = simp (c .before .before .before .call10 .given .1, c .flat-of11 .ensures, c .before .one-wide10 .ensures)
 
 returns-13 : tie.Need-returns-13
-returns-13 c = ?
+unfolding flattened
+returns-13 c = simp (c .before .enum-told3 .given .1, c .flat-of12 .ensures)
 
 returns-14 : tie.Need-returns-14
-returns-14 c = ?
+unfolding flattened
+returns-14 c = simp (c .before .enum-told4 .given .1, c .flat-of13 .ensures)
 
 pub flat-spec : {M : Type 1} → statement M
 flat-spec =

@@ -1,3 +1,10 @@
+-- `forms::put_two` meets its contract. Assumes nothing.
+use mathlib.Core.Path.{_≡_, refl, sym, ap, _∙_}
+use mathlib.Core.List.{List, [], _∷_}
+use Prim.Native.Nat.{ℕ, _+_, _/_, _%_, _*_, _-_, _≤_}
+use native.Mathlib.Omega.{arith}
+use Rattle.forms.proofs.Puts.{put-then, put-byte}
+use Rattle.forms.specs.Encode.{bytesOf}
 use borrow.Author.Needs.{needs}
 use Rattle.forms.proofs.put_two.Statement.{statement}
 use Rattle.forms.proofs.put_two.Tie as tie
@@ -22,7 +29,10 @@ same-length : tie.Need-same-length
 same-length c = search needs
 
 returns : tie.Need-returns
-returns c = ?
+unfolding bytesOf
+returns c = 
+    let n = c .before .before .before .before .before .before .before .before .before .before .before .args .n in
+    put-then ((n / 256 % 256) ∷ []) ((n % 256) ∷ []) (put-byte _ (c .before .before .before .before .before .before .before .before .low .ensures) (c .before .before .before .before .before .before .before .put .ensures)) (put-byte _ (c .before .before .before .low2 .ensures) (c .before .before .put2 .ensures))
 
 pub put-two-spec : {M : Type 1} → statement M
 put-two-spec =
