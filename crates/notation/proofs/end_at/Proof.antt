@@ -1,0 +1,48 @@
+use borrow.Author.Needs.{needs}
+use Rattle.notation.proofs.end_at.Statement.{statement}
+use Rattle.notation.proofs.end_at.Tie as tie
+use Rattle.notation.proofs.end_at.Reads as reads
+use Rattle.notation.proofs.end_at.Lts as lts
+use Rattle.lists.proofs.both.Reads as both-reads
+use Rattle.lists.proofs.either.Reads as either-reads
+use Rattle.notation.proofs.is_complete.Reads as is-complete-reads
+use Rattle.notation.proofs.pick.Reads as pick-reads
+use Rattle.notation.proofs.refuse.Reads as refuse-reads
+use Rattle.notation.proofs.to_phase.Reads as to-phase-reads
+
+returns : tie.Need-returns
+returns c = ?
+
+is-complete-requires : tie.Need-is-complete-requires
+is-complete-requires c κs = search needs
+
+both-requires : tie.Need-both-requires
+both-requires c κs = search needs
+
+either-requires : tie.Need-either-requires
+either-requires c κs = search needs
+
+refuse-requires : tie.Need-refuse-requires
+refuse-requires c κs = search needs
+
+to-phase-requires : tie.Need-to-phase-requires
+to-phase-requires c κs = search needs
+
+pick-requires : tie.Need-pick-requires
+pick-requires c κs = search needs
+
+returns-2 : tie.Need-returns-2
+returns-2 c = ?
+
+pub end-at-spec : {M : Type 1} → statement M
+end-at-spec =
+    tie.close
+    (tie.spec
+    returns
+    is-complete-requires
+    both-requires
+    either-requires
+    refuse-requires
+    to-phase-requires
+    pick-requires
+    returns-2)

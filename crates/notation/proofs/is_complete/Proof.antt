@@ -1,0 +1,23 @@
+use borrow.Author.Needs.{needs}
+use Rattle.notation.proofs.is_complete.Statement.{statement}
+use Rattle.notation.proofs.is_complete.Tie as tie
+use Rattle.notation.proofs.is_complete.Reads as reads
+use Rattle.notation.proofs.is_complete.Lts as lts
+use Rattle.forms.proofs.kind.Reads as kind-reads
+use Rattle.lists.proofs.both.Reads as both-reads
+use Rattle.lists.proofs.either.Reads as either-reads
+
+kind-requires : tie.Need-kind-requires
+kind-requires c κs = search needs
+
+both-requires : tie.Need-both-requires
+both-requires c κs = search needs
+
+either-requires : tie.Need-either-requires
+either-requires c κs = search needs
+
+returns : tie.Need-returns
+returns c = ?
+
+pub is-complete-spec : {M : Type 1} → statement M
+is-complete-spec = tie.close (tie.spec kind-requires both-requires either-requires returns)

@@ -1,0 +1,35 @@
+use borrow.Author.Needs.{needs}
+use Rattle.notation.proofs.key.Statement.{statement}
+use Rattle.notation.proofs.key.Tie as tie
+use Rattle.notation.proofs.key.Reads as reads
+use Rattle.notation.proofs.key.Lts as lts
+use Rattle.notation.proofs.place.Reads as place-reads
+
+returns : tie.Need-returns
+returns c = ?
+
+returns-2 : tie.Need-returns-2
+returns-2 c = ?
+
+place-requires : tie.Need-place-requires
+place-requires c κs = search needs
+
+mul-k : tie.Need-mul-k
+mul-k c = search needs
+
+add-k : tie.Need-add-k
+add-k c = search needs
+
+mul-result : tie.Need-mul-result
+mul-result c = search needs
+
+array-read-result : tie.Need-array-read-result
+array-read-result c = search needs
+
+returns-3 : tie.Need-returns-3
+returns-3 c = ?
+
+pub key-spec : {M : Type 1} → statement M
+key-spec =
+    tie.close
+    (tie.spec returns returns-2 place-requires mul-k add-k mul-result array-read-result returns-3)

@@ -1,0 +1,43 @@
+use borrow.Author.Needs.{needs}
+use Rattle.notation.proofs.letter.Statement.{statement}
+use Rattle.notation.proofs.letter.Tie as tie
+use Rattle.notation.proofs.letter.Reads as reads
+use Rattle.notation.proofs.letter.Lts as lts
+use Rattle.notation.proofs.wide.Reads as wide-reads
+
+wide-requires : tie.Need-wide-requires
+wide-requires c κs = search needs
+
+returns : tie.Need-returns
+returns c = ?
+
+sub-result : tie.Need-sub-result
+sub-result c = search needs
+
+returns-2 : tie.Need-returns-2
+returns-2 c = ?
+
+returns-3 : tie.Need-returns-3
+returns-3 c = ?
+
+sub-result-2 : tie.Need-sub-result-2
+sub-result-2 c = search needs
+
+returns-4 : tie.Need-returns-4
+returns-4 c = ?
+
+returns-5 : tie.Need-returns-5
+returns-5 c = ?
+
+pub letter-spec : {M : Type 1} → statement M
+letter-spec =
+    tie.close
+    (tie.spec
+    wide-requires
+    returns
+    sub-result
+    returns-2
+    returns-3
+    sub-result-2
+    returns-4
+    returns-5)

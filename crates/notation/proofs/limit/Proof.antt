@@ -1,0 +1,24 @@
+use borrow.Author.Needs.{needs}
+use Rattle.notation.proofs.limit.Statement.{statement}
+use Rattle.notation.proofs.limit.Tie as tie
+use Rattle.notation.proofs.limit.Reads as reads
+use Rattle.notation.proofs.limit.Lts as lts
+use Rattle.notation.proofs.place.Reads as place-reads
+
+returns : tie.Need-returns
+returns c = ?
+
+place-requires : tie.Need-place-requires
+place-requires c κs = search needs
+
+mul-result : tie.Need-mul-result
+mul-result c = search needs
+
+array-read-result : tie.Need-array-read-result
+array-read-result c = search needs
+
+returns-2 : tie.Need-returns-2
+returns-2 c = ?
+
+pub limit-spec : {M : Type 1} → statement M
+limit-spec = tie.close (tie.spec returns place-requires mul-result array-read-result returns-2)

@@ -1,0 +1,39 @@
+use borrow.Author.Needs.{needs}
+use Rattle.notation.proofs.more_digits.Statement.{statement}
+use Rattle.notation.proofs.more_digits.Tie as tie
+use Rattle.notation.proofs.more_digits.Reads as reads
+use Rattle.notation.proofs.more_digits.Lts as lts
+use Rattle.notation.proofs.next_point.Reads as next-point-reads
+use Rattle.notation.proofs.pick.Reads as pick-reads
+use Rattle.notation.proofs.refuse.Reads as refuse-reads
+use Rattle.notation.proofs.with_digit.Reads as with-digit-reads
+use Rattle.notation.proofs.with_value.Reads as with-value-reads
+
+with-digit-requires : tie.Need-with-digit-requires
+with-digit-requires c κs = search needs
+
+next-point-requires : tie.Need-next-point-requires
+next-point-requires c κs = search needs
+
+refuse-requires : tie.Need-refuse-requires
+refuse-requires c κs = search needs
+
+with-value-requires : tie.Need-with-value-requires
+with-value-requires c κs = search needs
+
+pick-requires : tie.Need-pick-requires
+pick-requires c κs = search needs
+
+returns : tie.Need-returns
+returns c = ?
+
+pub more-digits-spec : {M : Type 1} → statement M
+more-digits-spec =
+    tie.close
+    (tie.spec
+    with-digit-requires
+    next-point-requires
+    refuse-requires
+    with-value-requires
+    pick-requires
+    returns)

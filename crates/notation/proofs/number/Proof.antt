@@ -1,0 +1,57 @@
+use borrow.Author.Needs.{needs}
+use Rattle.notation.proofs.number.Statement.{statement}
+use Rattle.notation.proofs.number.Tie as tie
+use Rattle.notation.proofs.number.Reads as reads
+use Rattle.notation.proofs.number.Lts as lts
+use Rattle.notation.proofs.low_four.Reads as low-four-reads
+use Rattle.notation.proofs.low_one.Reads as low-one-reads
+use Rattle.sets.proofs.with.Reads as with-reads
+
+low-one-requires : tie.Need-low-one-requires
+low-one-requires c κs = search needs
+
+with-requires : tie.Need-with-requires
+with-requires c κs = search needs
+
+returns : tie.Need-returns
+returns c = ?
+
+sub-low-four : tie.Need-sub-low-four
+sub-low-four c = search needs
+
+low-four-requires : tie.Need-low-four-requires
+low-four-requires c κs = search needs
+
+returns-2 : tie.Need-returns-2
+returns-2 c = ?
+
+add-low-four : tie.Need-add-low-four
+add-low-four c = search needs
+
+low-four-requires-2 : tie.Need-low-four-requires-2
+low-four-requires-2 c κs = search needs
+
+returns-3 : tie.Need-returns-3
+returns-3 c = ?
+
+low-four-requires-3 : tie.Need-low-four-requires-3
+low-four-requires-3 c κs = search needs
+
+returns-4 : tie.Need-returns-4
+returns-4 c = ?
+
+pub number-spec : {M : Type 1} → statement M
+number-spec =
+    tie.close
+    (tie.spec
+    low-one-requires
+    with-requires
+    returns
+    sub-low-four
+    low-four-requires
+    returns-2
+    add-low-four
+    low-four-requires-2
+    returns-3
+    low-four-requires-3
+    returns-4)

@@ -1,0 +1,43 @@
+use borrow.Author.Needs.{needs}
+use Rattle.notation.proofs.on_comma.Statement.{statement}
+use Rattle.notation.proofs.on_comma.Tie as tie
+use Rattle.notation.proofs.on_comma.Reads as reads
+use Rattle.notation.proofs.on_comma.Lts as lts
+use Rattle.forms.proofs.kind.Reads as kind-reads
+use Rattle.lists.proofs.both.Reads as both-reads
+use Rattle.notation.proofs.on_list.Reads as on-list-reads
+use Rattle.notation.proofs.on_member.Reads as on-member-reads
+use Rattle.notation.proofs.settled.Reads as settled-reads
+
+kind-requires : tie.Need-kind-requires
+kind-requires c κs = search needs
+
+both-requires : tie.Need-both-requires
+both-requires c κs = search needs
+
+on-member-requires : tie.Need-on-member-requires
+on-member-requires c κs = search needs
+
+returns : tie.Need-returns
+returns c = ?
+
+settled-requires : tie.Need-settled-requires
+settled-requires c κs = search needs
+
+on-list-requires : tie.Need-on-list-requires
+on-list-requires c κs = search needs
+
+returns-2 : tie.Need-returns-2
+returns-2 c = ?
+
+pub on-comma-spec : {M : Type 1} → statement M
+on-comma-spec =
+    tie.close
+    (tie.spec
+    kind-requires
+    both-requires
+    on-member-requires
+    returns
+    settled-requires
+    on-list-requires
+    returns-2)

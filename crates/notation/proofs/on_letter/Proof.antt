@@ -1,0 +1,69 @@
+use borrow.Author.Needs.{needs}
+use Rattle.notation.proofs.on_letter.Statement.{statement}
+use Rattle.notation.proofs.on_letter.Tie as tie
+use Rattle.notation.proofs.on_letter.Reads as reads
+use Rattle.notation.proofs.on_letter.Lts as lts
+use Rattle.lists.proofs.either.Reads as either-reads
+use Rattle.notation.proofs.key.Reads as key-reads
+use Rattle.notation.proofs.pick.Reads as pick-reads
+use Rattle.notation.proofs.refuse.Reads as refuse-reads
+use Rattle.notation.proofs.with_letter.Reads as with-letter-reads
+use Rattle.notation.proofs.with_value.Reads as with-value-reads
+use Rattle.notation.proofs.word.Reads as word-reads
+
+word-requires : tie.Need-word-requires
+word-requires c κs = search needs
+
+returns : tie.Need-returns
+returns c = ?
+
+either-requires : tie.Need-either-requires
+either-requires c κs = search needs
+
+with-letter-requires : tie.Need-with-letter-requires
+with-letter-requires c κs = search needs
+
+with-value-requires : tie.Need-with-value-requires
+with-value-requires c κs = search needs
+
+returns-2 : tie.Need-returns-2
+returns-2 c = ?
+
+key-requires : tie.Need-key-requires
+key-requires c κs = search needs
+
+refuse-requires : tie.Need-refuse-requires
+refuse-requires c κs = search needs
+
+word-requires-2 : tie.Need-word-requires-2
+word-requires-2 c κs = search needs
+
+pick-requires : tie.Need-pick-requires
+pick-requires c κs = search needs
+
+returns-3 : tie.Need-returns-3
+returns-3 c = ?
+
+refuse-requires-2 : tie.Need-refuse-requires-2
+refuse-requires-2 c κs = search needs
+
+returns-4 : tie.Need-returns-4
+returns-4 c = ?
+
+pub on-letter-spec : {M : Type 1} → statement M
+on-letter-spec =
+    tie.close
+    (tie.spec
+    word-requires
+    returns
+    either-requires
+    with-letter-requires
+    with-value-requires
+    returns-2
+    key-requires
+    refuse-requires
+    word-requires-2
+    pick-requires
+    returns-3
+    refuse-requires-2
+    returns-4)

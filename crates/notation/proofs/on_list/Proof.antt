@@ -1,0 +1,52 @@
+use borrow.Author.Needs.{needs}
+use Rattle.notation.proofs.on_list.Statement.{statement}
+use Rattle.notation.proofs.on_list.Tie as tie
+use Rattle.notation.proofs.on_list.Reads as reads
+use Rattle.notation.proofs.on_list.Lts as lts
+use Rattle.forms.proofs.kind.Reads as kind-reads
+use Rattle.lists.proofs.both.Reads as both-reads
+use Rattle.notation.proofs.key.Reads as key-reads
+use Rattle.notation.proofs.pick.Reads as pick-reads
+use Rattle.notation.proofs.refuse.Reads as refuse-reads
+use Rattle.notation.proofs.to_phase.Reads as to-phase-reads
+
+returns : tie.Need-returns
+returns c = ?
+
+key-requires : tie.Need-key-requires
+key-requires c κs = search needs
+
+kind-requires : tie.Need-kind-requires
+kind-requires c κs = search needs
+
+both-requires : tie.Need-both-requires
+both-requires c κs = search needs
+
+both-requires-2 : tie.Need-both-requires-2
+both-requires-2 c κs = search needs
+
+refuse-requires : tie.Need-refuse-requires
+refuse-requires c κs = search needs
+
+to-phase-requires : tie.Need-to-phase-requires
+to-phase-requires c κs = search needs
+
+pick-requires : tie.Need-pick-requires
+pick-requires c κs = search needs
+
+returns-2 : tie.Need-returns-2
+returns-2 c = ?
+
+pub on-list-spec : {M : Type 1} → statement M
+on-list-spec =
+    tie.close
+    (tie.spec
+    returns
+    key-requires
+    kind-requires
+    both-requires
+    both-requires-2
+    refuse-requires
+    to-phase-requires
+    pick-requires
+    returns-2)

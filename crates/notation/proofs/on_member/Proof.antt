@@ -1,0 +1,39 @@
+use borrow.Author.Needs.{needs}
+use Rattle.notation.proofs.on_member.Statement.{statement}
+use Rattle.notation.proofs.on_member.Tie as tie
+use Rattle.notation.proofs.on_member.Reads as reads
+use Rattle.notation.proofs.on_member.Lts as lts
+use Rattle.notation.proofs.low_one.Reads as low-one-reads
+use Rattle.notation.proofs.pick.Reads as pick-reads
+use Rattle.notation.proofs.refuse.Reads as refuse-reads
+use Rattle.notation.proofs.with_set.Reads as with-set-reads
+use Rattle.sets.proofs.with.Reads as with-reads
+
+low-one-requires : tie.Need-low-one-requires
+low-one-requires c κs = search needs
+
+with-requires : tie.Need-with-requires
+with-requires c κs = search needs
+
+refuse-requires : tie.Need-refuse-requires
+refuse-requires c κs = search needs
+
+with-set-requires : tie.Need-with-set-requires
+with-set-requires c κs = search needs
+
+pick-requires : tie.Need-pick-requires
+pick-requires c κs = search needs
+
+returns : tie.Need-returns
+returns c = ?
+
+pub on-member-spec : {M : Type 1} → statement M
+on-member-spec =
+    tie.close
+    (tie.spec
+    low-one-requires
+    with-requires
+    refuse-requires
+    with-set-requires
+    pick-requires
+    returns)

@@ -1,0 +1,48 @@
+use borrow.Author.Needs.{needs}
+use Rattle.notation.proofs.on_minus.Statement.{statement}
+use Rattle.notation.proofs.on_minus.Tie as tie
+use Rattle.notation.proofs.on_minus.Reads as reads
+use Rattle.notation.proofs.on_minus.Lts as lts
+use Rattle.forms.proofs.kind.Reads as kind-reads
+use Rattle.lists.proofs.both.Reads as both-reads
+use Rattle.lists.proofs.either.Reads as either-reads
+use Rattle.notation.proofs.pick.Reads as pick-reads
+use Rattle.notation.proofs.refuse.Reads as refuse-reads
+use Rattle.notation.proofs.with_minus.Reads as with-minus-reads
+
+kind-requires : tie.Need-kind-requires
+kind-requires c κs = search needs
+
+both-requires : tie.Need-both-requires
+both-requires c κs = search needs
+
+either-requires : tie.Need-either-requires
+either-requires c κs = search needs
+
+both-requires-2 : tie.Need-both-requires-2
+both-requires-2 c κs = search needs
+
+refuse-requires : tie.Need-refuse-requires
+refuse-requires c κs = search needs
+
+with-minus-requires : tie.Need-with-minus-requires
+with-minus-requires c κs = search needs
+
+pick-requires : tie.Need-pick-requires
+pick-requires c κs = search needs
+
+returns : tie.Need-returns
+returns c = ?
+
+pub on-minus-spec : {M : Type 1} → statement M
+on-minus-spec =
+    tie.close
+    (tie.spec
+    kind-requires
+    both-requires
+    either-requires
+    both-requires-2
+    refuse-requires
+    with-minus-requires
+    pick-requires
+    returns)

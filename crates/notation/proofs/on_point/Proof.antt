@@ -1,0 +1,43 @@
+use borrow.Author.Needs.{needs}
+use Rattle.notation.proofs.on_point.Statement.{statement}
+use Rattle.notation.proofs.on_point.Tie as tie
+use Rattle.notation.proofs.on_point.Reads as reads
+use Rattle.notation.proofs.on_point.Lts as lts
+use Rattle.forms.proofs.kind.Reads as kind-reads
+use Rattle.lists.proofs.both.Reads as both-reads
+use Rattle.notation.proofs.pick.Reads as pick-reads
+use Rattle.notation.proofs.refuse.Reads as refuse-reads
+use Rattle.notation.proofs.with_value.Reads as with-value-reads
+
+kind-requires : tie.Need-kind-requires
+kind-requires c κs = search needs
+
+both-requires : tie.Need-both-requires
+both-requires c κs = search needs
+
+both-requires-2 : tie.Need-both-requires-2
+both-requires-2 c κs = search needs
+
+refuse-requires : tie.Need-refuse-requires
+refuse-requires c κs = search needs
+
+with-value-requires : tie.Need-with-value-requires
+with-value-requires c κs = search needs
+
+pick-requires : tie.Need-pick-requires
+pick-requires c κs = search needs
+
+returns : tie.Need-returns
+returns c = ?
+
+pub on-point-spec : {M : Type 1} → statement M
+on-point-spec =
+    tie.close
+    (tie.spec
+    kind-requires
+    both-requires
+    both-requires-2
+    refuse-requires
+    with-value-requires
+    pick-requires
+    returns)

@@ -1,0 +1,28 @@
+use borrow.Author.Needs.{needs}
+use Rattle.notation.proofs.settle_dash.Statement.{statement}
+use Rattle.notation.proofs.settle_dash.Tie as tie
+use Rattle.notation.proofs.settle_dash.Reads as reads
+use Rattle.notation.proofs.settle_dash.Lts as lts
+use Rattle.forms.proofs.kind.Reads as kind-reads
+use Rattle.notation.proofs.pick.Reads as pick-reads
+use Rattle.notation.proofs.refuse.Reads as refuse-reads
+use Rattle.notation.proofs.store.Reads as store-reads
+
+kind-requires : tie.Need-kind-requires
+kind-requires c κs = search needs
+
+refuse-requires : tie.Need-refuse-requires
+refuse-requires c κs = search needs
+
+store-requires : tie.Need-store-requires
+store-requires c κs = search needs
+
+pick-requires : tie.Need-pick-requires
+pick-requires c κs = search needs
+
+returns : tie.Need-returns
+returns c = ?
+
+pub settle-dash-spec : {M : Type 1} → statement M
+settle-dash-spec =
+    tie.close (tie.spec kind-requires refuse-requires store-requires pick-requires returns)

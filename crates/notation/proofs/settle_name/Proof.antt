@@ -1,0 +1,28 @@
+use borrow.Author.Needs.{needs}
+use Rattle.notation.proofs.settle_name.Statement.{statement}
+use Rattle.notation.proofs.settle_name.Tie as tie
+use Rattle.notation.proofs.settle_name.Reads as reads
+use Rattle.notation.proofs.settle_name.Lts as lts
+use Rattle.notation.proofs.pick.Reads as pick-reads
+use Rattle.notation.proofs.refuse.Reads as refuse-reads
+use Rattle.notation.proofs.tag_named.Reads as tag-named-reads
+use Rattle.notation.proofs.with_tag.Reads as with-tag-reads
+
+tag-named-requires : tie.Need-tag-named-requires
+tag-named-requires c κs = search needs
+
+refuse-requires : tie.Need-refuse-requires
+refuse-requires c κs = search needs
+
+with-tag-requires : tie.Need-with-tag-requires
+with-tag-requires c κs = search needs
+
+pick-requires : tie.Need-pick-requires
+pick-requires c κs = search needs
+
+returns : tie.Need-returns
+returns c = ?
+
+pub settle-name-spec : {M : Type 1} → statement M
+settle-name-spec =
+    tie.close (tie.spec tag-named-requires refuse-requires with-tag-requires pick-requires returns)

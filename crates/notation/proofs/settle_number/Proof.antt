@@ -1,0 +1,65 @@
+use borrow.Author.Needs.{needs}
+use Rattle.notation.proofs.settle_number.Statement.{statement}
+use Rattle.notation.proofs.settle_number.Tie as tie
+use Rattle.notation.proofs.settle_number.Reads as reads
+use Rattle.notation.proofs.settle_number.Lts as lts
+use Rattle.forms.proofs.kind.Reads as kind-reads
+use Rattle.lists.proofs.both.Reads as both-reads
+use Rattle.lists.proofs.one_if.Reads as one-if-reads
+use Rattle.notation.proofs.limit.Reads as limit-reads
+use Rattle.notation.proofs.number.Reads as number-reads
+use Rattle.notation.proofs.refuse.Reads as refuse-reads
+use Rattle.notation.proofs.store.Reads as store-reads
+
+both-requires : tie.Need-both-requires
+both-requires c κs = search needs
+
+refuse-requires : tie.Need-refuse-requires
+refuse-requires c κs = search needs
+
+returns : tie.Need-returns
+returns c = ?
+
+kind-requires : tie.Need-kind-requires
+kind-requires c κs = search needs
+
+limit-requires : tie.Need-limit-requires
+limit-requires c κs = search needs
+
+one-if-requires : tie.Need-one-if-requires
+one-if-requires c κs = search needs
+
+add-most : tie.Need-add-most
+add-most c = ?
+
+number-requires : tie.Need-number-requires
+number-requires c κs = ?
+
+store-requires : tie.Need-store-requires
+store-requires c κs = search needs
+
+returns-2 : tie.Need-returns-2
+returns-2 c = ?
+
+refuse-requires-2 : tie.Need-refuse-requires-2
+refuse-requires-2 c κs = search needs
+
+returns-3 : tie.Need-returns-3
+returns-3 c = ?
+
+pub settle-number-spec : {M : Type 1} → statement M
+settle-number-spec =
+    tie.close
+    (tie.spec
+    both-requires
+    refuse-requires
+    returns
+    kind-requires
+    limit-requires
+    one-if-requires
+    add-most
+    number-requires
+    store-requires
+    returns-2
+    refuse-requires-2
+    returns-3)

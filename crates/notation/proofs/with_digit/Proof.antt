@@ -1,0 +1,20 @@
+use borrow.Author.Needs.{needs}
+use Rattle.notation.proofs.with_digit.Statement.{statement}
+use Rattle.notation.proofs.with_digit.Tie as tie
+use Rattle.notation.proofs.with_digit.Reads as reads
+use Rattle.notation.proofs.with_digit.Lts as lts
+
+mul-result : tie.Need-mul-result
+mul-result c = search needs
+
+add-result : tie.Need-add-result
+add-result c = search needs
+
+returns : tie.Need-returns
+returns c = ?
+
+returns-2 : tie.Need-returns-2
+returns-2 c = ?
+
+pub with-digit-spec : {M : Type 1} → statement M
+with-digit-spec = tie.close (tie.spec mul-result add-result returns returns-2)

@@ -1,0 +1,20 @@
+use borrow.Author.Needs.{needs}
+use Rattle.notation.proofs.with_number.Statement.{statement}
+use Rattle.notation.proofs.with_number.Tie as tie
+use Rattle.notation.proofs.with_number.Reads as reads
+use Rattle.notation.proofs.with_number.Lts as lts
+
+returns : tie.Need-returns
+returns c = ?
+
+mul-out : tie.Need-mul-out
+mul-out c = search needs
+
+array-write-out : tie.Need-array-write-out
+array-write-out c = search needs
+
+returns-2 : tie.Need-returns-2
+returns-2 c = search needs
+
+pub with-number-spec : {M : Type 1} → statement M
+with-number-spec = tie.close (tie.spec returns mul-out array-write-out returns-2)
