@@ -2,14 +2,13 @@
 use mathlib.Core.Path.{_≡_, refl, sym, ap, _∙_}
 use mathlib.Core.Bool.{Bool, true, false}
 use mathlib.Core.List.{List, [], _∷_}
-use Prim.Native.Nat.{ℕ, suc, _+_, _-_, _*_, _%_, _^_, _≤_, _<_, min}
+use Prim.Native.Nat.{ℕ, zero, suc, _+_, _-_, _*_, _%_, _^_, _≤_, _<_, min}
 use native.Mathlib.Omega.{arith}
 use lib.Dec.{eqb}
-use lib.ListN.{length, getD, getD}
+use lib.ListN.{getD}
 use borrow.Author.Tests.{lt-ltb, le-ltb, le-leb, lt-leb, eq-eqb, ne-eqb}
-use Rattle.lists.specs.Lists.{if_then_else_, tab, sum}
+use Rattle.lists.specs.Lists.{if_then_else_, tab}
 use Rattle.lists.proofs.Places.{getD-tab}
-use Rattle.lists.proofs.Sums.{entry-le}
 use Rattle.sets.specs.Set.{withMember}
 use Rattle.spelling.specs.Words.{keys, keyOf}
 use Rattle.notation.specs.Reading.{letterOf, grown, codeOf, codeFrom, keyCode, tagNamed, limitOf, numberOf, nextPoint}
@@ -40,7 +39,23 @@ abbrev pub limits : List ℕ
 limits = 0 ∷ 256 ∷ 65536 ∷ 32 ∷ 4294967296 ∷ 2147483648 ∷ []
 
 pub limit-high : (kind : ℕ) → 6 ≤ kind → limitOf kind ≡ 0
-limit-high kind h = ?
+unfolding limitOf
+limit-high zero h = absurd (omega arith)
+limit-high (suc zero) h = absurd (omega arith)
+limit-high (suc (suc zero)) h = absurd (omega arith)
+limit-high (suc (suc (suc zero))) h = absurd (omega arith)
+limit-high (suc (suc (suc (suc zero)))) h = absurd (omega arith)
+limit-high (suc (suc (suc (suc (suc zero))))) h = absurd (omega arith)
+limit-high (suc (suc (suc (suc (suc (suc k)))))) h = refl
+
+pub limit-small : (kind : ℕ) → getD limits kind 0 ≤ 4294967296
+limit-small zero = omega arith
+limit-small (suc zero) = omega arith
+limit-small (suc (suc zero)) = omega arith
+limit-small (suc (suc (suc zero))) = omega arith
+limit-small (suc (suc (suc (suc zero)))) = omega arith
+limit-small (suc (suc (suc (suc (suc zero))))) = omega arith
+limit-small (suc (suc (suc (suc (suc (suc k)))))) = omega arith
 
 pub limit-in : (kind : ℕ) → limitOf kind ≡ getD limits kind 0
 unfolding limitOf

@@ -1,3 +1,8 @@
+-- `notation::end_at` meets its contract. Assumes nothing.
+use mathlib.Core.Path.{_≡_, refl, sym, ap, _∙_}
+use native.Mathlib.Omega.{arith}
+use borrow.Author.Tests.{eq-eqb, ne-eqb, le-leb, lt-leb, lt-ltb, le-ltb}
+use Rattle.notation.specs.Reading.{ended}
 use borrow.Author.Needs.{needs}
 use Rattle.notation.proofs.end_at.Statement.{statement}
 use Rattle.notation.proofs.end_at.Tie as tie
@@ -11,7 +16,8 @@ use Rattle.notation.proofs.refuse.Reads as refuse-reads
 use Rattle.notation.proofs.to_phase.Reads as to-phase-reads
 
 returns : tie.Need-returns
-returns c = ?
+unfolding ended
+returns c = rw (eq-eqb _ _ (c .if1 .taken))
 
 is-complete-requires : tie.Need-is-complete-requires
 is-complete-requires c κs = search needs
@@ -32,7 +38,8 @@ pick-requires : tie.Need-pick-requires
 pick-requires c κs = search needs
 
 returns-2 : tie.Need-returns-2
-returns-2 c = ?
+unfolding ended
+returns-2 c = simp (ne-eqb _ _ (c .before .before .before .before .before .before .before .before .if1 .left), c .pick .ensures, c .before .to-phase .ensures, c .before .before .refuse .ensures, c .before .before .before .either .ensures, c .before .before .before .before .before .both .ensures, c .before .before .before .before .before .before .before .is-complete .ensures)
 
 pub end-at-spec : {M : Type 1} → statement M
 end-at-spec =

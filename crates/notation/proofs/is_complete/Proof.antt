@@ -1,3 +1,7 @@
+-- `notation::is_complete` meets its contract. Assumes nothing.
+use mathlib.Core.Path.{_≡_, refl, sym, ap, _∙_}
+use native.Mathlib.Omega.{arith}
+use Rattle.notation.specs.Reading.{complete}
 use borrow.Author.Needs.{needs}
 use Rattle.notation.proofs.is_complete.Statement.{statement}
 use Rattle.notation.proofs.is_complete.Tie as tie
@@ -17,7 +21,8 @@ either-requires : tie.Need-either-requires
 either-requires c κs = search needs
 
 returns : tie.Need-returns
-returns c = ?
+unfolding complete
+returns c = simp (c .either .ensures, c .before .both .ensures, c .before .before .before .before .kind .ensures)
 
 pub is-complete-spec : {M : Type 1} → statement M
 is-complete-spec = tie.close (tie.spec kind-requires both-requires either-requires returns)

@@ -1,3 +1,7 @@
+-- `notation::key` meets its contract. Assumes nothing.
+use mathlib.Core.Path.{_≡_, refl, sym, ap, _∙_}
+use native.Mathlib.Omega.{arith}
+use Rattle.notation.proofs.Codes.{key-high, key-past, key-in}
 use borrow.Author.Needs.{needs}
 use Rattle.notation.proofs.key.Statement.{statement}
 use Rattle.notation.proofs.key.Tie as tie
@@ -6,10 +10,10 @@ use Rattle.notation.proofs.key.Lts as lts
 use Rattle.notation.proofs.place.Reads as place-reads
 
 returns : tie.Need-returns
-returns c = ?
+returns c = sym (key-high _ _ (search needs))
 
 returns-2 : tie.Need-returns-2
-returns-2 c = ?
+returns-2 c = sym (key-past _ _ (search needs) (search needs))
 
 place-requires : tie.Need-place-requires
 place-requires c κs = search needs
@@ -27,7 +31,7 @@ array-read-result : tie.Need-array-read-result
 array-read-result c = search needs
 
 returns-3 : tie.Need-returns-3
-returns-3 c = ?
+returns-3 c = rw (c .place .ensures .0) (sym (key-in (c .before .before .before .args .tag) (c .before .before .before .args .i) (search needs) (search needs)))
 
 pub key-spec : {M : Type 1} → statement M
 key-spec =

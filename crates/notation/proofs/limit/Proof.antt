@@ -1,3 +1,7 @@
+-- `notation::limit` meets its contract. Assumes nothing.
+use mathlib.Core.Path.{_≡_, refl, sym, ap, _∙_}
+use native.Mathlib.Omega.{arith}
+use Rattle.notation.proofs.Codes.{limit-high, limit-small, limit-in}
 use borrow.Author.Needs.{needs}
 use Rattle.notation.proofs.limit.Statement.{statement}
 use Rattle.notation.proofs.limit.Tie as tie
@@ -6,7 +10,7 @@ use Rattle.notation.proofs.limit.Lts as lts
 use Rattle.notation.proofs.place.Reads as place-reads
 
 returns : tie.Need-returns
-returns c = ?
+returns c = (sym (limit-high _ (search needs)), search needs)
 
 place-requires : tie.Need-place-requires
 place-requires c κs = search needs
@@ -18,7 +22,7 @@ array-read-result : tie.Need-array-read-result
 array-read-result c = search needs
 
 returns-2 : tie.Need-returns-2
-returns-2 c = ?
+returns-2 c = (rw (c .place .ensures .0) (sym (limit-in _)), limit-small _)
 
 pub limit-spec : {M : Type 1} → statement M
 limit-spec = tie.close (tie.spec returns place-requires mul-result array-read-result returns-2)

@@ -1,3 +1,7 @@
+-- `notation::more_digits` meets its contract. Assumes nothing.
+use mathlib.Core.Path.{_≡_, refl, sym, ap, _∙_}
+use native.Mathlib.Omega.{arith}
+use Rattle.notation.specs.Reading.{moreDigits}
 use borrow.Author.Needs.{needs}
 use Rattle.notation.proofs.more_digits.Statement.{statement}
 use Rattle.notation.proofs.more_digits.Tie as tie
@@ -25,7 +29,8 @@ pick-requires : tie.Need-pick-requires
 pick-requires c κs = search needs
 
 returns : tie.Need-returns
-returns c = ?
+unfolding moreDigits
+returns c = simp (c .pick .ensures, c .before .before .with-value .ensures, c .before .before .before .refuse .ensures, c .before .before .before .before .next-point .ensures, c .before .before .before .before .before .with-digit .ensures)
 
 pub more-digits-spec : {M : Type 1} → statement M
 more-digits-spec =

@@ -1,3 +1,7 @@
+-- `notation::on_byte` meets its contract. Assumes nothing.
+use mathlib.Core.Path.{_≡_, refl, sym, ap, _∙_}
+use native.Mathlib.Omega.{arith}
+use Rattle.notation.specs.Reading.{byteRead}
 use borrow.Author.Needs.{needs}
 use Rattle.notation.proofs.on_byte.Statement.{statement}
 use Rattle.notation.proofs.on_byte.Tie as tie
@@ -15,7 +19,8 @@ settled-requires : tie.Need-settled-requires
 settled-requires c κs = search needs
 
 returns : tie.Need-returns
-returns c = ?
+unfolding byteRead
+returns c = simp (← c .before .before .either .ensures, c .before .if1 .taken, c .settled .ensures)
 
 either-requires-2 : tie.Need-either-requires-2
 either-requires-2 c κs = search needs
@@ -30,13 +35,15 @@ end-at-requires : tie.Need-end-at-requires
 end-at-requires c κs = search needs
 
 returns-2 : tie.Need-returns-2
-returns-2 c = ?
+unfolding byteRead
+returns-2 c = simp (← c .before .before .before .before .before .before .either .ensures, c .before .before .before .before .before .if1 .left, ← c .before .before .before .before .either2 .ensures, ← c .before .before .before .either3 .ensures, c .before .before .if2 .taken, c .end-at .ensures, c .before .settled2 .ensures)
 
 on-mark-requires : tie.Need-on-mark-requires
 on-mark-requires c κs = search needs
 
 returns-3 : tie.Need-returns-3
-returns-3 c = ?
+unfolding byteRead
+returns-3 c = simp (← c .before .before .before .before .before .either .ensures, c .before .before .before .before .if1 .left, ← c .before .before .before .either2 .ensures, ← c .before .before .either3 .ensures, c .before .if2 .left, c .on-mark .ensures)
 
 pub on-byte-spec : {M : Type 1} → statement M
 on-byte-spec =

@@ -1,3 +1,7 @@
+-- `notation::on_comma` meets its contract. Assumes nothing.
+use mathlib.Core.Path.{_≡_, refl, sym, ap, _∙_}
+use native.Mathlib.Omega.{arith}
+use Rattle.notation.specs.Reading.{onComma}
 use borrow.Author.Needs.{needs}
 use Rattle.notation.proofs.on_comma.Statement.{statement}
 use Rattle.notation.proofs.on_comma.Tie as tie
@@ -19,7 +23,8 @@ on-member-requires : tie.Need-on-member-requires
 on-member-requires c κs = search needs
 
 returns : tie.Need-returns
-returns c = ?
+unfolding onComma
+returns c = simp (← c .before .before .before .before .kind .ensures, ← c .before .before .both .ensures, c .before .if1 .taken, c .on-member .ensures)
 
 settled-requires : tie.Need-settled-requires
 settled-requires c κs = search needs
@@ -28,7 +33,8 @@ on-list-requires : tie.Need-on-list-requires
 on-list-requires c κs = search needs
 
 returns-2 : tie.Need-returns-2
-returns-2 c = ?
+unfolding onComma
+returns-2 c = simp (← c .before .before .before .before .before .kind .ensures, ← c .before .before .before .both .ensures, c .before .before .if1 .left, c .on-list .ensures, c .before .settled .ensures)
 
 pub on-comma-spec : {M : Type 1} → statement M
 on-comma-spec =

@@ -1,3 +1,8 @@
+-- `notation::on_digit` meets its contract. Assumes nothing.
+use mathlib.Core.Path.{_≡_, refl, sym, ap, _∙_}
+use native.Mathlib.Omega.{arith}
+use borrow.Author.Tests.{eq-eqb, ne-eqb, le-leb, lt-leb, lt-ltb, le-ltb}
+use Rattle.notation.specs.Reading.{onDigit}
 use borrow.Author.Needs.{needs}
 use Rattle.notation.proofs.on_digit.Statement.{statement}
 use Rattle.notation.proofs.on_digit.Tie as tie
@@ -14,13 +19,15 @@ word-requires : tie.Need-word-requires
 word-requires c κs = search needs
 
 returns : tie.Need-returns
-returns c = ?
+unfolding onDigit
+returns c = rw (eq-eqb _ _ (c .before .if1 .taken)) (c .word .ensures)
 
 more-digits-requires : tie.Need-more-digits-requires
 more-digits-requires c κs = search needs
 
 returns-2 : tie.Need-returns-2
-returns-2 c = ?
+unfolding onDigit
+returns-2 c = rw (ne-eqb _ _ (c .before .before .if1 .left), eq-eqb _ _ (c .before .if2 .taken)) (c .more-digits .ensures)
 
 kind-requires : tie.Need-kind-requires
 kind-requires c κs = search needs
@@ -38,7 +45,8 @@ pick-requires : tie.Need-pick-requires
 pick-requires c κs = search needs
 
 returns-3 : tie.Need-returns-3
-returns-3 c = ?
+unfolding onDigit
+returns-3 c = simp (ne-eqb _ _ (c .before .before .before .before .before .before .if1 .left), ne-eqb _ _ (c .before .before .before .before .before .if2 .left), c .pick .ensures, c .before .word2 .ensures, c .before .before .refuse .ensures, c .before .before .before .both .ensures, c .before .before .before .before .kind .ensures)
 
 pub on-digit-spec : {M : Type 1} → statement M
 on-digit-spec =

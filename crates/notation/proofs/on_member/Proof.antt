@@ -1,3 +1,7 @@
+-- `notation::on_member` meets its contract. Assumes nothing.
+use mathlib.Core.Path.{_≡_, refl, sym, ap, _∙_}
+use native.Mathlib.Omega.{arith}
+use Rattle.notation.specs.Reading.{onMember}
 use borrow.Author.Needs.{needs}
 use Rattle.notation.proofs.on_member.Statement.{statement}
 use Rattle.notation.proofs.on_member.Tie as tie
@@ -25,7 +29,8 @@ pick-requires : tie.Need-pick-requires
 pick-requires c κs = search needs
 
 returns : tie.Need-returns
-returns c = ?
+unfolding onMember
+returns c = simp (c .pick .ensures, c .before .before .with-set .ensures, c .before .before .before .refuse .ensures, c .before .before .before .before .with .ensures, c .before .before .before .before .before .low-one .ensures)
 
 pub on-member-spec : {M : Type 1} → statement M
 on-member-spec =

@@ -1,3 +1,7 @@
+-- `notation::on_minus` meets its contract. Assumes nothing.
+use mathlib.Core.Path.{_≡_, refl, sym, ap, _∙_}
+use native.Mathlib.Omega.{arith}
+use Rattle.notation.specs.Reading.{onMinus}
 use borrow.Author.Needs.{needs}
 use Rattle.notation.proofs.on_minus.Statement.{statement}
 use Rattle.notation.proofs.on_minus.Tie as tie
@@ -32,7 +36,8 @@ pick-requires : tie.Need-pick-requires
 pick-requires c κs = search needs
 
 returns : tie.Need-returns
-returns c = ?
+unfolding onMinus
+returns c = simp (c .pick .ensures, c .before .with-minus .ensures, c .before .before .refuse .ensures, c .before .before .before .both2 .ensures, c .before .before .before .before .before .either .ensures, c .before .before .before .before .before .before .both .ensures, c .before .before .before .before .before .before .before .before .kind .ensures)
 
 pub on-minus-spec : {M : Type 1} → statement M
 on-minus-spec =

@@ -1,3 +1,7 @@
+-- `notation::on_point` meets its contract. Assumes nothing.
+use mathlib.Core.Path.{_≡_, refl, sym, ap, _∙_}
+use native.Mathlib.Omega.{arith}
+use Rattle.notation.specs.Reading.{onPoint}
 use borrow.Author.Needs.{needs}
 use Rattle.notation.proofs.on_point.Statement.{statement}
 use Rattle.notation.proofs.on_point.Tie as tie
@@ -28,7 +32,8 @@ pick-requires : tie.Need-pick-requires
 pick-requires c κs = search needs
 
 returns : tie.Need-returns
-returns c = ?
+unfolding onPoint
+returns c = simp (c .pick .ensures, c .before .with-value .ensures, c .before .before .refuse .ensures, c .before .before .before .both2 .ensures, c .before .before .before .before .before .both .ensures, c .before .before .before .before .before .before .before .kind .ensures)
 
 pub on-point-spec : {M : Type 1} → statement M
 on-point-spec =

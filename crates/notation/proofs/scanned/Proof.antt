@@ -1,3 +1,12 @@
+-- `notation::scanned` meets its contract. The invariant: what is read and what is left are the line. Assumes nothing.
+use mathlib.Core.Path.{_≡_, refl, sym, ap, _∙_}
+use native.Mathlib.Omega.{arith}
+use borrow.Author.Needs.{needs}
+use Prim.Native.Nat.{_≤_, _-_}
+use lib.ListN.{length, drop}
+use Rattle.notation.specs.Scans.{begin}
+use Rattle.notation.specs.Reading.{step, scan}
+use Rattle.notation.proofs.Scanning.{scan-next, scan-end}
 use Rattle.notation.proofs.scanned.Statement.{statement}
 use Rattle.notation.proofs.scanned.Tie as tie
 use Rattle.notation.proofs.scanned.Reads as reads
@@ -6,34 +15,38 @@ use Rattle.notation.proofs.begun.Reads as begun-reads
 use Rattle.notation.proofs.stepped.Reads as stepped-reads
 
 abbrev Inv-loop : tie.InvT-loop
-Inv-loop line s₀ i₀ s i = ?
+Inv-loop line s₀ i₀ s i = (scan s i (drop i line) ≡ scan begin 0 line) × (i ≤ length line)
 
 abbrev μ-loop : tie.MeasureT-loop
-μ-loop line s₀ i₀ s i = ?
+μ-loop line s₀ i₀ s i = length line - i
 
 begun-requires : tie.Need-begun-requires Inv-loop μ-loop
-begun-requires c κs = ?
+begun-requires c κs = search needs
 
 loop-holds : tie.Need-loop-holds Inv-loop μ-loop
-loop-holds c = ?
+loop-holds c = (ap (λ s. scan s 0 _) (c .begun .ensures), search needs)
 
 shared-slice-read-stepped : tie.Need-shared-slice-read-stepped Inv-loop μ-loop
-shared-slice-read-stepped c = ?
+shared-slice-read-stepped c = search needs
 
 stepped-requires : tie.Need-stepped-requires Inv-loop μ-loop
-stepped-requires c κs = ?
+stepped-requires c κs = search needs
 
 add-i : tie.Need-add-i Inv-loop μ-loop
-add-i c = ?
+add-i c = search needs
 
 loop-less : tie.Need-loop-less Inv-loop μ-loop
-loop-less c = ?
+loop-less c = search needs
 
 loop-again : tie.Need-loop-again Inv-loop μ-loop
-loop-again c = ?
+loop-again c = 
+    let l = c .before .before .before .loop in
+    (rw (c .stepped .ensures) (scan-next (l .s) (l .i) _ (search needs) ∙ l .inv .0), search needs)
 
 returns : tie.Need-returns Inv-loop μ-loop
-returns c = ?
+returns c = 
+    let l = c .before .loop in
+    sym (scan-end (l .s) (l .i) _ (l .inv .1) (search needs)) ∙ l .inv .0
 
 pub scanned-spec : {M : Type 1} → statement M
 scanned-spec =

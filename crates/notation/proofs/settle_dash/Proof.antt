@@ -1,3 +1,7 @@
+-- `notation::settle_dash` meets its contract. Assumes nothing.
+use mathlib.Core.Path.{_≡_, refl, sym, ap, _∙_}
+use native.Mathlib.Omega.{arith}
+use Rattle.notation.specs.Reading.{settleDash}
 use borrow.Author.Needs.{needs}
 use Rattle.notation.proofs.settle_dash.Statement.{statement}
 use Rattle.notation.proofs.settle_dash.Tie as tie
@@ -21,7 +25,8 @@ pick-requires : tie.Need-pick-requires
 pick-requires c κs = search needs
 
 returns : tie.Need-returns
-returns c = ?
+unfolding settleDash
+returns c = simp (c .pick .ensures, c .before .store .ensures, c .before .before .refuse .ensures, c .before .before .before .kind .ensures)
 
 pub settle-dash-spec : {M : Type 1} → statement M
 settle-dash-spec =

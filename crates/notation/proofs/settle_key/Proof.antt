@@ -1,3 +1,7 @@
+-- `notation::settle_key` meets its contract. Assumes nothing.
+use mathlib.Core.Path.{_≡_, refl, sym, ap, _∙_}
+use native.Mathlib.Omega.{arith}
+use Rattle.notation.specs.Reading.{settleKey}
 use borrow.Author.Needs.{needs}
 use Rattle.notation.proofs.settle_key.Statement.{statement}
 use Rattle.notation.proofs.settle_key.Tie as tie
@@ -21,7 +25,8 @@ pick-requires : tie.Need-pick-requires
 pick-requires c κs = search needs
 
 returns : tie.Need-returns
-returns c = ?
+unfolding settleKey
+returns c = simp (c .pick .ensures, c .before .before .to-phase .ensures, c .before .before .before .refuse .ensures, c .before .before .before .before .key .ensures)
 
 pub settle-key-spec : {M : Type 1} → statement M
 settle-key-spec =

@@ -1,3 +1,7 @@
+-- `notation::settle_name` meets its contract. Assumes nothing.
+use mathlib.Core.Path.{_≡_, refl, sym, ap, _∙_}
+use native.Mathlib.Omega.{arith}
+use Rattle.notation.specs.Reading.{settleName}
 use borrow.Author.Needs.{needs}
 use Rattle.notation.proofs.settle_name.Statement.{statement}
 use Rattle.notation.proofs.settle_name.Tie as tie
@@ -21,7 +25,8 @@ pick-requires : tie.Need-pick-requires
 pick-requires c κs = search needs
 
 returns : tie.Need-returns
-returns c = ?
+unfolding settleName
+returns c = simp (c .pick .ensures, c .before .with-tag .ensures, c .before .before .refuse .ensures, c .before .before .before .tag-named .ensures)
 
 pub settle-name-spec : {M : Type 1} → statement M
 settle-name-spec =

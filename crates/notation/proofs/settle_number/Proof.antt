@@ -1,3 +1,10 @@
+-- `notation::settle_number` meets its contract. Assumes nothing.
+use mathlib.Core.Path.{_≡_, refl, sym, ap, _∙_}
+use native.Mathlib.Omega.{arith}
+use borrow.Author.Tests.{eq-eqb, ne-eqb, le-leb, lt-leb, lt-ltb, le-ltb}
+use Rattle.notation.specs.Reading.{settleNumber, limitOf}
+use Rattle.lists.specs.Lists.{oneIf}
+use Rattle.lists.proofs.Sums.{one-if-le}
 use borrow.Author.Needs.{needs}
 use Rattle.notation.proofs.settle_number.Statement.{statement}
 use Rattle.notation.proofs.settle_number.Tie as tie
@@ -18,7 +25,8 @@ refuse-requires : tie.Need-refuse-requires
 refuse-requires c κs = search needs
 
 returns : tie.Need-returns
-returns c = ?
+unfolding settleNumber
+returns c = simp (← c .before .before .both .ensures, c .before .if1 .taken, c .refuse .ensures)
 
 kind-requires : tie.Need-kind-requires
 kind-requires c κs = search needs
@@ -39,13 +47,15 @@ store-requires : tie.Need-store-requires
 store-requires c κs = search needs
 
 returns-2 : tie.Need-returns-2
-returns-2 c = ?
+unfolding settleNumber
+returns-2 c = simp (← c .before .before .before .before .before .before .before .before .both .ensures, c .before .before .before .before .before .before .before .if1 .left, ← c .before .before .before .before .before .before .kind .ensures, ← c .before .before .before .before .before .limit .ensures .0, ← c .before .before .before .before .one-if .ensures, lt-ltb _ _ (c .before .before .if2 .taken), c .store .ensures, c .before .number .ensures)
 
 refuse-requires-2 : tie.Need-refuse-requires-2
 refuse-requires-2 c κs = search needs
 
 returns-3 : tie.Need-returns-3
-returns-3 c = ?
+unfolding settleNumber
+returns-3 c = simp (← c .before .before .before .before .before .before .before .both .ensures, c .before .before .before .before .before .before .if1 .left, ← c .before .before .before .before .before .kind .ensures, ← c .before .before .before .before .limit .ensures .0, ← c .before .before .before .one-if .ensures, le-ltb _ _ (c .before .if2 .left), c .refuse2 .ensures)
 
 pub settle-number-spec : {M : Type 1} → statement M
 settle-number-spec =

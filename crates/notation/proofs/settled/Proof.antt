@@ -1,3 +1,8 @@
+-- `notation::settled` meets its contract. Assumes nothing.
+use mathlib.Core.Path.{_≡_, refl, sym, ap, _∙_}
+use native.Mathlib.Omega.{arith}
+use borrow.Author.Tests.{eq-eqb, ne-eqb, le-leb, lt-leb, lt-ltb, le-ltb}
+use Rattle.notation.specs.Reading.{settle}
 use borrow.Author.Needs.{needs}
 use Rattle.notation.proofs.settled.Statement.{statement}
 use Rattle.notation.proofs.settled.Tie as tie
@@ -12,28 +17,33 @@ settle-name-requires : tie.Need-settle-name-requires
 settle-name-requires c κs = search needs
 
 returns : tie.Need-returns
-returns c = ?
+unfolding settle
+returns c = rw (eq-eqb _ _ (c .before .if1 .taken)) (c .settle-name .ensures)
 
 settle-key-requires : tie.Need-settle-key-requires
 settle-key-requires c κs = search needs
 
 returns-2 : tie.Need-returns-2
-returns-2 c = ?
+unfolding settle
+returns-2 c = rw (ne-eqb _ _ (c .before .before .if1 .left), eq-eqb _ _ (c .before .if2 .taken)) (c .settle-key .ensures)
 
 settle-number-requires : tie.Need-settle-number-requires
 settle-number-requires c κs = search needs
 
 returns-3 : tie.Need-returns-3
-returns-3 c = ?
+unfolding settle
+returns-3 c = rw (ne-eqb _ _ (c .before .before .before .if1 .left), ne-eqb _ _ (c .before .before .if2 .left), eq-eqb _ _ (c .before .if3 .taken)) (c .settle-number .ensures)
 
 settle-dash-requires : tie.Need-settle-dash-requires
 settle-dash-requires c κs = search needs
 
 returns-4 : tie.Need-returns-4
-returns-4 c = ?
+unfolding settle
+returns-4 c = rw (ne-eqb _ _ (c .before .before .before .before .if1 .left), ne-eqb _ _ (c .before .before .before .if2 .left), ne-eqb _ _ (c .before .before .if3 .left), eq-eqb _ _ (c .before .if4 .taken)) (c .settle-dash .ensures)
 
 returns-5 : tie.Need-returns-5
-returns-5 c = ?
+unfolding settle
+returns-5 c = rw (ne-eqb _ _ (c .before .before .before .if1 .left), ne-eqb _ _ (c .before .before .if2 .left), ne-eqb _ _ (c .before .if3 .left), ne-eqb _ _ (c .if4 .left))
 
 pub settled-spec : {M : Type 1} → statement M
 settled-spec =

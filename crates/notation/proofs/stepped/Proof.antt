@@ -1,3 +1,8 @@
+-- `notation::stepped` meets its contract. Assumes nothing.
+use mathlib.Core.Path.{_≡_, refl, sym, ap, _∙_}
+use native.Mathlib.Omega.{arith}
+use borrow.Author.Tests.{eq-eqb, ne-eqb, le-leb, lt-leb, lt-ltb, le-ltb}
+use Rattle.notation.specs.Reading.{step}
 use borrow.Author.Needs.{needs}
 use Rattle.notation.proofs.stepped.Statement.{statement}
 use Rattle.notation.proofs.stepped.Tie as tie
@@ -6,13 +11,15 @@ use Rattle.notation.proofs.stepped.Lts as lts
 use Rattle.notation.proofs.on_byte.Reads as on-byte-reads
 
 returns : tie.Need-returns
-returns c = ?
+unfolding step
+returns c = rw (le-leb _ _ (c .if1 .taken))
 
 on-byte-requires : tie.Need-on-byte-requires
 on-byte-requires c κs = search needs
 
 returns-2 : tie.Need-returns-2
-returns-2 c = ?
+unfolding step
+returns-2 c = rw (lt-leb _ _ (c .before .if1 .left)) (c .on-byte .ensures)
 
 pub stepped-spec : {M : Type 1} → statement M
 stepped-spec = tie.close (tie.spec returns on-byte-requires returns-2)

@@ -1,3 +1,6 @@
+-- `notation::store` meets its contract. Assumes nothing.
+use mathlib.Core.Path.{_≡_, refl, sym, ap, _∙_}
+use native.Mathlib.Omega.{arith}
 use borrow.Author.Needs.{needs}
 use Rattle.notation.proofs.store.Statement.{statement}
 use Rattle.notation.proofs.store.Tie as tie
@@ -13,7 +16,7 @@ next-item-requires : tie.Need-next-item-requires
 next-item-requires c κs = search needs
 
 returns : tie.Need-returns
-returns c = ?
+returns c = simp (c .next-item .ensures, c .before .with-number .ensures)
 
 pub store-spec : {M : Type 1} → statement M
 store-spec = tie.close (tie.spec with-number-requires next-item-requires returns)

@@ -1,3 +1,7 @@
+-- `notation::tag_named` meets its contract. Assumes nothing.
+use mathlib.Core.Path.{_≡_, refl, sym, ap, _∙_}
+use native.Mathlib.Omega.{arith}
+use Rattle.notation.proofs.Codes.{named-by}
 use borrow.Author.Needs.{needs}
 use Rattle.notation.proofs.tag_named.Statement.{statement}
 use Rattle.notation.proofs.tag_named.Tie as tie
@@ -45,7 +49,7 @@ decline-if-requires-13 : tie.Need-decline-if-requires-13
 decline-if-requires-13 c κs = search needs
 
 returns : tie.Need-returns
-returns c = ?
+returns c = simp (c .decline-if13 .ensures, c .before .decline-if12 .ensures, c .before .before .decline-if11 .ensures, c .before .before .before .decline-if10 .ensures, c .before .before .before .before .decline-if9 .ensures, c .before .before .before .before .before .decline-if8 .ensures, c .before .before .before .before .before .before .decline-if7 .ensures, c .before .before .before .before .before .before .before .decline-if6 .ensures, c .before .before .before .before .before .before .before .before .decline-if5 .ensures, c .before .before .before .before .before .before .before .before .before .decline-if4 .ensures, c .before .before .before .before .before .before .before .before .before .before .decline-if3 .ensures, c .before .before .before .before .before .before .before .before .before .before .before .decline-if2 .ensures, c .before .before .before .before .before .before .before .before .before .before .before .before .decline-if .ensures) (sym (named-by _))
 
 pub tag-named-spec : {M : Type 1} → statement M
 tag-named-spec =

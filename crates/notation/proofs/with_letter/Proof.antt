@@ -1,3 +1,7 @@
+-- `notation::with_letter` meets its contract. Assumes nothing.
+use mathlib.Core.Path.{_≡_, refl, sym, ap, _∙_}
+use native.Mathlib.Omega.{arith}
+use Rattle.notation.proofs.Codes.{grown-short, grown-long}
 use borrow.Author.Needs.{needs}
 use Rattle.notation.proofs.with_letter.Statement.{statement}
 use Rattle.notation.proofs.with_letter.Tie as tie
@@ -11,10 +15,10 @@ add-result : tie.Need-add-result
 add-result c = search needs
 
 returns : tie.Need-returns
-returns c = ?
+returns c = sym (grown-short 32 _ _ (search needs))
 
 returns-2 : tie.Need-returns-2
-returns-2 c = ?
+returns-2 c = sym (grown-long 32 _ _ (search needs))
 
 pub with-letter-spec : {M : Type 1} → statement M
 with-letter-spec = tie.close (tie.spec mul-result add-result returns returns-2)

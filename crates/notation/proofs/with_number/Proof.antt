@@ -1,3 +1,7 @@
+-- `notation::with_number` meets its contract. Assumes nothing.
+use mathlib.Core.Path.{_≡_, refl, sym, ap, _∙_}
+use native.Mathlib.Omega.{arith}
+use lib.Seq.{set-out}
 use borrow.Author.Needs.{needs}
 use Rattle.notation.proofs.with_number.Statement.{statement}
 use Rattle.notation.proofs.with_number.Tie as tie
@@ -5,7 +9,7 @@ use Rattle.notation.proofs.with_number.Reads as reads
 use Rattle.notation.proofs.with_number.Lts as lts
 
 returns : tie.Need-returns
-returns c = ?
+returns c = sym (set-out _ _ _ (search needs))
 
 mul-out : tie.Need-mul-out
 mul-out c = search needs
