@@ -7,11 +7,12 @@ use native.Mathlib.Omega.{arith}
 use lib.Dec.{eqb}
 use lib.ListN.{getD}
 use borrow.Author.Tests.{lt-ltb, le-ltb, le-leb, lt-leb, eq-eqb, ne-eqb}
-use Rattle.lists.specs.Lists.{if_then_else_, tab}
+use Rattle.lists.specs.Lists.{if_then_else_, tab, oneIf}
 use Rattle.lists.proofs.Places.{getD-tab}
 use Rattle.sets.specs.Set.{withMember}
+use Rattle.wire.specs.declared.Call.the-variants.{Close, Allocate, Tear, Call as CallCall, Pay, Move, Miss, Finish, Unknown}
 use Rattle.spelling.specs.Words.{keys, keyOf}
-use Rattle.notation.specs.Reading.{letterOf, grown, codeOf, codeFrom, keyCode, tagNamed, limitOf, numberOf, nextPoint}
+use Rattle.notation.specs.Reading.{letterOf, grown, codeOf, codeFrom, keyCode, tagNamed, limitOf, numberOf, callOf}
 use Rattle.notation.specs.Computing.{computing}
 
 abbrev pub codes : List ℕ
@@ -37,6 +38,11 @@ key-in tag i l h =
 
 abbrev pub limits : List ℕ
 limits = 0 ∷ 256 ∷ 65536 ∷ 32 ∷ 4294967296 ∷ 2147483648 ∷ []
+
+pub one-le : (b : Bool) → oneIf b ≤ 1
+unfolding oneIf
+one-le true = omega arith
+one-le false = omega arith
 
 pub limit-high : (kind : ℕ) → 6 ≤ kind → limitOf kind ≡ 0
 unfolding limitOf
@@ -110,3 +116,47 @@ module _ (kind set value : ℕ) where
   pub number-plain : (minus : Bool) → (kind ≡ 3 → ⊥) → (kind ≡ 5 → ⊥) → numberOf kind minus set value ≡ value % 4294967296
   unfolding numberOf
   number-plain minus h e = rw (ne-eqb kind 3 h, ne-eqb kind 5 e)
+
+-- ---- the call, by its tag
+
+module _ (tag count : ℕ) (ns : List ℕ) where
+  pub call-6 : tag ≡ 6 → callOf tag count ns ≡ Close
+  unfolding callOf
+  call-6 e = ap (λ (t : ℕ). callOf t count ns) e
+
+  pub call-7 : tag ≡ 7 → callOf tag count ns ≡ Allocate (getD ns 0 0 % 2 ^ 8) (getD ns 1 0)
+  unfolding callOf
+  call-7 e = ap (λ (t : ℕ). callOf t count ns) e
+
+  pub call-8 : tag ≡ 8 → callOf tag count ns ≡ Tear (getD ns 0 0 % 2 ^ 8) (getD ns 1 0)
+  unfolding callOf
+  call-8 e = ap (λ (t : ℕ). callOf t count ns) e
+
+  pub call-9 : tag ≡ 9 → callOf tag count ns ≡ CallCall
+  unfolding callOf
+  call-9 e = ap (λ (t : ℕ). callOf t count ns) e
+
+  pub call-10 : tag ≡ 10 → callOf tag count ns ≡ Pay (getD ns 0 0 % 2 ^ 8) (getD ns 1 0)
+  unfolding callOf
+  call-10 e = ap (λ (t : ℕ). callOf t count ns) e
+
+  pub call-11 : tag ≡ 11 → callOf tag count ns ≡ Move (getD ns 0 0 % 2 ^ 8)
+  unfolding callOf
+  call-11 e = ap (λ (t : ℕ). callOf t count ns) e
+
+  pub call-12 : tag ≡ 12 → callOf tag count ns ≡ Miss (getD ns 0 0 % 2 ^ 8) (getD ns 1 0)
+  unfolding callOf
+  call-12 e = ap (λ (t : ℕ). callOf t count ns) e
+
+  pub call-13 : tag ≡ 13 → callOf tag count ns ≡ Finish
+  unfolding callOf
+  call-13 e = ap (λ (t : ℕ). callOf t count ns) e
+
+  pub call-none : tag ≡ 0 → callOf tag count ns ≡ Unknown
+  unfolding callOf
+  call-none e = ap (λ (t : ℕ). callOf t count ns) e
+
+  -- only ROUND has a count
+  pub call-later : 6 ≤ tag → callOf tag 0 ns ≡ callOf tag count ns
+  unfolding callOf
+  call-later h = rw (ne-eqb tag 4 (λ e. omega arith))

@@ -587,3 +587,187 @@ fn scanned(line: &[u8]) -> Scan
     }
     s
 }
+
+// A number of four bytes as a wider one.
+fn long(n: u32) -> u64
+    ensures { λ r. ⌜ r ≡ n ⌝ }
+{
+    n as u64
+}
+
+// A number in one byte.
+fn one(n: u32) -> u8
+    ensures { λ r. ⌜ r ≡ n % 2 ^ 8 ⌝ }
+{
+    low_one(long(n))
+}
+
+// A number in two bytes.
+fn two(n: u32) -> u16
+    ensures { λ r. ⌜ r ≡ n % 2 ^ 16 ⌝ }
+{
+    low_two(long(n))
+}
+
+// A count in one byte.
+fn few(n: usize) -> u8
+    ensures { λ r. ⌜ r ≡ n % 2 ^ 8 ⌝ }
+{
+    (n % 256) as u8
+}
+
+fn head_of(n: [u32; 8]) -> Call
+    ensures { λ r. ⌜ r ≡ callOf 1 0 n ⌝ }
+{
+    let pools = one(n[0]);
+    let least = two(n[1]);
+    Call::Head(wire::Head {
+        pools,
+        least,
+        set: n[2],
+        hedge: n[3],
+        other: n[4],
+        margin: n[5],
+        fund: n[6],
+        house: n[7],
+    })
+}
+
+fn pool_of(n: [u32; 8]) -> Call
+    ensures { λ r. ⌜ r ≡ callOf 2 0 n ⌝ }
+{
+    let pool = one(n[0]);
+    let units = two(n[1]);
+    let mark = one(n[2]);
+    Call::Pool { pool, units, mark }
+}
+
+fn member_of(n: [u32; 8]) -> Call
+    ensures { λ r. ⌜ r ≡ callOf 3 0 n ⌝ }
+{
+    let member = one(n[0]);
+    let a = two(n[2]);
+    let b = two(n[3]);
+    let c = two(n[4]);
+    let d = two(n[5]);
+    Call::Member {
+        member,
+        contribution: n[1],
+        a,
+        b,
+        c,
+        d,
+    }
+}
+
+fn round_of(count: usize, n: [u32; 8]) -> Call
+    ensures { λ r. ⌜ r ≡ callOf 4 count n ⌝ }
+{
+    Call::Round {
+        count: few(count),
+        a: n[0],
+        b: n[1],
+        c: n[2],
+        d: n[3],
+    }
+}
+
+fn bid_of(n: [u32; 8]) -> Call
+    ensures { λ r. ⌜ r ≡ callOf 5 0 n ⌝ }
+{
+    let pool = one(n[0]);
+    let member = one(n[1]);
+    let units = two(n[2]);
+    Call::Bid {
+        pool,
+        member,
+        units,
+        price: n[3],
+    }
+}
+
+// The calls from ALLOCATE on.
+fn later_call(tag: u8, n: [u32; 8]) -> Call
+    requires { ⌜ 6 ≤ tag ⌝ }
+    ensures { λ r. ⌜ r ≡ callOf tag 0 n ⌝ }
+{
+    let first = one(n[0]);
+    let second = n[1];
+    if tag == 6 {
+        return Call::Close;
+    }
+    if tag == 7 {
+        return Call::Allocate { pool: first, price: second };
+    }
+    if tag == 8 {
+        return Call::Tear { pool: first, price: second };
+    }
+    if tag == 9 {
+        return Call::Call;
+    }
+    if tag == 10 {
+        return Call::Pay { member: first, amount: second };
+    }
+    if tag == 11 {
+        return Call::Move { member: first };
+    }
+    if tag == 12 {
+        return Call::Miss { member: first, price: second };
+    }
+    if tag == 13 {
+        return Call::Finish;
+    }
+    Call::Unknown
+}
+
+// The call by its tag and the numbers that were read, each in its width.
+fn call_of(tag: u8, count: usize, n: [u32; 8]) -> Call
+    ensures { λ r. ⌜ r ≡ callOf tag count n ⌝ }
+{
+    if tag == 0 {
+        return Call::Unknown;
+    }
+    if tag == 1 {
+        return head_of(n);
+    }
+    if tag == 2 {
+        return pool_of(n);
+    }
+    if tag == 3 {
+        return member_of(n);
+    }
+    if tag == 4 {
+        return round_of(count, n);
+    }
+    if tag == 5 {
+        return bid_of(n);
+    }
+    later_call(tag, n)
+}
+
+// What a line is, once it is read.
+fn outcome_of(s: Scan) -> Read
+    ensures { λ r. ⌜ r ≡ outcome s ⌝ }
+{
+    if s.phase == 8 {
+        return Read::Refused {
+            at: s.start,
+            reason: s.reason,
+        };
+    }
+    if s.tag == 0 {
+        return Read::Nothing;
+    }
+    let numbers = s.numbers;
+    let call = call_of(s.tag, s.item, numbers);
+    Read::Called(call)
+}
+
+// A line of text, with or without its end, as a call.
+pub fn read_line(line: &[u8]) -> Read
+    ensures { λ r. ⌜ r ≡ readLine (now (line .entry)) ⌝ }
+{
+    let s = scanned(line);
+    let t = stepped(s, 10, line.len());
+    outcome_of(t)
+}

@@ -22,7 +22,7 @@ array-read-result : tie.Need-array-read-result
 array-read-result c = search needs
 
 returns-2 : tie.Need-returns-2
-returns-2 c = (rw (c .place .ensures .0) (sym (limit-in _)), limit-small _)
+returns-2 c = (rw (c .place .ensures .0) (sym (limit-in _)), limit-small (c .place .result))
 
 pub limit-spec : {M : Type 1} → statement M
 limit-spec = tie.close (tie.spec returns place-requires mul-result array-read-result returns-2)

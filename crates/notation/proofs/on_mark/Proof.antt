@@ -1,4 +1,5 @@
 -- `notation::on_mark` meets its contract. Assumes nothing.
+use lib.Dec.{leb}
 use mathlib.Core.Path.{_≡_, refl, sym, ap, _∙_}
 use native.Mathlib.Omega.{arith}
 use borrow.Author.Tests.{eq-eqb, ne-eqb, le-leb, lt-leb, lt-ltb, le-ltb}
@@ -47,7 +48,8 @@ both-requires c κs = search needs
 digit-of-requires : tie.Need-digit-of-requires
 digit-of-requires c κs = 
     let t = sym (c .before .both .ensures) ∙ c .if4 .taken in
-    (leb-true _ _ (and-left _ _ t), leb-true _ _ (and-right _ _ t))
+    let b = c .before .before .before .before .before .args .b in
+    (leb-true 48 b (and-left (leb 48 b) (leb b 57) t), leb-true b 57 (and-right (leb 48 b) (leb b 57) t))
 
 on-digit-requires : tie.Need-on-digit-requires
 on-digit-requires c κs = search needs

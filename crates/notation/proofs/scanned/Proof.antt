@@ -1,4 +1,5 @@
 -- `notation::scanned` meets its contract. The invariant: what is read and what is left are the line. Assumes nothing.
+use Rattle.notation.specs.declared.Scan.{Scan}
 use mathlib.Core.Path.{_≡_, refl, sym, ap, _∙_}
 use native.Mathlib.Omega.{arith}
 use borrow.Author.Needs.{needs}
@@ -24,7 +25,7 @@ begun-requires : tie.Need-begun-requires Inv-loop μ-loop
 begun-requires c κs = search needs
 
 loop-holds : tie.Need-loop-holds Inv-loop μ-loop
-loop-holds c = (ap (λ s. scan s 0 _) (c .begun .ensures), search needs)
+loop-holds c = (ap (λ (s : Scan). scan s 0 (c .before .before .args .line .now)) (c .begun .ensures), search needs)
 
 shared-slice-read-stepped : tie.Need-shared-slice-read-stepped Inv-loop μ-loop
 shared-slice-read-stepped c = search needs

@@ -1,10 +1,11 @@
 -- `notation::settle_number` meets its contract. Assumes nothing.
+use Prim.Native.Nat.{_≤_}
+use Rattle.notation.proofs.Codes.{one-le}
 use mathlib.Core.Path.{_≡_, refl, sym, ap, _∙_}
 use native.Mathlib.Omega.{arith}
 use borrow.Author.Tests.{eq-eqb, ne-eqb, le-leb, lt-leb, lt-ltb, le-ltb}
 use Rattle.notation.specs.Reading.{settleNumber, limitOf}
 use Rattle.lists.specs.Lists.{oneIf}
-use Rattle.lists.proofs.Sums.{one-if-le}
 use borrow.Author.Needs.{needs}
 use Rattle.notation.proofs.settle_number.Statement.{statement}
 use Rattle.notation.proofs.settle_number.Tie as tie
@@ -38,10 +39,10 @@ one-if-requires : tie.Need-one-if-requires
 one-if-requires c κs = search needs
 
 add-most : tie.Need-add-most
-add-most c = ?
+add-most c = let h : c .one-if .result ≤ 1 = rw (c .one-if .ensures) (one-le _) in omega (arith, h, c .before .limit .ensures .1)
 
 number-requires : tie.Need-number-requires
-number-requires c κs = ?
+number-requires c κs = let h : c .before .before .one-if .result ≤ 1 = rw (c .before .before .one-if .ensures) (one-le _) in omega (arith, h, c .before .before .before .limit .ensures .1, c .if2 .taken)
 
 store-requires : tie.Need-store-requires
 store-requires c κs = search needs
