@@ -1,2 +1,4 @@
 pub mod Codes
 pub mod Scanning
+pub mod Numbers
+pub mod Keys
