@@ -30,7 +30,7 @@ comma-step : (s : Scan) (tag item : ℕ) (ns : List ℕ) (h : Settles s tag item
 unfolding step byteRead markRead onComma settle
 comma-step s tag item ns h p i = rw (h .active, p, h .is)
 
-end-step : (s : Scan) (tag item : ℕ) (ns : List ℕ) (h : Settles s tag item ns) (i : ℕ) → step s 10 i ≡ ended (mid tag item (h .start) (h .value) ns) i
+pub end-step : (s : Scan) (tag item : ℕ) (ns : List ℕ) (h : Settles s tag item ns) (i : ℕ) → step s 10 i ≡ ended (mid tag item (h .start) (h .value) ns) i
 unfolding step byteRead
 end-step s tag item ns h i = rw (h .active, h .is)
 

@@ -2,3 +2,5 @@ pub mod Codes
 pub mod Scanning
 pub mod Numbers
 pub mod Keys
+pub mod Sets
+pub mod Lines

@@ -157,7 +157,7 @@ pub record Before (s : Scan) (tag item : ℕ) (ns : List ℕ) : Type 0 where
 
 module _ (tag item : ℕ) (ns : List ℕ) where
   -- the end of a number that fits
-  end-number : (start value point : ℕ) (minus : Bool) (members kind n : ℕ) → kindOf tag item ≡ kind → between 1 2 point ≡ false
+  pub end-number : (start value point : ℕ) (minus : Bool) (members kind n : ℕ) → kindOf tag item ≡ kind → between 1 2 point ≡ false
       → ltb value (limitOf kind + oneIf minus) ≡ true → numberOf kind minus members value ≡ n
       → settle (num tag item start value point minus members ns) ≡ mid tag (min (item + 1) 8) start value (set ns item n)
   unfolding settle settleNumber
