@@ -4,3 +4,4 @@ pub mod Numbers
 pub mod Keys
 pub mod Sets
 pub mod Lines
+pub mod RoundTrip

@@ -1,20 +1,16 @@
--- The text of a call, read back, is the call. Assumes nothing.
+-- The text of each call, read back: its tag and its numbers. Assumes nothing.
 use mathlib.Core.Path.{_≡_, refl, sym, ap, subst, _∙_}
 use mathlib.Core.List.{List, [], _∷_, _++_, append-assoc}
-use mathlib.Core.Option.{some}
-use Prim.Native.Nat.{ℕ, zero, suc, _+_, _%_, _^_, _≤_, _<_, min}
+use Prim.Native.Nat.{ℕ, _+_, _^_, _<_, min}
 use native.Mathlib.Omega.{arith}
 use lib.ListN.{length, set}
-use Rattle.machine.specs.Wire as Wire
-use Rattle.wire.specs.Asked.{asked}
 use Rattle.forms.specs.Forms.{kindOf}
-use Rattle.forms.specs.Encode.{InWidth, AllBelow}
 use Rattle.spelling.specs.Words.{keyOf, nameOf, separator}
-use Rattle.spelling.specs.Text.{numberText, itemText, lineText, lineOf}
+use Rattle.spelling.specs.Text.{numberText, itemText, lineText}
 use Rattle.notation.specs.declared.Scan.{Scan}
 use Rattle.notation.specs.declared.Read.the-variants.{Called}
 use Rattle.notation.specs.Scans.{begin}
-use Rattle.notation.specs.Reading.{ended, step, scan, codeOf, callOf, outcome, readLine, askedBy, limitOf}
+use Rattle.notation.specs.Reading.{ended, step, scan, codeOf, callOf, outcome, readLine, limitOf}
 use Rattle.notation.specs.Computing.{computing}
 use Rattle.notation.proofs.Numbers.{mid, Settles, Before, Read-as, scan-append, read-count, read-amount, read-price}
 use Rattle.notation.proofs.Sets.{read-set}
@@ -88,13 +84,7 @@ group-8 a b c d e f g h i z = simp append-assoc
 
 -- ---- each call
 
-mod-one : (n : ℕ) → n < 2 ^ 8 → n % 256 ≡ n
-mod-one n h = omega arith
-
-mod-two : (n : ℕ) → n < 2 ^ 16 → n % 65536 ≡ n
-mod-two n h = omega arith
-
-line-head : (a : ℕ) (b : ℕ) (c : ℕ) (d : ℕ) (e : ℕ) (f : ℕ) (g : ℕ) (h : ℕ) → a < 2 ^ 8 → b < 2 ^ 16 → c < 2 ^ 32 → d < 4294967296 → e < 4294967296 → f < 4294967296 → g < 4294967296 → h < 4294967296 → readLine (lineText 1 (a ∷ b ∷ c ∷ d ∷ e ∷ f ∷ g ∷ h ∷ [])) ≡ Called (callOf 1 8 (a ∷ b ∷ c ∷ d ∷ e ∷ f ∷ g ∷ h ∷ []))
+pub line-head : (a : ℕ) (b : ℕ) (c : ℕ) (d : ℕ) (e : ℕ) (f : ℕ) (g : ℕ) (h : ℕ) → a < 2 ^ 8 → b < 2 ^ 16 → c < 2 ^ 32 → d < 4294967296 → e < 4294967296 → f < 4294967296 → g < 4294967296 → h < 4294967296 → readLine (lineText 1 (a ∷ b ∷ c ∷ d ∷ e ∷ f ∷ g ∷ h ∷ [])) ≡ Called (callOf 1 8 (a ∷ b ∷ c ∷ d ∷ e ∷ f ∷ g ∷ h ∷ []))
 unfolding computing
 line-head a b c d e f g h ha hb hc hd he hf hg hh =
     let r0 : Settles (scan begin 0 (nameOf 1)) 1 0 zeros = record { start = 0; value = codeOf (nameOf 1); is = refl; active = refl } in
@@ -117,7 +107,7 @@ line-head a b c d e f g h ha hb hc hd he hf hg hh =
     ap readLine (group-8 (nameOf 1) (itemText 1 0 a) (itemText 1 1 b) (itemText 1 2 c) (itemText 1 3 d) (itemText 1 4 e) (itemText 1 5 f) (itemText 1 6 g) (itemText 1 7 h) (10 ∷ []))
     ∙ line-end (t7 ++ itemText 1 7 h) 1 8 (a ∷ b ∷ c ∷ d ∷ e ∷ f ∷ g ∷ h ∷ []) (p8 .settles) (λ start value at at'. refl)
 
-line-pool : (a : ℕ) (b : ℕ) (c : ℕ) → a < 2 ^ 8 → b < 2 ^ 16 → c < 2 ^ 8 → readLine (lineText 2 (a ∷ b ∷ c ∷ [])) ≡ Called (callOf 2 3 (a ∷ b ∷ c ∷ 0 ∷ 0 ∷ 0 ∷ 0 ∷ 0 ∷ []))
+pub line-pool : (a : ℕ) (b : ℕ) (c : ℕ) → a < 2 ^ 8 → b < 2 ^ 16 → c < 2 ^ 8 → readLine (lineText 2 (a ∷ b ∷ c ∷ [])) ≡ Called (callOf 2 3 (a ∷ b ∷ c ∷ 0 ∷ 0 ∷ 0 ∷ 0 ∷ 0 ∷ []))
 unfolding computing
 line-pool a b c ha hb hc =
     let r0 : Settles (scan begin 0 (nameOf 2)) 2 0 zeros = record { start = 0; value = codeOf (nameOf 2); is = refl; active = refl } in
@@ -130,7 +120,7 @@ line-pool a b c ha hb hc =
     ap readLine (group-3 (nameOf 2) (itemText 2 0 a) (itemText 2 1 b) (itemText 2 2 c) (10 ∷ []))
     ∙ line-end (t2 ++ itemText 2 2 c) 2 3 (a ∷ b ∷ c ∷ 0 ∷ 0 ∷ 0 ∷ 0 ∷ 0 ∷ []) (p3 .settles) (λ start value at at'. refl)
 
-line-member : (a : ℕ) (b : ℕ) (c : ℕ) (d : ℕ) (e : ℕ) (f : ℕ) → a < 2 ^ 8 → b < 4294967296 → c < 2 ^ 16 → d < 2 ^ 16 → e < 2 ^ 16 → f < 2 ^ 16 → readLine (lineText 3 (a ∷ b ∷ c ∷ d ∷ e ∷ f ∷ [])) ≡ Called (callOf 3 6 (a ∷ b ∷ c ∷ d ∷ e ∷ f ∷ 0 ∷ 0 ∷ []))
+pub line-member : (a : ℕ) (b : ℕ) (c : ℕ) (d : ℕ) (e : ℕ) (f : ℕ) → a < 2 ^ 8 → b < 4294967296 → c < 2 ^ 16 → d < 2 ^ 16 → e < 2 ^ 16 → f < 2 ^ 16 → readLine (lineText 3 (a ∷ b ∷ c ∷ d ∷ e ∷ f ∷ [])) ≡ Called (callOf 3 6 (a ∷ b ∷ c ∷ d ∷ e ∷ f ∷ 0 ∷ 0 ∷ []))
 unfolding computing
 line-member a b c d e f ha hb hc hd he hf =
     let r0 : Settles (scan begin 0 (nameOf 3)) 3 0 zeros = record { start = 0; value = codeOf (nameOf 3); is = refl; active = refl } in
@@ -149,7 +139,7 @@ line-member a b c d e f ha hb hc hd he hf =
     ap readLine (group-6 (nameOf 3) (itemText 3 0 a) (itemText 3 1 b) (itemText 3 2 c) (itemText 3 3 d) (itemText 3 4 e) (itemText 3 5 f) (10 ∷ []))
     ∙ line-end (t5 ++ itemText 3 5 f) 3 6 (a ∷ b ∷ c ∷ d ∷ e ∷ f ∷ 0 ∷ 0 ∷ []) (p6 .settles) (λ start value at at'. refl)
 
-line-round-1 : (a : ℕ) → a < 4294967296 → readLine (lineText 4 (a ∷ [])) ≡ Called (callOf 4 1 (a ∷ 0 ∷ 0 ∷ 0 ∷ 0 ∷ 0 ∷ 0 ∷ 0 ∷ []))
+pub line-round-1 : (a : ℕ) → a < 4294967296 → readLine (lineText 4 (a ∷ [])) ≡ Called (callOf 4 1 (a ∷ 0 ∷ 0 ∷ 0 ∷ 0 ∷ 0 ∷ 0 ∷ 0 ∷ []))
 unfolding computing
 line-round-1 a ha =
     let r0 : Settles (scan begin 0 (nameOf 4)) 4 0 zeros = record { start = 0; value = codeOf (nameOf 4); is = refl; active = refl } in
@@ -158,7 +148,7 @@ line-round-1 a ha =
     ap readLine (group-1 (nameOf 4) (itemText 4 0 a) (10 ∷ []))
     ∙ line-end (t0 ++ itemText 4 0 a) 4 1 (a ∷ 0 ∷ 0 ∷ 0 ∷ 0 ∷ 0 ∷ 0 ∷ 0 ∷ []) (p1 .settles) (λ start value at at'. refl)
 
-line-round-2 : (a : ℕ) (b : ℕ) → a < 4294967296 → b < 4294967296 → readLine (lineText 4 (a ∷ b ∷ [])) ≡ Called (callOf 4 2 (a ∷ b ∷ 0 ∷ 0 ∷ 0 ∷ 0 ∷ 0 ∷ 0 ∷ []))
+pub line-round-2 : (a : ℕ) (b : ℕ) → a < 4294967296 → b < 4294967296 → readLine (lineText 4 (a ∷ b ∷ [])) ≡ Called (callOf 4 2 (a ∷ b ∷ 0 ∷ 0 ∷ 0 ∷ 0 ∷ 0 ∷ 0 ∷ []))
 unfolding computing
 line-round-2 a b ha hb =
     let r0 : Settles (scan begin 0 (nameOf 4)) 4 0 zeros = record { start = 0; value = codeOf (nameOf 4); is = refl; active = refl } in
@@ -169,7 +159,7 @@ line-round-2 a b ha hb =
     ap readLine (group-2 (nameOf 4) (itemText 4 0 a) (itemText 4 1 b) (10 ∷ []))
     ∙ line-end (t1 ++ itemText 4 1 b) 4 2 (a ∷ b ∷ 0 ∷ 0 ∷ 0 ∷ 0 ∷ 0 ∷ 0 ∷ []) (p2 .settles) (λ start value at at'. refl)
 
-line-round-3 : (a : ℕ) (b : ℕ) (c : ℕ) → a < 4294967296 → b < 4294967296 → c < 4294967296 → readLine (lineText 4 (a ∷ b ∷ c ∷ [])) ≡ Called (callOf 4 3 (a ∷ b ∷ c ∷ 0 ∷ 0 ∷ 0 ∷ 0 ∷ 0 ∷ []))
+pub line-round-3 : (a : ℕ) (b : ℕ) (c : ℕ) → a < 4294967296 → b < 4294967296 → c < 4294967296 → readLine (lineText 4 (a ∷ b ∷ c ∷ [])) ≡ Called (callOf 4 3 (a ∷ b ∷ c ∷ 0 ∷ 0 ∷ 0 ∷ 0 ∷ 0 ∷ []))
 unfolding computing
 line-round-3 a b c ha hb hc =
     let r0 : Settles (scan begin 0 (nameOf 4)) 4 0 zeros = record { start = 0; value = codeOf (nameOf 4); is = refl; active = refl } in
@@ -182,7 +172,7 @@ line-round-3 a b c ha hb hc =
     ap readLine (group-3 (nameOf 4) (itemText 4 0 a) (itemText 4 1 b) (itemText 4 2 c) (10 ∷ []))
     ∙ line-end (t2 ++ itemText 4 2 c) 4 3 (a ∷ b ∷ c ∷ 0 ∷ 0 ∷ 0 ∷ 0 ∷ 0 ∷ []) (p3 .settles) (λ start value at at'. refl)
 
-line-round-4 : (a : ℕ) (b : ℕ) (c : ℕ) (d : ℕ) → a < 4294967296 → b < 4294967296 → c < 4294967296 → d < 4294967296 → readLine (lineText 4 (a ∷ b ∷ c ∷ d ∷ [])) ≡ Called (callOf 4 4 (a ∷ b ∷ c ∷ d ∷ 0 ∷ 0 ∷ 0 ∷ 0 ∷ []))
+pub line-round-4 : (a : ℕ) (b : ℕ) (c : ℕ) (d : ℕ) → a < 4294967296 → b < 4294967296 → c < 4294967296 → d < 4294967296 → readLine (lineText 4 (a ∷ b ∷ c ∷ d ∷ [])) ≡ Called (callOf 4 4 (a ∷ b ∷ c ∷ d ∷ 0 ∷ 0 ∷ 0 ∷ 0 ∷ []))
 unfolding computing
 line-round-4 a b c d ha hb hc hd =
     let r0 : Settles (scan begin 0 (nameOf 4)) 4 0 zeros = record { start = 0; value = codeOf (nameOf 4); is = refl; active = refl } in
@@ -197,7 +187,7 @@ line-round-4 a b c d ha hb hc hd =
     ap readLine (group-4 (nameOf 4) (itemText 4 0 a) (itemText 4 1 b) (itemText 4 2 c) (itemText 4 3 d) (10 ∷ []))
     ∙ line-end (t3 ++ itemText 4 3 d) 4 4 (a ∷ b ∷ c ∷ d ∷ 0 ∷ 0 ∷ 0 ∷ 0 ∷ []) (p4 .settles) (λ start value at at'. refl)
 
-line-bid : (a : ℕ) (b : ℕ) (c : ℕ) (d : ℕ) → a < 2 ^ 8 → b < 2 ^ 8 → c < 2 ^ 16 → d < 4294967296 → readLine (lineText 5 (a ∷ b ∷ c ∷ d ∷ [])) ≡ Called (callOf 5 4 (a ∷ b ∷ c ∷ d ∷ 0 ∷ 0 ∷ 0 ∷ 0 ∷ []))
+pub line-bid : (a : ℕ) (b : ℕ) (c : ℕ) (d : ℕ) → a < 2 ^ 8 → b < 2 ^ 8 → c < 2 ^ 16 → d < 4294967296 → readLine (lineText 5 (a ∷ b ∷ c ∷ d ∷ [])) ≡ Called (callOf 5 4 (a ∷ b ∷ c ∷ d ∷ 0 ∷ 0 ∷ 0 ∷ 0 ∷ []))
 unfolding computing
 line-bid a b c d ha hb hc hd =
     let r0 : Settles (scan begin 0 (nameOf 5)) 5 0 zeros = record { start = 0; value = codeOf (nameOf 5); is = refl; active = refl } in
@@ -212,13 +202,13 @@ line-bid a b c d ha hb hc hd =
     ap readLine (group-4 (nameOf 5) (itemText 5 0 a) (itemText 5 1 b) (itemText 5 2 c) (itemText 5 3 d) (10 ∷ []))
     ∙ line-end (t3 ++ itemText 5 3 d) 5 4 (a ∷ b ∷ c ∷ d ∷ 0 ∷ 0 ∷ 0 ∷ 0 ∷ []) (p4 .settles) (λ start value at at'. refl)
 
-line-close : readLine (lineText 6 []) ≡ Called (callOf 6 0 zeros)
+pub line-close : readLine (lineText 6 []) ≡ Called (callOf 6 0 zeros)
 unfolding computing
 line-close =
     let r0 : Settles (scan begin 0 (nameOf 6)) 6 0 zeros = record { start = 0; value = codeOf (nameOf 6); is = refl; active = refl } in
     line-end (nameOf 6) 6 0 zeros r0 (λ start value at at'. refl)
 
-line-allocate : (a : ℕ) (b : ℕ) → a < 2 ^ 8 → b < 4294967296 → readLine (lineText 7 (a ∷ b ∷ [])) ≡ Called (callOf 7 2 (a ∷ b ∷ 0 ∷ 0 ∷ 0 ∷ 0 ∷ 0 ∷ 0 ∷ []))
+pub line-allocate : (a : ℕ) (b : ℕ) → a < 2 ^ 8 → b < 4294967296 → readLine (lineText 7 (a ∷ b ∷ [])) ≡ Called (callOf 7 2 (a ∷ b ∷ 0 ∷ 0 ∷ 0 ∷ 0 ∷ 0 ∷ 0 ∷ []))
 unfolding computing
 line-allocate a b ha hb =
     let r0 : Settles (scan begin 0 (nameOf 7)) 7 0 zeros = record { start = 0; value = codeOf (nameOf 7); is = refl; active = refl } in
@@ -229,7 +219,7 @@ line-allocate a b ha hb =
     ap readLine (group-2 (nameOf 7) (itemText 7 0 a) (itemText 7 1 b) (10 ∷ []))
     ∙ line-end (t1 ++ itemText 7 1 b) 7 2 (a ∷ b ∷ 0 ∷ 0 ∷ 0 ∷ 0 ∷ 0 ∷ 0 ∷ []) (p2 .settles) (λ start value at at'. refl)
 
-line-tear : (a : ℕ) (b : ℕ) → a < 2 ^ 8 → b < 4294967296 → readLine (lineText 8 (a ∷ b ∷ [])) ≡ Called (callOf 8 2 (a ∷ b ∷ 0 ∷ 0 ∷ 0 ∷ 0 ∷ 0 ∷ 0 ∷ []))
+pub line-tear : (a : ℕ) (b : ℕ) → a < 2 ^ 8 → b < 4294967296 → readLine (lineText 8 (a ∷ b ∷ [])) ≡ Called (callOf 8 2 (a ∷ b ∷ 0 ∷ 0 ∷ 0 ∷ 0 ∷ 0 ∷ 0 ∷ []))
 unfolding computing
 line-tear a b ha hb =
     let r0 : Settles (scan begin 0 (nameOf 8)) 8 0 zeros = record { start = 0; value = codeOf (nameOf 8); is = refl; active = refl } in
@@ -240,13 +230,13 @@ line-tear a b ha hb =
     ap readLine (group-2 (nameOf 8) (itemText 8 0 a) (itemText 8 1 b) (10 ∷ []))
     ∙ line-end (t1 ++ itemText 8 1 b) 8 2 (a ∷ b ∷ 0 ∷ 0 ∷ 0 ∷ 0 ∷ 0 ∷ 0 ∷ []) (p2 .settles) (λ start value at at'. refl)
 
-line-call : readLine (lineText 9 []) ≡ Called (callOf 9 0 zeros)
+pub line-call : readLine (lineText 9 []) ≡ Called (callOf 9 0 zeros)
 unfolding computing
 line-call =
     let r0 : Settles (scan begin 0 (nameOf 9)) 9 0 zeros = record { start = 0; value = codeOf (nameOf 9); is = refl; active = refl } in
     line-end (nameOf 9) 9 0 zeros r0 (λ start value at at'. refl)
 
-line-pay : (a : ℕ) (b : ℕ) → a < 2 ^ 8 → b < 4294967296 → readLine (lineText 10 (a ∷ b ∷ [])) ≡ Called (callOf 10 2 (a ∷ b ∷ 0 ∷ 0 ∷ 0 ∷ 0 ∷ 0 ∷ 0 ∷ []))
+pub line-pay : (a : ℕ) (b : ℕ) → a < 2 ^ 8 → b < 4294967296 → readLine (lineText 10 (a ∷ b ∷ [])) ≡ Called (callOf 10 2 (a ∷ b ∷ 0 ∷ 0 ∷ 0 ∷ 0 ∷ 0 ∷ 0 ∷ []))
 unfolding computing
 line-pay a b ha hb =
     let r0 : Settles (scan begin 0 (nameOf 10)) 10 0 zeros = record { start = 0; value = codeOf (nameOf 10); is = refl; active = refl } in
@@ -257,7 +247,7 @@ line-pay a b ha hb =
     ap readLine (group-2 (nameOf 10) (itemText 10 0 a) (itemText 10 1 b) (10 ∷ []))
     ∙ line-end (t1 ++ itemText 10 1 b) 10 2 (a ∷ b ∷ 0 ∷ 0 ∷ 0 ∷ 0 ∷ 0 ∷ 0 ∷ []) (p2 .settles) (λ start value at at'. refl)
 
-line-move : (a : ℕ) → a < 2 ^ 8 → readLine (lineText 11 (a ∷ [])) ≡ Called (callOf 11 1 (a ∷ 0 ∷ 0 ∷ 0 ∷ 0 ∷ 0 ∷ 0 ∷ 0 ∷ []))
+pub line-move : (a : ℕ) → a < 2 ^ 8 → readLine (lineText 11 (a ∷ [])) ≡ Called (callOf 11 1 (a ∷ 0 ∷ 0 ∷ 0 ∷ 0 ∷ 0 ∷ 0 ∷ 0 ∷ []))
 unfolding computing
 line-move a ha =
     let r0 : Settles (scan begin 0 (nameOf 11)) 11 0 zeros = record { start = 0; value = codeOf (nameOf 11); is = refl; active = refl } in
@@ -266,7 +256,7 @@ line-move a ha =
     ap readLine (group-1 (nameOf 11) (itemText 11 0 a) (10 ∷ []))
     ∙ line-end (t0 ++ itemText 11 0 a) 11 1 (a ∷ 0 ∷ 0 ∷ 0 ∷ 0 ∷ 0 ∷ 0 ∷ 0 ∷ []) (p1 .settles) (λ start value at at'. refl)
 
-line-miss : (a : ℕ) (b : ℕ) → a < 2 ^ 8 → b < 4294967296 → readLine (lineText 12 (a ∷ b ∷ [])) ≡ Called (callOf 12 2 (a ∷ b ∷ 0 ∷ 0 ∷ 0 ∷ 0 ∷ 0 ∷ 0 ∷ []))
+pub line-miss : (a : ℕ) (b : ℕ) → a < 2 ^ 8 → b < 4294967296 → readLine (lineText 12 (a ∷ b ∷ [])) ≡ Called (callOf 12 2 (a ∷ b ∷ 0 ∷ 0 ∷ 0 ∷ 0 ∷ 0 ∷ 0 ∷ []))
 unfolding computing
 line-miss a b ha hb =
     let r0 : Settles (scan begin 0 (nameOf 12)) 12 0 zeros = record { start = 0; value = codeOf (nameOf 12); is = refl; active = refl } in
@@ -277,7 +267,7 @@ line-miss a b ha hb =
     ap readLine (group-2 (nameOf 12) (itemText 12 0 a) (itemText 12 1 b) (10 ∷ []))
     ∙ line-end (t1 ++ itemText 12 1 b) 12 2 (a ∷ b ∷ 0 ∷ 0 ∷ 0 ∷ 0 ∷ 0 ∷ 0 ∷ []) (p2 .settles) (λ start value at at'. refl)
 
-line-finish : readLine (lineText 13 []) ≡ Called (callOf 13 0 zeros)
+pub line-finish : readLine (lineText 13 []) ≡ Called (callOf 13 0 zeros)
 unfolding computing
 line-finish =
     let r0 : Settles (scan begin 0 (nameOf 13)) 13 0 zeros = record { start = 0; value = codeOf (nameOf 13); is = refl; active = refl } in
