@@ -1,13 +1,11 @@
 -- Decoding the bytes of a call gives the call, for every call whose numbers fit their bytes. Assumes nothing.
-use mathlib.Core.Path.{_≡_, refl, sym, ap, _∙_}
+use mathlib.Core.Path.{_≡_, refl, ap, _∙_}
 use mathlib.Core.List.{List, [], _∷_}
 use mathlib.Core.Option.{some}
-use Prim.Native.Nat.{ℕ, zero, suc, _+_, _-_, _*_, _/_, _%_, _^_, _≤_, _<_}
+use Prim.Native.Nat.{ℕ, _+_, _-_, _*_, _/_, _%_, _^_, _<_}
 use native.Mathlib.Omega.{arith}
-use lib.ListN.{length}
-use Rattle.auction.specs.Price.{zeroPrice}
 use Rattle.machine.specs.Wire as Wire
-use Rattle.forms.specs.Encode.{InWidth, AllBelow, encode, encodeForm}
+use Rattle.forms.specs.Encode.{InWidth, encode}
 use Rattle.forms.specs.Computing.{computing}
 
 one-read : (n : ℕ) → n < 2 ^ 8 → 0 * 256 + n % 256 ≡ n
@@ -38,7 +36,7 @@ decode-member m contribution (a ∷ b ∷ []) w = absurd (omega (arith, w .2))
 decode-member m contribution (a ∷ b ∷ c ∷ []) w = absurd (omega (arith, w .2))
 decode-member m contribution (a ∷ b ∷ c ∷ d ∷ []) w =
     λ k. some (Wire.MEMBER (one-read m (w .0) k) (four-read contribution (w .1) k)
-      (two-read a (w .3 .0) k ∷ two-read b (w .3 .1 .0) k ∷ two-read c (w .3 .1 .1 .0) k ∷ two-read d (w .3 .1 .1 .1 .0) k ∷ []))
+    (two-read a (w .3 .0) k ∷ two-read b (w .3 .1 .0) k ∷ two-read c (w .3 .1 .1 .0) k ∷ two-read d (w .3 .1 .1 .1 .0) k ∷ []))
 decode-member m contribution (a ∷ b ∷ c ∷ d ∷ e ∷ l) w = absurd (omega (arith, w .2))
 
 decode-round : (reserves : List ℕ) → InWidth (Wire.ROUND reserves) → Wire.decode (encode (Wire.ROUND reserves)) ≡ some (Wire.ROUND reserves)
@@ -50,7 +48,7 @@ decode-round (a ∷ b ∷ c ∷ []) w =
     λ k. some (Wire.ROUND (price-bytes a (w .2 .0) k ∷ price-bytes b (w .2 .1 .0) k ∷ price-bytes c (w .2 .1 .1 .0) k ∷ []))
 decode-round (a ∷ b ∷ c ∷ d ∷ []) w =
     λ k. some (Wire.ROUND
-      (price-bytes a (w .2 .0) k ∷ price-bytes b (w .2 .1 .0) k ∷ price-bytes c (w .2 .1 .1 .0) k ∷ price-bytes d (w .2 .1 .1 .1 .0) k ∷ []))
+    (price-bytes a (w .2 .0) k ∷ price-bytes b (w .2 .1 .0) k ∷ price-bytes c (w .2 .1 .1 .0) k ∷ price-bytes d (w .2 .1 .1 .1 .0) k ∷ []))
 decode-round (a ∷ b ∷ c ∷ d ∷ e ∷ l) w = absurd (omega (arith, w .1))
 
 pub decode-encode : (call : Wire.Call) → InWidth call → Wire.decode (encode call) ≡ some call

@@ -1,22 +1,12 @@
 -- The text of a call, read back, is the call. Assumes nothing.
-use mathlib.Core.Path.{_≡_, refl, sym, ap, _∙_}
-use mathlib.Core.Bool.{Bool, true, false, _&&_}
-use mathlib.Core.List.{List, [], _∷_, _++_, append-assoc}
-use Prim.Native.Nat.{ℕ, zero, suc, _+_, _≤_, _<_, min}
-use native.Mathlib.Omega.{arith}
-use lib.Dec.{eqb, leb}
-use lib.ListN.{length, set}
-use Rattle.lists.specs.Lists.{if_then_else_}
-use Rattle.forms.specs.Forms.{kindOf}
-use Rattle.spelling.specs.Words.{keyOf, nameOf, separator}
-use Rattle.spelling.specs.Text.{numberText, itemText, itemsText, lineText}
+use mathlib.Core.Path.{_≡_, ap}
+use mathlib.Core.List.{List, [], _∷_}
+use Prim.Native.Nat.{ℕ, suc}
+use Rattle.spelling.specs.Words.{keyOf, separator}
 use Rattle.notation.specs.declared.Scan.{Scan}
-use Rattle.notation.specs.declared.Read.{Read}
-use Rattle.notation.specs.declared.Read.the-variants.{Called}
-use Rattle.notation.specs.Scans.{begin, withPhase}
-use Rattle.notation.specs.Reading.{settle, onComma, complete, ended, markRead, byteRead, step, scan, keyCode, callOf, outcome, readLine}
+use Rattle.notation.specs.Reading.{settle, onComma, ended, markRead, byteRead, step, scan, keyCode}
 use Rattle.notation.specs.Computing.{computing}
-use Rattle.notation.proofs.Numbers.{mid, bef, Settles, Plain, Before, Read-as, scan-append}
+use Rattle.notation.proofs.Numbers.{mid, Settles, Plain, Before}
 
 -- ---- what stands before a number
 
@@ -197,4 +187,3 @@ pub key-12-1 : (s : Scan) (ns : List ℕ) (i : ℕ) → Settles s 12 1 ns → Be
 unfolding computing
 key-12-1 s ns i h =
     record { start = suc i; value = keyCode 12 1; is = ap (λ (t : Scan). scan t (suc i) (112 ∷ 114 ∷ 105 ∷ 99 ∷ 101 ∷ 32 ∷ [])) (space-step s 12 1 ns h i) }
-

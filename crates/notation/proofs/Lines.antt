@@ -31,7 +31,7 @@ item-scan text tag item n =
     ∙ scan-append (scan begin 0 text) (0 + length text) (separator (keyOf tag item)) (numberText (kindOf tag item) n)
 
 module _ (text : List ℕ) (tag item : ℕ) (ns : List ℕ) (n : ℕ)
-  (b : Before (scan (scan begin 0 text) (0 + length text) (separator (keyOf tag item))) tag item ns) where
+    (b : Before (scan (scan begin 0 text) (0 + length text) (separator (keyOf tag item))) tag item ns) where
   abbrev at : ℕ
   at = 0 + length text + length (separator (keyOf tag item))
 
@@ -272,4 +272,3 @@ unfolding computing
 line-finish =
     let r0 : Settles (scan begin 0 (nameOf 13)) 13 0 zeros = record { start = 0; value = codeOf (nameOf 13); is = refl; active = refl } in
     line-end (nameOf 13) 13 0 zeros r0 (λ start value at at'. refl)
-

@@ -1,5 +1,5 @@
 -- A number that is written is read back. Assumes nothing.
-use mathlib.Core.Path.{_≡_, refl, sym, ap, _∙_}
+use mathlib.Core.Path.{_≡_, refl, ap, _∙_}
 use mathlib.Core.Bool.{Bool, true, false, _&&_}
 use mathlib.Core.List.{List, [], _∷_, _++_}
 use Prim.Native.Nat.{ℕ, zero, suc, _+_, _-_, _*_, _/_, _%_, _^_, _≤_, _<_, min}
@@ -8,14 +8,14 @@ use native.Mathlib.Omega.{arith}
 use lib.Dec.{eqb, leb, ltb}
 use lib.ListN.{length, set}
 use borrow.Author.Tests.{lt-ltb, le-leb, ltb-true, ltb-false, ne-eqb}
-use Rattle.lists.specs.Lists.{if_then_else_, between, oneIf}
+use Rattle.lists.specs.Lists.{between, oneIf}
 use Rattle.lists.proofs.Bools.{cases}
 use Rattle.machine.specs.Printed.{decimal}
 use Rattle.forms.specs.Forms.{kindOf}
-use Rattle.spelling.specs.Text.{moneyText, priceText, numberText}
+use Rattle.spelling.specs.Text.{moneyText, numberText}
 use Rattle.spelling.proofs.Texts.{number-low, number-money, number-price, price-low, price-mid, price-high}
 use Rattle.notation.specs.declared.Scan.{Scan}
-use Rattle.notation.specs.Reading.{grown, limitOf, numberOf, settle, settleNumber, nextPoint, moreDigits, onDigit, onMinus, onPoint, markRead, byteRead, step, scan}
+use Rattle.notation.specs.Reading.{limitOf, numberOf, settle, settleNumber, nextPoint, moreDigits, onDigit, onMinus, onPoint, markRead, byteRead, step, scan}
 use Rattle.notation.proofs.Codes.{grown-short, number-minus, number-plus, number-plain}
 
 -- ---- the states on the way
@@ -127,6 +127,7 @@ module _ (tag item start : ℕ) (minus : Bool) (members : ℕ) (ns : List ℕ) w
       where
         fewer : (f n : ℕ) → n < 10 ^ suc f → n / 10 < 10 ^ f
         fewer f n h = div-lt-iff-lt-mul {k = 10} {x = n} {y = 10 ^ f} (omega arith) .1 (rw (pow-suc 10 f) at h)
+
         longer-read : (f n : ℕ) → 10 ≤ n → n < 10 ^ suc (suc f) → n < 36028797018963968
             → scan s i (decimal (suc f) (n / 10)) ≡ num tag item start (n / 10) 0 minus members ns
             → scan s i (decimal (suc f) (n / 10) ++ ((48 + n % 10) ∷ [])) ≡ num tag item start n 0 minus members ns
@@ -254,6 +255,6 @@ module _ (tag item : ℕ) (ns : List ℕ) where
       (cases (ltb p 1000000) _
       (λ e. rw (← price-low p (ltb-true p 1000000 e)) (negative-read s i (1000000 - p) p b k (omega arith) (omega (arith, ltb-true p 1000000 e))))
       (λ e.
-        cases (ltb p 2148483648) _
-        (λ f. rw (← price-mid p (ltb-false p 1000000 e) (ltb-true p 2148483648 f)) (positive-read s i (p - 1000000) p b k (omega (arith, ltb-true p 2148483648 f)) (omega (arith, ltb-false p 1000000 e))))
-        (λ f. rw (← price-high p (ltb-false p 1000000 e) (ltb-false p 2148483648 f)) (negative-read s i (4295967296 - p) p b k (omega (arith, ltb-false p 2148483648 f)) (omega (arith, ltb-false p 2148483648 f))))))
+      cases (ltb p 2148483648) _
+      (λ f. rw (← price-mid p (ltb-false p 1000000 e) (ltb-true p 2148483648 f)) (positive-read s i (p - 1000000) p b k (omega (arith, ltb-true p 2148483648 f)) (omega (arith, ltb-false p 1000000 e))))
+      (λ f. rw (← price-high p (ltb-false p 1000000 e) (ltb-false p 2148483648 f)) (negative-read s i (4295967296 - p) p b k (omega (arith, ltb-false p 2148483648 f)) (omega (arith, ltb-false p 2148483648 f))))))

@@ -1,5 +1,5 @@
 -- Reading the text of a call gives the call, for every call whose numbers fit their bytes. Assumes nothing.
-use mathlib.Core.Path.{_≡_, refl, ap, _∙_}
+use mathlib.Core.Path.{_≡_, ap, _∙_}
 use mathlib.Core.List.{List, [], _∷_}
 use mathlib.Core.Option.{some}
 use Prim.Native.Nat.{ℕ, _%_, _^_, _<_}
@@ -27,7 +27,7 @@ read-member m contribution (a ∷ b ∷ c ∷ []) w = absurd (omega (arith, w .2
 read-member m contribution (a ∷ b ∷ c ∷ d ∷ []) w =
     ap askedBy (line-member m contribution a b c d (w .0) (w .1) (w .3 .0) (w .3 .1 .0) (w .3 .1 .1 .0) (w .3 .1 .1 .1 .0))
     ∙ (λ k. some (Wire.MEMBER (mod-one m (w .0) k) contribution
-      (mod-two a (w .3 .0) k ∷ mod-two b (w .3 .1 .0) k ∷ mod-two c (w .3 .1 .1 .0) k ∷ mod-two d (w .3 .1 .1 .1 .0) k ∷ [])))
+    (mod-two a (w .3 .0) k ∷ mod-two b (w .3 .1 .0) k ∷ mod-two c (w .3 .1 .1 .0) k ∷ mod-two d (w .3 .1 .1 .1 .0) k ∷ [])))
 read-member m contribution (a ∷ b ∷ c ∷ d ∷ e ∷ l) w = absurd (omega (arith, w .2))
 
 read-round : (reserves : List ℕ) → InWidth (Wire.ROUND reserves) → askedBy (readLine (lineOf (Wire.ROUND reserves))) ≡ some (Wire.ROUND reserves)

@@ -1,13 +1,13 @@
 -- A set of members that is written is read back. Assumes nothing.
 use mathlib.Core.Path.{_≡_, refl, sym, ap, subst, _∙_}
-use mathlib.Core.Bool.{Bool, true, false, _&&_, _||_}
+use mathlib.Core.Bool.{Bool, true, false, _||_}
 use mathlib.Core.List.{List, [], _∷_, _++_}
-use Prim.Native.Nat.{ℕ, zero, suc, _+_, _*_, _%_, _^_, _≤_, _<_, min}
+use Prim.Native.Nat.{ℕ, suc, _+_, _%_, _^_, _<_, min}
 use native.Mathlib.Omega.{arith}
-use lib.Dec.{eqb, leb, ltb}
+use lib.Dec.{eqb}
 use lib.ListN.{length, set}
 use borrow.Author.Tests.{lt-ltb, eq-eqb, ne-eqb, eqb-true, eqb-false}
-use Rattle.lists.specs.Lists.{if_then_else_, any, oneIf}
+use Rattle.lists.specs.Lists.{any, oneIf}
 use Rattle.lists.proofs.Bools.{cases}
 use Rattle.lists.proofs.Each.{Each}
 use Rattle.sets.specs.Set.{member, members, insert, withMember}
@@ -17,7 +17,7 @@ use Rattle.forms.specs.Forms.{kindOf}
 use Rattle.spelling.specs.Text.{membersText, moreText, numberText}
 use Rattle.spelling.proofs.Texts.{number-set}
 use Rattle.notation.specs.declared.Scan.{Scan}
-use Rattle.notation.specs.Reading.{limitOf, numberOf, settle, settleDash, onMinus, onMember, onComma, markRead, byteRead, step, scan}
+use Rattle.notation.specs.Reading.{limitOf, settle, settleDash, onMinus, onMember, onComma, markRead, byteRead, step, scan}
 use Rattle.notation.proofs.Codes.{number-set as set-number}
 use Rattle.notation.proofs.Numbers.{mid, bef, neg, num, Settles, Before, scan-append, first-digit, digits-read, end-number}
 
@@ -69,8 +69,8 @@ gather-members n f =
     let small = all-small (members n) n (members-each n) in
     ext (gather 0 (members n)) n (gather-fits (members n) 0 small (omega arith)) f
     (λ i l.
-      gather-member (members n) 0 i small ∙ ap (λ (b : Bool). any (eqb i) (members n) || b) (member-none i) ∙ or-false (any (eqb i) (members n))
-      ∙ member-listed n i l)
+    gather-member (members n) 0 i small ∙ ap (λ (b : Bool). any (eqb i) (members n) || b) (member-none i) ∙ or-false (any (eqb i) (members n))
+    ∙ member-listed n i l)
 
 -- ---- members, read one by one
 

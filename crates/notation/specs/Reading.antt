@@ -13,7 +13,6 @@ use Rattle.auction.specs.Price.{zeroPrice}
 use Rattle.sets.specs.Set.{withMember}
 use Rattle.machine.specs.Wire as Wire
 use Rattle.wire.specs.Asked.{asked}
-use Rattle.wire.specs.declared.Head.{Head}
 use Rattle.wire.specs.declared.Call.{Call}
 use Rattle.wire.specs.declared.Call.the-variants.{Head as HeadCall, Pool, Member, Round, Bid, Close, Allocate, Tear, Call as CallCall, Pay, Move, Miss, Finish, Unknown}
 use Rattle.forms.specs.Forms.{kindOf}

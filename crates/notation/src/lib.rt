@@ -2,8 +2,7 @@
 ghost use mathlib.Core.Path.{_≡_};
 ghost use mathlib.Core.Bool.{cond};
 ghost use Prim.Native.Nat.{_+_, _-_, _%_, _^_, _≤_, _<_, min};
-ghost use lib.ListN.{length, set};
-ghost use Rattle.sets.specs.Set.{withMember};
+ghost use lib.ListN.{set};
 ghost use Rattle.notation.specs.Scans.{begin, withPhase, inWord, named, longer, negative, gathered, stored, refused};
 ghost use Rattle.notation.specs.Reading.{letterOf, grown, keyCode, tagNamed, limitOf, numberOf, settleName, settleKey, settleNumber, settleDash, settle, nextPoint, moreDigits, onLetter, onDigit, onMinus, onPoint, onMember, onList, onComma, complete, ended, markRead, byteRead, step, scan, callOf, outcome, readLine};
 use wire::Call;
@@ -26,15 +25,123 @@ pub struct Scan {
 pub enum Read {
     Nothing,
     Called(Call),
-    Refused {
-        at: usize,
-        reason: u8,
-    },
+    Refused { at: usize, reason: u8 },
 }
 
 // The keys as numbers, eight for each tag.
 const KEYS: [u64; 112] = [
-    0, 0, 0, 0, 0, 0, 0, 0, 17284499, 12748404, 14140118611, 8556773, 16392370, 437853486, 218564, 8902245, 540140, 22488723, 427595, 0, 0, 0, 0, 0, 441878706, 125490089330091502, 198110728356, 0, 0, 0, 0, 0, 624487389363, 0, 0, 0, 0, 0, 0, 0, 540140, 441878706, 22488723, 17376357, 0, 0, 0, 0, 0, 0, 0, 0, 0, 0, 0, 0, 540140, 17376357, 0, 0, 0, 0, 0, 0, 540140, 17376357, 0, 0, 0, 0, 0, 0, 0, 0, 0, 0, 0, 0, 0, 0, 441878706, 47699412, 0, 0, 0, 0, 0, 0, 441878706, 0, 0, 0, 0, 0, 0, 0, 441878706, 17376357, 0, 0, 0, 0, 0, 0, 0, 0, 0, 0, 0, 0, 0, 0,
+    0,
+    0,
+    0,
+    0,
+    0,
+    0,
+    0,
+    0,
+    17284499,
+    12748404,
+    14140118611,
+    8556773,
+    16392370,
+    437853486,
+    218564,
+    8902245,
+    540140,
+    22488723,
+    427595,
+    0,
+    0,
+    0,
+    0,
+    0,
+    441878706,
+    125490089330091502,
+    198110728356,
+    0,
+    0,
+    0,
+    0,
+    0,
+    624487389363,
+    0,
+    0,
+    0,
+    0,
+    0,
+    0,
+    0,
+    540140,
+    441878706,
+    22488723,
+    17376357,
+    0,
+    0,
+    0,
+    0,
+    0,
+    0,
+    0,
+    0,
+    0,
+    0,
+    0,
+    0,
+    540140,
+    17376357,
+    0,
+    0,
+    0,
+    0,
+    0,
+    0,
+    540140,
+    17376357,
+    0,
+    0,
+    0,
+    0,
+    0,
+    0,
+    0,
+    0,
+    0,
+    0,
+    0,
+    0,
+    0,
+    0,
+    441878706,
+    47699412,
+    0,
+    0,
+    0,
+    0,
+    0,
+    0,
+    441878706,
+    0,
+    0,
+    0,
+    0,
+    0,
+    0,
+    0,
+    441878706,
+    17376357,
+    0,
+    0,
+    0,
+    0,
+    0,
+    0,
+    0,
+    0,
+    0,
+    0,
+    0,
+    0,
+    0,
+    0,
 ];
 
 // What the numbers of each kind are below.
@@ -201,14 +308,22 @@ fn with_letter(value: u64, l: u64) -> u64
     requires { ⌜ l ≤ 31 ⌝ }
     ensures { λ r. ⌜ r ≡ grown 32 value l ⌝ }
 {
-    if value < 36028797018963968 { value * 32 + l } else { 1152921504606846976 }
+    if value < 36028797018963968 {
+        value * 32 + l
+    } else {
+        1152921504606846976
+    }
 }
 
 fn with_digit(value: u64, d: u64) -> u64
     requires { ⌜ d ≤ 9 ⌝ }
     ensures { λ r. ⌜ r ≡ grown 10 value d ⌝ }
 {
-    if value < 36028797018963968 { value * 10 + d } else { 1152921504606846976 }
+    if value < 36028797018963968 {
+        value * 10 + d
+    } else {
+        1152921504606846976
+    }
 }
 
 // The key that is to come, as a number; 0 where none is.
@@ -697,22 +812,34 @@ fn later_call(tag: u8, n: [u32; 8]) -> Call
         return Call::Close;
     }
     if tag == 7 {
-        return Call::Allocate { pool: first, price: second };
+        return Call::Allocate {
+            pool: first,
+            price: second,
+        };
     }
     if tag == 8 {
-        return Call::Tear { pool: first, price: second };
+        return Call::Tear {
+            pool: first,
+            price: second,
+        };
     }
     if tag == 9 {
         return Call::Call;
     }
     if tag == 10 {
-        return Call::Pay { member: first, amount: second };
+        return Call::Pay {
+            member: first,
+            amount: second,
+        };
     }
     if tag == 11 {
         return Call::Move { member: first };
     }
     if tag == 12 {
-        return Call::Miss { member: first, price: second };
+        return Call::Miss {
+            member: first,
+            price: second,
+        };
     }
     if tag == 13 {
         return Call::Finish;

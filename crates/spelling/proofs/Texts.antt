@@ -1,13 +1,12 @@
 -- The texts of numbers, by the tests of the code, and the line of a call, one number at a time. Assumes nothing.
 use mathlib.Core.Path.{_≡_, refl, sym, ap, _∙_}
 use mathlib.Core.List.{List, [], _∷_, _++_}
-use Prim.Native.Nat.{ℕ, zero, suc, _+_, _-_, _*_, _^_, _≤_, _<_}
+use Prim.Native.Nat.{ℕ, zero, suc, _+_, _-_, _≤_, _<_}
 use native.Mathlib.Numerals.{add-one}
 use native.Mathlib.Omega.{arith}
 use lib.ListN.{length, getD, take, drop}
 use lib.Seq.{sets}
 use borrow.Author.Tests.{lt-ltb, le-ltb, eq-eqb, ne-eqb}
-use Rattle.auction.specs.Price.{zeroPrice}
 use Rattle.sets.specs.Set.{members}
 use Rattle.machine.specs.Printed.{decimal}
 use Rattle.wire.specs.Asked.{asked}

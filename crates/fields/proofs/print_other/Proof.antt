@@ -1,14 +1,9 @@
 -- `fields::print_other` is safe and ends. Assumes nothing.
-use mathlib.Core.Path.{_≡_}
-use Prim.Native.Nat.{_-_, _≤_, _<_}
+use Prim.Native.Nat.{_-_, _≤_}
 use lib.ListN.{length}
 use borrow.Author.Needs.{needs}
 use Rattle.fields.proofs.print_other.Statement.{statement}
 use Rattle.fields.proofs.print_other.Tie as tie
-use Rattle.fields.proofs.print_other.Reads as reads
-use Rattle.fields.proofs.print_other.Lts as lts
-use Rattle.fields.proofs.print_hex.Reads as print-hex-reads
-use Rattle.io.proofs.write_all.Reads as write-all-reads
 
 abbrev Inv-loop : tie.InvT-loop
 Inv-loop bytes i₀ t4 i = i ≤ length bytes

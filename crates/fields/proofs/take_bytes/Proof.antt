@@ -1,13 +1,10 @@
 -- `fields::take_bytes` is safe and ends. Assumes nothing.
 use mathlib.Core.Path.{_≡_}
-use Prim.Native.Nat.{_-_, _≤_, _<_}
+use Prim.Native.Nat.{_-_, _≤_}
 use lib.ListN.{length}
 use borrow.Author.Needs.{needs}
 use Rattle.fields.proofs.take_bytes.Statement.{statement}
 use Rattle.fields.proofs.take_bytes.Tie as tie
-use Rattle.fields.proofs.take_bytes.Reads as reads
-use Rattle.fields.proofs.take_bytes.Lts as lts
-use Rattle.fields.proofs.take_byte.Reads as take-byte-reads
 
 abbrev Inv-loop : tie.InvT-loop
 Inv-loop buf got line₀ out₀ kept₀ i₀ line out kept i = (kept .n ≤ 65536) × (65536 ≤ length line) × (length line ≡ length line₀) × (length out ≡ length out₀)

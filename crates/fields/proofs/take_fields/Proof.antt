@@ -1,14 +1,10 @@
 -- `fields::take_fields` is safe and ends. Assumes nothing.
 use mathlib.Core.Path.{_≡_}
-use Prim.Native.Nat.{_-_, _≤_, _<_}
+use Prim.Native.Nat.{_≤_, _<_}
 use lib.ListN.{length}
 use borrow.Author.Needs.{needs}
 use Rattle.fields.proofs.take_fields.Statement.{statement}
 use Rattle.fields.proofs.take_fields.Tie as tie
-use Rattle.fields.proofs.take_fields.Reads as reads
-use Rattle.fields.proofs.take_fields.Lts as lts
-use Rattle.fields.proofs.read_some.Reads as read-some-reads
-use Rattle.fields.proofs.take_parts.Reads as take-parts-reads
 
 abbrev Inv-loop : tie.InvT-loop
 Inv-loop buf₀ field₀ out₀ n₀ turns₀ buf field out n turns = (n < 65538) × (65538 ≤ length field) × (length field ≡ length field₀) × (length out ≡ length out₀) × (length buf ≡ length buf₀)

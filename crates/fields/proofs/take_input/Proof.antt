@@ -1,14 +1,10 @@
 -- `fields::take_input` is safe and ends. Assumes nothing.
 use mathlib.Core.Path.{_≡_}
-use Prim.Native.Nat.{_-_, _≤_, _<_}
+use Prim.Native.Nat.{_≤_}
 use lib.ListN.{length}
 use borrow.Author.Needs.{needs}
 use Rattle.fields.proofs.take_input.Statement.{statement}
 use Rattle.fields.proofs.take_input.Tie as tie
-use Rattle.fields.proofs.take_input.Reads as reads
-use Rattle.fields.proofs.take_input.Lts as lts
-use Rattle.fields.proofs.read_some.Reads as read-some-reads
-use Rattle.fields.proofs.take_bytes.Reads as take-bytes-reads
 
 abbrev Inv-loop : tie.InvT-loop
 Inv-loop buf₀ line₀ out₀ kept₀ turns₀ buf line out kept turns = (kept .n ≤ 65536) × (65536 ≤ length line) × (length line ≡ length line₀) × (length out ≡ length out₀) × (length buf ≡ length buf₀)

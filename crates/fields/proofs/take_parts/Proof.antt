@@ -5,9 +5,6 @@ use lib.ListN.{length}
 use borrow.Author.Needs.{needs}
 use Rattle.fields.proofs.take_parts.Statement.{statement}
 use Rattle.fields.proofs.take_parts.Tie as tie
-use Rattle.fields.proofs.take_parts.Reads as reads
-use Rattle.fields.proofs.take_parts.Lts as lts
-use Rattle.fields.proofs.take_part.Reads as take-part-reads
 
 abbrev Inv-loop : tie.InvT-loop
 Inv-loop first buf got field₀ out₀ n₀ i₀ field out n i = (n < 65538) × (65538 ≤ length field) × (length field ≡ length field₀) × (length out ≡ length out₀)

@@ -3,13 +3,6 @@ use Rattle.forms.specs.Forms.{flattened}
 use borrow.Author.Needs.{needs}
 use Rattle.forms.proofs.flat.Statement.{statement}
 use Rattle.forms.proofs.flat.Tie as tie
-use Rattle.forms.proofs.flat.Reads as reads
-use Rattle.forms.proofs.flat.Lts as lts
-use Rattle.forms.proofs.at_most_four.Reads as at-most-four-reads
-use Rattle.forms.proofs.flat_head.Reads as flat-head-reads
-use Rattle.forms.proofs.flat_of.Reads as flat-of-reads
-use Rattle.forms.proofs.one_wide.Reads as one-wide-reads
-use Rattle.forms.proofs.two_wide.Reads as two-wide-reads
 
 enum-known-call : tie.Need-enum-known-call
 enum-known-call c = search needs

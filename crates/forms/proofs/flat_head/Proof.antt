@@ -2,10 +2,6 @@
 use borrow.Author.Needs.{needs}
 use Rattle.forms.proofs.flat_head.Statement.{statement}
 use Rattle.forms.proofs.flat_head.Tie as tie
-use Rattle.forms.proofs.flat_head.Reads as reads
-use Rattle.forms.proofs.flat_head.Lts as lts
-use Rattle.forms.proofs.one_wide.Reads as one-wide-reads
-use Rattle.forms.proofs.two_wide.Reads as two-wide-reads
 
 one-wide-requires : tie.Need-one-wide-requires
 one-wide-requires c κs = search needs

@@ -4,9 +4,6 @@ use Rattle.forms.proofs.Table.{kind-high, kind-past, kind-in}
 use borrow.Author.Needs.{needs}
 use Rattle.forms.proofs.kind.Statement.{statement}
 use Rattle.forms.proofs.kind.Tie as tie
-use Rattle.forms.proofs.kind.Reads as reads
-use Rattle.forms.proofs.kind.Lts as lts
-use Rattle.forms.proofs.place.Reads as place-reads
 
 returns : tie.Need-returns
 returns c = sym (kind-high _ _ (search needs))

@@ -1,7 +1,7 @@
 -- `forms::put_field` meets its contract. Assumes nothing.
-use mathlib.Core.Path.{_≡_, refl, sym, ap, _∙_}
-use mathlib.Core.List.{List, [], _∷_}
-use Prim.Native.Nat.{ℕ, _+_, _/_, _%_, _*_, _-_, _≤_}
+use mathlib.Core.Path.{ap}
+use mathlib.Core.List.{[], _∷_}
+use Prim.Native.Nat.{ℕ}
 use native.Mathlib.Omega.{arith}
 use Rattle.forms.proofs.Puts.{put-as}
 use Rattle.forms.specs.Encode.{bytesOf}
@@ -9,13 +9,6 @@ use Rattle.forms.proofs.Values.{bytes-low, bytes-two, bytes-four}
 use borrow.Author.Needs.{needs}
 use Rattle.forms.proofs.put_field.Statement.{statement}
 use Rattle.forms.proofs.put_field.Tie as tie
-use Rattle.forms.proofs.put_field.Reads as reads
-use Rattle.forms.proofs.put_field.Lts as lts
-use Rattle.forms.proofs.low.Reads as low-reads
-use Rattle.forms.proofs.put.Reads as put-reads
-use Rattle.forms.proofs.put_four.Reads as put-four-reads
-use Rattle.forms.proofs.put_two.Reads as put-two-reads
-use Rattle.forms.proofs.raw.Reads as raw-reads
 
 raw-requires : tie.Need-raw-requires
 raw-requires c κs = search needs
@@ -31,7 +24,7 @@ same-length c = search needs
 
 returns : tie.Need-returns
 unfolding bytesOf
-returns c = 
+returns c =
     put-as 4 (omega arith) (bytes-low _ _ _ _ (c .before .before .before .before .before .if1 .taken) (c .before .before .before .before .before .before .raw .ensures) (ap (λ (b : ℕ). b ∷ []) (c .before .before .before .low .ensures))) (c .before .before .put .ensures)
 
 put-two-requires : tie.Need-put-two-requires
@@ -41,7 +34,7 @@ same-length-2 : tie.Need-same-length-2
 same-length-2 c = search needs
 
 returns-2 : tie.Need-returns-2
-returns-2 c = 
+returns-2 c =
     put-as 4 (omega arith) (bytes-two _ _ _ (c .before .before .before .before .if2 .taken) (c .before .before .before .before .before .before .raw .ensures)) (c .before .before .put-two .ensures)
 
 put-four-requires : tie.Need-put-four-requires
@@ -51,7 +44,7 @@ same-length-3 : tie.Need-same-length-3
 same-length-3 c = search needs
 
 returns-3 : tie.Need-returns-3
-returns-3 c = 
+returns-3 c =
     put-as 4 (omega arith) (bytes-four _ _ _ (omega arith) (c .before .before .before .before .if2 .left) (c .before .before .before .before .before .before .raw .ensures)) (c .before .before .put-four .ensures)
 
 pub put-field-spec : {M : Type 1} → statement M

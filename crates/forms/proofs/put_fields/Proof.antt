@@ -1,21 +1,15 @@
 -- `forms::put_fields` meets its contract. The invariant: what is put and what is left make up the value. Assumes nothing.
 use borrow.Author.Needs.{needs}
 use Rattle.forms.proofs.Puts.{Putting, putting-start, putting-turn, putting-end, putting-most, put-as}
-use mathlib.Core.Path.{_≡_, refl, sym, ap, _∙_}
-use mathlib.Core.List.{List, [], _∷_}
-use Prim.Native.Nat.{ℕ, _+_, _/_, _%_, _*_, _-_, _≤_}
+use mathlib.Core.Path.{ap}
+use Prim.Native.Nat.{ℕ, _+_, _*_, _-_, _≤_}
 use native.Mathlib.Omega.{arith}
 use lib.ListN.{length, take, drop, getD}
-use Rattle.forms.specs.Forms.{kindOf}
 use Rattle.forms.proofs.Puts.{Putting, putting-start, putting-turn, putting-end}
 use Rattle.forms.specs.Encode.{valueFrom, fieldBytes}
 use Rattle.forms.proofs.Values.{value-next, value-none}
 use Rattle.forms.proofs.put_fields.Statement.{statement}
 use Rattle.forms.proofs.put_fields.Tie as tie
-use Rattle.forms.proofs.put_fields.Reads as reads
-use Rattle.forms.proofs.put_fields.Lts as lts
-use Rattle.forms.proofs.kind.Reads as kind-reads
-use Rattle.forms.proofs.put_field.Reads as put-field-reads
 
 abbrev Inv-loop : tie.InvT-loop
 Inv-loop out₀ at tag count numbers to₀ i₀ out to i = Putting out₀ at (valueFrom tag 0 (take count numbers)) (valueFrom tag i (drop i (take count numbers))) (i * 4) to out × (i ≤ count) × (count ≤ 8) × (at + 32 ≤ length out₀)
@@ -36,7 +30,7 @@ array-read-put-field : tie.Need-array-read-put-field Inv-loop μ-loop
 array-read-put-field c = search needs
 
 put-field-requires : tie.Need-put-field-requires Inv-loop μ-loop
-put-field-requires c κs = 
+put-field-requires c κs =
     let l = c .before .before .before .loop .inv in
     omega (arith, l .0 .put .behind, l .0 .put .short, l .0 .put .same, l .1, l .2, l .3)
 
@@ -47,7 +41,7 @@ loop-less : tie.Need-loop-less Inv-loop μ-loop
 loop-less c = search needs
 
 loop-again : tie.Need-loop-again Inv-loop μ-loop
-loop-again c = 
+loop-again c =
     let l = c .before .before .before .before .before .before .loop in
     let a = c .before .before .before .before .before .before .before .before .args in
     let q = put-as 4 (omega arith) (ap (λ (k : ℕ). fieldBytes k (getD (a .t5) (l .i) 0)) (c .before .before .before .kind .ensures)) (c .before .before .put-field .ensures) in
@@ -58,7 +52,7 @@ same-length : tie.Need-same-length Inv-loop μ-loop
 same-length c = c .before .loop .inv .0 .put .same
 
 returns : tie.Need-returns Inv-loop μ-loop
-returns c = 
+returns c =
     let l = c .before .loop in
     let a = c .before .before .before .args in
     putting-end 32 (omega (arith, l .inv .1, l .inv .2)) (value-none (a .tag) (a .count) (l .i) _ (search needs) (l .inv .2) (l .inv .1) (omega arith)) (l .inv .0)

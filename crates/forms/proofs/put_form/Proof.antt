@@ -1,7 +1,6 @@
 -- `forms::put_form` meets its contract. Assumes nothing.
-use mathlib.Core.Path.{_≡_, refl, sym, ap, _∙_}
-use mathlib.Core.List.{List, [], _∷_}
-use Prim.Native.Nat.{ℕ, _+_, _/_, _%_, _*_, _-_, _≤_}
+use mathlib.Core.Path.{_≡_, refl}
+use Prim.Native.Nat.{_-_}
 use native.Mathlib.Omega.{arith}
 use lib.ListN.{length, take}
 use Rattle.forms.proofs.Puts.{put-before, put-byte, put-as}
@@ -9,10 +8,6 @@ use Rattle.forms.specs.Encode.{valueFrom}
 use borrow.Author.Needs.{needs}
 use Rattle.forms.proofs.put_form.Statement.{statement}
 use Rattle.forms.proofs.put_form.Tie as tie
-use Rattle.forms.proofs.put_form.Reads as reads
-use Rattle.forms.proofs.put_form.Lts as lts
-use Rattle.forms.proofs.put.Reads as put-reads
-use Rattle.forms.proofs.put_fields.Reads as put-fields-reads
 
 put-fields-requires : tie.Need-put-fields-requires
 put-fields-requires c κs = search needs
@@ -36,7 +31,7 @@ same-length : tie.Need-same-length
 same-length c = search needs
 
 returns : tie.Need-returns
-returns c = 
+returns c =
     let a = c .before .before .before .before .before .before .before .before .before .before .before .before .before .before .before .before .before .args in
     let p = c .before .before .before .before .before .before .before .before .before .before .before .before .before .before .put-fields .ensures in
     let v = valueFrom (a .tag) 0 (take (a .count) (a .numbers)) in

@@ -4,9 +4,6 @@ use Rattle.forms.specs.Encode.{rawOf}
 use borrow.Author.Needs.{needs}
 use Rattle.forms.proofs.raw.Statement.{statement}
 use Rattle.forms.proofs.raw.Tie as tie
-use Rattle.forms.proofs.raw.Reads as reads
-use Rattle.forms.proofs.raw.Lts as lts
-use Rattle.std.proofs.num.wrapping_add_u32.Reads as wrapping-add-u32-reads
 
 wrapping-add-u32-requires : tie.Need-wrapping-add-u32-requires
 wrapping-add-u32-requires c κs = search needs

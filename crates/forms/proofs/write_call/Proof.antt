@@ -1,16 +1,9 @@
 -- `forms::write_call` meets its contract. Assumes nothing.
-use mathlib.Core.Path.{_≡_, refl, sym, ap, _∙_}
-use mathlib.Core.List.{List, [], _∷_}
-use Prim.Native.Nat.{ℕ, _+_, _/_, _%_, _*_, _-_, _≤_}
-use native.Mathlib.Omega.{arith}
+use mathlib.Core.Path.{sym}
 use Rattle.forms.proofs.Values.{flat-few, encoded-short, encoded-none, encoded-some}
 use borrow.Author.Needs.{needs}
 use Rattle.forms.proofs.write_call.Statement.{statement}
 use Rattle.forms.proofs.write_call.Tie as tie
-use Rattle.forms.proofs.write_call.Reads as reads
-use Rattle.forms.proofs.write_call.Lts as lts
-use Rattle.forms.proofs.flat.Reads as flat-reads
-use Rattle.forms.proofs.put_form.Reads as put-form-reads
 
 returns : tie.Need-returns
 returns c = sym (encoded-short _ _ (search needs))

@@ -1,19 +1,11 @@
 -- `notation::call_of` meets its contract. Assumes nothing.
-use mathlib.Core.Path.{_≡_, refl, sym, ap, _∙_}
+use mathlib.Core.Path.{sym, _∙_}
 use native.Mathlib.Omega.{arith}
 use Rattle.notation.specs.Reading.{callOf}
 use Rattle.notation.proofs.Codes.{call-none, call-later}
 use borrow.Author.Needs.{needs}
 use Rattle.notation.proofs.call_of.Statement.{statement}
 use Rattle.notation.proofs.call_of.Tie as tie
-use Rattle.notation.proofs.call_of.Reads as reads
-use Rattle.notation.proofs.call_of.Lts as lts
-use Rattle.notation.proofs.bid_of.Reads as bid-of-reads
-use Rattle.notation.proofs.head_of.Reads as head-of-reads
-use Rattle.notation.proofs.later_call.Reads as later-call-reads
-use Rattle.notation.proofs.member_of.Reads as member-of-reads
-use Rattle.notation.proofs.pool_of.Reads as pool-of-reads
-use Rattle.notation.proofs.round_of.Reads as round-of-reads
 
 returns : tie.Need-returns
 returns c = sym (call-none _ _ _ (c .if1 .taken))

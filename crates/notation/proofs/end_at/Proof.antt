@@ -1,19 +1,9 @@
 -- `notation::end_at` meets its contract. Assumes nothing.
-use mathlib.Core.Path.{_≡_, refl, sym, ap, _∙_}
-use native.Mathlib.Omega.{arith}
-use borrow.Author.Tests.{eq-eqb, ne-eqb, le-leb, lt-leb, lt-ltb, le-ltb}
+use borrow.Author.Tests.{eq-eqb, ne-eqb}
 use Rattle.notation.specs.Reading.{ended}
 use borrow.Author.Needs.{needs}
 use Rattle.notation.proofs.end_at.Statement.{statement}
 use Rattle.notation.proofs.end_at.Tie as tie
-use Rattle.notation.proofs.end_at.Reads as reads
-use Rattle.notation.proofs.end_at.Lts as lts
-use Rattle.lists.proofs.both.Reads as both-reads
-use Rattle.lists.proofs.either.Reads as either-reads
-use Rattle.notation.proofs.is_complete.Reads as is-complete-reads
-use Rattle.notation.proofs.pick.Reads as pick-reads
-use Rattle.notation.proofs.refuse.Reads as refuse-reads
-use Rattle.notation.proofs.to_phase.Reads as to-phase-reads
 
 returns : tie.Need-returns
 unfolding ended

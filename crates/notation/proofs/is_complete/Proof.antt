@@ -1,15 +1,8 @@
 -- `notation::is_complete` meets its contract. Assumes nothing.
-use mathlib.Core.Path.{_≡_, refl, sym, ap, _∙_}
-use native.Mathlib.Omega.{arith}
 use Rattle.notation.specs.Reading.{complete}
 use borrow.Author.Needs.{needs}
 use Rattle.notation.proofs.is_complete.Statement.{statement}
 use Rattle.notation.proofs.is_complete.Tie as tie
-use Rattle.notation.proofs.is_complete.Reads as reads
-use Rattle.notation.proofs.is_complete.Lts as lts
-use Rattle.forms.proofs.kind.Reads as kind-reads
-use Rattle.lists.proofs.both.Reads as both-reads
-use Rattle.lists.proofs.either.Reads as either-reads
 
 kind-requires : tie.Need-kind-requires
 kind-requires c κs = search needs

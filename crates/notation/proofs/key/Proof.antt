@@ -1,13 +1,9 @@
 -- `notation::key` meets its contract. Assumes nothing.
-use mathlib.Core.Path.{_≡_, refl, sym, ap, _∙_}
-use native.Mathlib.Omega.{arith}
+use mathlib.Core.Path.{sym}
 use Rattle.notation.proofs.Codes.{key-high, key-past, key-in}
 use borrow.Author.Needs.{needs}
 use Rattle.notation.proofs.key.Statement.{statement}
 use Rattle.notation.proofs.key.Tie as tie
-use Rattle.notation.proofs.key.Reads as reads
-use Rattle.notation.proofs.key.Lts as lts
-use Rattle.notation.proofs.place.Reads as place-reads
 
 returns : tie.Need-returns
 returns c = sym (key-high _ _ (search needs))

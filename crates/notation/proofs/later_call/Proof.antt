@@ -1,15 +1,12 @@
 -- `notation::later_call` meets its contract. Assumes nothing.
-use mathlib.Core.Path.{_≡_, refl, sym, ap, _∙_}
+use mathlib.Core.Path.{sym}
 use native.Mathlib.Omega.{arith}
-use borrow.Author.Tests.{eq-eqb, ne-eqb, le-leb, lt-leb, lt-ltb, le-ltb}
+use borrow.Author.Tests.{ne-eqb}
 use Rattle.notation.specs.Reading.{callOf}
 use Rattle.notation.proofs.Codes.{call-6, call-7, call-8, call-9, call-10, call-11, call-12, call-13}
 use borrow.Author.Needs.{needs}
 use Rattle.notation.proofs.later_call.Statement.{statement}
 use Rattle.notation.proofs.later_call.Tie as tie
-use Rattle.notation.proofs.later_call.Reads as reads
-use Rattle.notation.proofs.later_call.Lts as lts
-use Rattle.notation.proofs.one.Reads as one-reads
 
 array-read-one : tie.Need-array-read-one
 array-read-one c = search needs

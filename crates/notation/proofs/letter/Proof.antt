@@ -1,13 +1,9 @@
 -- `notation::letter` meets its contract. Assumes nothing.
-use mathlib.Core.Path.{_≡_, refl, sym, ap, _∙_}
-use native.Mathlib.Omega.{arith}
+use mathlib.Core.Path.{sym}
 use Rattle.notation.proofs.Codes.{letter-low, letter-capital, letter-mid, letter-small, letter-high}
 use borrow.Author.Needs.{needs}
 use Rattle.notation.proofs.letter.Statement.{statement}
 use Rattle.notation.proofs.letter.Tie as tie
-use Rattle.notation.proofs.letter.Reads as reads
-use Rattle.notation.proofs.letter.Lts as lts
-use Rattle.notation.proofs.wide.Reads as wide-reads
 
 wide-requires : tie.Need-wide-requires
 wide-requires c κs = search needs

@@ -1,13 +1,9 @@
 -- `notation::limit` meets its contract. Assumes nothing.
-use mathlib.Core.Path.{_≡_, refl, sym, ap, _∙_}
-use native.Mathlib.Omega.{arith}
+use mathlib.Core.Path.{sym}
 use Rattle.notation.proofs.Codes.{limit-high, limit-small, limit-in}
 use borrow.Author.Needs.{needs}
 use Rattle.notation.proofs.limit.Statement.{statement}
 use Rattle.notation.proofs.limit.Tie as tie
-use Rattle.notation.proofs.limit.Reads as reads
-use Rattle.notation.proofs.limit.Lts as lts
-use Rattle.notation.proofs.place.Reads as place-reads
 
 returns : tie.Need-returns
 returns c = (sym (limit-high _ (search needs)), search needs)

@@ -1,14 +1,8 @@
 -- `notation::member_of` meets its contract. Assumes nothing.
-use mathlib.Core.Path.{_≡_, refl, sym, ap, _∙_}
-use native.Mathlib.Omega.{arith}
 use Rattle.notation.specs.Reading.{callOf}
 use borrow.Author.Needs.{needs}
 use Rattle.notation.proofs.member_of.Statement.{statement}
 use Rattle.notation.proofs.member_of.Tie as tie
-use Rattle.notation.proofs.member_of.Reads as reads
-use Rattle.notation.proofs.member_of.Lts as lts
-use Rattle.notation.proofs.one.Reads as one-reads
-use Rattle.notation.proofs.two.Reads as two-reads
 
 array-read-one : tie.Need-array-read-one
 array-read-one c = search needs

@@ -1,17 +1,8 @@
 -- `notation::more_digits` meets its contract. Assumes nothing.
-use mathlib.Core.Path.{_≡_, refl, sym, ap, _∙_}
-use native.Mathlib.Omega.{arith}
 use Rattle.notation.specs.Reading.{moreDigits}
 use borrow.Author.Needs.{needs}
 use Rattle.notation.proofs.more_digits.Statement.{statement}
 use Rattle.notation.proofs.more_digits.Tie as tie
-use Rattle.notation.proofs.more_digits.Reads as reads
-use Rattle.notation.proofs.more_digits.Lts as lts
-use Rattle.notation.proofs.next_point.Reads as next-point-reads
-use Rattle.notation.proofs.pick.Reads as pick-reads
-use Rattle.notation.proofs.refuse.Reads as refuse-reads
-use Rattle.notation.proofs.with_digit.Reads as with-digit-reads
-use Rattle.notation.proofs.with_value.Reads as with-value-reads
 
 with-digit-requires : tie.Need-with-digit-requires
 with-digit-requires c κs = search needs

@@ -1,13 +1,10 @@
 -- `notation::next_point` meets its contract. Assumes nothing.
-use mathlib.Core.Path.{_≡_, refl, sym, ap, _∙_}
 use native.Mathlib.Omega.{arith}
-use borrow.Author.Tests.{eq-eqb, ne-eqb, le-leb, lt-leb, lt-ltb, le-ltb}
+use borrow.Author.Tests.{eq-eqb, ne-eqb}
 use Rattle.notation.specs.Reading.{nextPoint}
 use borrow.Author.Needs.{needs}
 use Rattle.notation.proofs.next_point.Statement.{statement}
 use Rattle.notation.proofs.next_point.Tie as tie
-use Rattle.notation.proofs.next_point.Reads as reads
-use Rattle.notation.proofs.next_point.Lts as lts
 
 returns : tie.Need-returns
 unfolding nextPoint

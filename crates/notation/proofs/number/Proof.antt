@@ -1,15 +1,8 @@
 -- `notation::number` meets its contract. Assumes nothing.
-use mathlib.Core.Path.{_≡_, refl, sym, ap, _∙_}
-use native.Mathlib.Omega.{arith}
 use Rattle.notation.proofs.Codes.{number-set, number-minus, number-plus, number-plain}
 use borrow.Author.Needs.{needs}
 use Rattle.notation.proofs.number.Statement.{statement}
 use Rattle.notation.proofs.number.Tie as tie
-use Rattle.notation.proofs.number.Reads as reads
-use Rattle.notation.proofs.number.Lts as lts
-use Rattle.notation.proofs.low_four.Reads as low-four-reads
-use Rattle.notation.proofs.low_one.Reads as low-one-reads
-use Rattle.sets.proofs.with.Reads as with-reads
 
 low-one-requires : tie.Need-low-one-requires
 low-one-requires c κs = search needs

@@ -1,16 +1,8 @@
 -- `notation::on_byte` meets its contract. Assumes nothing.
-use mathlib.Core.Path.{_≡_, refl, sym, ap, _∙_}
-use native.Mathlib.Omega.{arith}
 use Rattle.notation.specs.Reading.{byteRead}
 use borrow.Author.Needs.{needs}
 use Rattle.notation.proofs.on_byte.Statement.{statement}
 use Rattle.notation.proofs.on_byte.Tie as tie
-use Rattle.notation.proofs.on_byte.Reads as reads
-use Rattle.notation.proofs.on_byte.Lts as lts
-use Rattle.lists.proofs.either.Reads as either-reads
-use Rattle.notation.proofs.end_at.Reads as end-at-reads
-use Rattle.notation.proofs.on_mark.Reads as on-mark-reads
-use Rattle.notation.proofs.settled.Reads as settled-reads
 
 either-requires : tie.Need-either-requires
 either-requires c κs = search needs

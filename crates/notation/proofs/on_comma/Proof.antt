@@ -1,17 +1,8 @@
 -- `notation::on_comma` meets its contract. Assumes nothing.
-use mathlib.Core.Path.{_≡_, refl, sym, ap, _∙_}
-use native.Mathlib.Omega.{arith}
 use Rattle.notation.specs.Reading.{onComma}
 use borrow.Author.Needs.{needs}
 use Rattle.notation.proofs.on_comma.Statement.{statement}
 use Rattle.notation.proofs.on_comma.Tie as tie
-use Rattle.notation.proofs.on_comma.Reads as reads
-use Rattle.notation.proofs.on_comma.Lts as lts
-use Rattle.forms.proofs.kind.Reads as kind-reads
-use Rattle.lists.proofs.both.Reads as both-reads
-use Rattle.notation.proofs.on_list.Reads as on-list-reads
-use Rattle.notation.proofs.on_member.Reads as on-member-reads
-use Rattle.notation.proofs.settled.Reads as settled-reads
 
 kind-requires : tie.Need-kind-requires
 kind-requires c κs = search needs

@@ -1,19 +1,9 @@
 -- `notation::on_digit` meets its contract. Assumes nothing.
-use mathlib.Core.Path.{_≡_, refl, sym, ap, _∙_}
-use native.Mathlib.Omega.{arith}
-use borrow.Author.Tests.{eq-eqb, ne-eqb, le-leb, lt-leb, lt-ltb, le-ltb}
+use borrow.Author.Tests.{eq-eqb, ne-eqb}
 use Rattle.notation.specs.Reading.{onDigit}
 use borrow.Author.Needs.{needs}
 use Rattle.notation.proofs.on_digit.Statement.{statement}
 use Rattle.notation.proofs.on_digit.Tie as tie
-use Rattle.notation.proofs.on_digit.Reads as reads
-use Rattle.notation.proofs.on_digit.Lts as lts
-use Rattle.forms.proofs.kind.Reads as kind-reads
-use Rattle.lists.proofs.both.Reads as both-reads
-use Rattle.notation.proofs.more_digits.Reads as more-digits-reads
-use Rattle.notation.proofs.pick.Reads as pick-reads
-use Rattle.notation.proofs.refuse.Reads as refuse-reads
-use Rattle.notation.proofs.word.Reads as word-reads
 
 word-requires : tie.Need-word-requires
 word-requires c κs = search needs

@@ -1,20 +1,9 @@
 -- `notation::on_letter` meets its contract. Assumes nothing.
-use mathlib.Core.Path.{_≡_, refl, sym, ap, _∙_}
-use native.Mathlib.Omega.{arith}
-use borrow.Author.Tests.{eq-eqb, ne-eqb, le-leb, lt-leb, lt-ltb, le-ltb}
+use borrow.Author.Tests.{eq-eqb, ne-eqb}
 use Rattle.notation.specs.Reading.{onLetter}
 use borrow.Author.Needs.{needs}
 use Rattle.notation.proofs.on_letter.Statement.{statement}
 use Rattle.notation.proofs.on_letter.Tie as tie
-use Rattle.notation.proofs.on_letter.Reads as reads
-use Rattle.notation.proofs.on_letter.Lts as lts
-use Rattle.lists.proofs.either.Reads as either-reads
-use Rattle.notation.proofs.key.Reads as key-reads
-use Rattle.notation.proofs.pick.Reads as pick-reads
-use Rattle.notation.proofs.refuse.Reads as refuse-reads
-use Rattle.notation.proofs.with_letter.Reads as with-letter-reads
-use Rattle.notation.proofs.with_value.Reads as with-value-reads
-use Rattle.notation.proofs.word.Reads as word-reads
 
 word-requires : tie.Need-word-requires
 word-requires c κs = search needs

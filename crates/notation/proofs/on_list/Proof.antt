@@ -1,19 +1,9 @@
 -- `notation::on_list` meets its contract. Assumes nothing.
-use mathlib.Core.Path.{_≡_, refl, sym, ap, _∙_}
-use native.Mathlib.Omega.{arith}
-use borrow.Author.Tests.{eq-eqb, ne-eqb, le-leb, lt-leb, lt-ltb, le-ltb}
+use borrow.Author.Tests.{eq-eqb, ne-eqb}
 use Rattle.notation.specs.Reading.{onList}
 use borrow.Author.Needs.{needs}
 use Rattle.notation.proofs.on_list.Statement.{statement}
 use Rattle.notation.proofs.on_list.Tie as tie
-use Rattle.notation.proofs.on_list.Reads as reads
-use Rattle.notation.proofs.on_list.Lts as lts
-use Rattle.forms.proofs.kind.Reads as kind-reads
-use Rattle.lists.proofs.both.Reads as both-reads
-use Rattle.notation.proofs.key.Reads as key-reads
-use Rattle.notation.proofs.pick.Reads as pick-reads
-use Rattle.notation.proofs.refuse.Reads as refuse-reads
-use Rattle.notation.proofs.to_phase.Reads as to-phase-reads
 
 returns : tie.Need-returns
 unfolding onList

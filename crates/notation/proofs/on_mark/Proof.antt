@@ -1,25 +1,13 @@
 -- `notation::on_mark` meets its contract. Assumes nothing.
 use lib.Dec.{leb}
-use mathlib.Core.Path.{_≡_, refl, sym, ap, _∙_}
-use native.Mathlib.Omega.{arith}
-use borrow.Author.Tests.{eq-eqb, ne-eqb, le-leb, lt-leb, lt-ltb, le-ltb}
+use mathlib.Core.Path.{sym, _∙_}
+use borrow.Author.Tests.{eq-eqb, ne-eqb}
 use Rattle.notation.specs.Reading.{markRead}
 use Rattle.lists.proofs.Bools.{and-left, and-right}
 use borrow.Author.Tests.{leb-true}
 use borrow.Author.Needs.{needs}
 use Rattle.notation.proofs.on_mark.Statement.{statement}
 use Rattle.notation.proofs.on_mark.Tie as tie
-use Rattle.notation.proofs.on_mark.Reads as reads
-use Rattle.notation.proofs.on_mark.Lts as lts
-use Rattle.lists.proofs.both.Reads as both-reads
-use Rattle.notation.proofs.digit_of.Reads as digit-of-reads
-use Rattle.notation.proofs.letter.Reads as letter-reads
-use Rattle.notation.proofs.on_comma.Reads as on-comma-reads
-use Rattle.notation.proofs.on_digit.Reads as on-digit-reads
-use Rattle.notation.proofs.on_letter.Reads as on-letter-reads
-use Rattle.notation.proofs.on_minus.Reads as on-minus-reads
-use Rattle.notation.proofs.on_point.Reads as on-point-reads
-use Rattle.notation.proofs.refuse.Reads as refuse-reads
 
 on-comma-requires : tie.Need-on-comma-requires
 on-comma-requires c κs = search needs
@@ -46,7 +34,7 @@ both-requires : tie.Need-both-requires
 both-requires c κs = search needs
 
 digit-of-requires : tie.Need-digit-of-requires
-digit-of-requires c κs = 
+digit-of-requires c κs =
     let t = sym (c .before .both .ensures) ∙ c .if4 .taken in
     let b = c .before .before .before .before .before .args .b in
     (leb-true 48 b (and-left (leb 48 b) (leb b 57) t), leb-true b 57 (and-right (leb 48 b) (leb b 57) t))

@@ -1,17 +1,8 @@
 -- `notation::on_member` meets its contract. Assumes nothing.
-use mathlib.Core.Path.{_≡_, refl, sym, ap, _∙_}
-use native.Mathlib.Omega.{arith}
 use Rattle.notation.specs.Reading.{onMember}
 use borrow.Author.Needs.{needs}
 use Rattle.notation.proofs.on_member.Statement.{statement}
 use Rattle.notation.proofs.on_member.Tie as tie
-use Rattle.notation.proofs.on_member.Reads as reads
-use Rattle.notation.proofs.on_member.Lts as lts
-use Rattle.notation.proofs.low_one.Reads as low-one-reads
-use Rattle.notation.proofs.pick.Reads as pick-reads
-use Rattle.notation.proofs.refuse.Reads as refuse-reads
-use Rattle.notation.proofs.with_set.Reads as with-set-reads
-use Rattle.sets.proofs.with.Reads as with-reads
 
 low-one-requires : tie.Need-low-one-requires
 low-one-requires c κs = search needs

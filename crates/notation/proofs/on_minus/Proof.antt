@@ -1,18 +1,8 @@
 -- `notation::on_minus` meets its contract. Assumes nothing.
-use mathlib.Core.Path.{_≡_, refl, sym, ap, _∙_}
-use native.Mathlib.Omega.{arith}
 use Rattle.notation.specs.Reading.{onMinus}
 use borrow.Author.Needs.{needs}
 use Rattle.notation.proofs.on_minus.Statement.{statement}
 use Rattle.notation.proofs.on_minus.Tie as tie
-use Rattle.notation.proofs.on_minus.Reads as reads
-use Rattle.notation.proofs.on_minus.Lts as lts
-use Rattle.forms.proofs.kind.Reads as kind-reads
-use Rattle.lists.proofs.both.Reads as both-reads
-use Rattle.lists.proofs.either.Reads as either-reads
-use Rattle.notation.proofs.pick.Reads as pick-reads
-use Rattle.notation.proofs.refuse.Reads as refuse-reads
-use Rattle.notation.proofs.with_minus.Reads as with-minus-reads
 
 kind-requires : tie.Need-kind-requires
 kind-requires c κs = search needs

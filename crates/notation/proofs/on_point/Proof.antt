@@ -1,17 +1,8 @@
 -- `notation::on_point` meets its contract. Assumes nothing.
-use mathlib.Core.Path.{_≡_, refl, sym, ap, _∙_}
-use native.Mathlib.Omega.{arith}
 use Rattle.notation.specs.Reading.{onPoint}
 use borrow.Author.Needs.{needs}
 use Rattle.notation.proofs.on_point.Statement.{statement}
 use Rattle.notation.proofs.on_point.Tie as tie
-use Rattle.notation.proofs.on_point.Reads as reads
-use Rattle.notation.proofs.on_point.Lts as lts
-use Rattle.forms.proofs.kind.Reads as kind-reads
-use Rattle.lists.proofs.both.Reads as both-reads
-use Rattle.notation.proofs.pick.Reads as pick-reads
-use Rattle.notation.proofs.refuse.Reads as refuse-reads
-use Rattle.notation.proofs.with_value.Reads as with-value-reads
 
 kind-requires : tie.Need-kind-requires
 kind-requires c κs = search needs

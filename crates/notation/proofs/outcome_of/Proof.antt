@@ -1,14 +1,9 @@
 -- `notation::outcome_of` meets its contract. Assumes nothing.
-use mathlib.Core.Path.{_≡_, refl, sym, ap, _∙_}
-use native.Mathlib.Omega.{arith}
-use borrow.Author.Tests.{eq-eqb, ne-eqb, le-leb, lt-leb, lt-ltb, le-ltb}
+use borrow.Author.Tests.{eq-eqb, ne-eqb}
 use Rattle.notation.specs.Reading.{outcome}
 use borrow.Author.Needs.{needs}
 use Rattle.notation.proofs.outcome_of.Statement.{statement}
 use Rattle.notation.proofs.outcome_of.Tie as tie
-use Rattle.notation.proofs.outcome_of.Reads as reads
-use Rattle.notation.proofs.outcome_of.Lts as lts
-use Rattle.notation.proofs.call_of.Reads as call-of-reads
 
 returns : tie.Need-returns
 unfolding outcome

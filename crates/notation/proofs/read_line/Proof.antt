@@ -1,15 +1,7 @@
 -- `notation::read_line` meets its contract. Assumes nothing.
-use mathlib.Core.Path.{_≡_, refl, sym, ap, _∙_}
-use native.Mathlib.Omega.{arith}
-use borrow.Author.Needs.{needs}
 use Rattle.notation.specs.Reading.{readLine}
 use Rattle.notation.proofs.read_line.Statement.{statement}
 use Rattle.notation.proofs.read_line.Tie as tie
-use Rattle.notation.proofs.read_line.Reads as reads
-use Rattle.notation.proofs.read_line.Lts as lts
-use Rattle.notation.proofs.outcome_of.Reads as outcome-of-reads
-use Rattle.notation.proofs.scanned.Reads as scanned-reads
-use Rattle.notation.proofs.stepped.Reads as stepped-reads
 
 scanned-requires : tie.Need-scanned-requires
 scanned-requires c κs = tt

@@ -1,13 +1,8 @@
 -- `notation::round_of` meets its contract. Assumes nothing.
-use mathlib.Core.Path.{_≡_, refl, sym, ap, _∙_}
-use native.Mathlib.Omega.{arith}
 use Rattle.notation.specs.Reading.{callOf}
 use borrow.Author.Needs.{needs}
 use Rattle.notation.proofs.round_of.Statement.{statement}
 use Rattle.notation.proofs.round_of.Tie as tie
-use Rattle.notation.proofs.round_of.Reads as reads
-use Rattle.notation.proofs.round_of.Lts as lts
-use Rattle.notation.proofs.few.Reads as few-reads
 
 few-requires : tie.Need-few-requires
 few-requires c κs = search needs

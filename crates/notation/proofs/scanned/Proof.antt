@@ -1,19 +1,14 @@
 -- `notation::scanned` meets its contract. The invariant: what is read and what is left are the line. Assumes nothing.
 use Rattle.notation.specs.declared.Scan.{Scan}
-use mathlib.Core.Path.{_≡_, refl, sym, ap, _∙_}
-use native.Mathlib.Omega.{arith}
+use mathlib.Core.Path.{_≡_, sym, ap, _∙_}
 use borrow.Author.Needs.{needs}
 use Prim.Native.Nat.{_≤_, _-_}
 use lib.ListN.{length, drop}
 use Rattle.notation.specs.Scans.{begin}
-use Rattle.notation.specs.Reading.{step, scan}
+use Rattle.notation.specs.Reading.{scan}
 use Rattle.notation.proofs.Scanning.{scan-next, scan-end}
 use Rattle.notation.proofs.scanned.Statement.{statement}
 use Rattle.notation.proofs.scanned.Tie as tie
-use Rattle.notation.proofs.scanned.Reads as reads
-use Rattle.notation.proofs.scanned.Lts as lts
-use Rattle.notation.proofs.begun.Reads as begun-reads
-use Rattle.notation.proofs.stepped.Reads as stepped-reads
 
 abbrev Inv-loop : tie.InvT-loop
 Inv-loop line s₀ i₀ s i = (scan s i (drop i line) ≡ scan begin 0 line) × (i ≤ length line)
@@ -40,12 +35,12 @@ loop-less : tie.Need-loop-less Inv-loop μ-loop
 loop-less c = search needs
 
 loop-again : tie.Need-loop-again Inv-loop μ-loop
-loop-again c = 
+loop-again c =
     let l = c .before .before .before .loop in
     (rw (c .stepped .ensures) (scan-next (l .s) (l .i) _ (search needs) ∙ l .inv .0), search needs)
 
 returns : tie.Need-returns Inv-loop μ-loop
-returns c = 
+returns c =
     let l = c .before .loop in
     sym (scan-end (l .s) (l .i) _ (l .inv .1) (search needs)) ∙ l .inv .0
 

@@ -1,16 +1,8 @@
 -- `notation::settle_dash` meets its contract. Assumes nothing.
-use mathlib.Core.Path.{_≡_, refl, sym, ap, _∙_}
-use native.Mathlib.Omega.{arith}
 use Rattle.notation.specs.Reading.{settleDash}
 use borrow.Author.Needs.{needs}
 use Rattle.notation.proofs.settle_dash.Statement.{statement}
 use Rattle.notation.proofs.settle_dash.Tie as tie
-use Rattle.notation.proofs.settle_dash.Reads as reads
-use Rattle.notation.proofs.settle_dash.Lts as lts
-use Rattle.forms.proofs.kind.Reads as kind-reads
-use Rattle.notation.proofs.pick.Reads as pick-reads
-use Rattle.notation.proofs.refuse.Reads as refuse-reads
-use Rattle.notation.proofs.store.Reads as store-reads
 
 kind-requires : tie.Need-kind-requires
 kind-requires c κs = search needs

@@ -1,16 +1,8 @@
 -- `notation::settle_key` meets its contract. Assumes nothing.
-use mathlib.Core.Path.{_≡_, refl, sym, ap, _∙_}
-use native.Mathlib.Omega.{arith}
 use Rattle.notation.specs.Reading.{settleKey}
 use borrow.Author.Needs.{needs}
 use Rattle.notation.proofs.settle_key.Statement.{statement}
 use Rattle.notation.proofs.settle_key.Tie as tie
-use Rattle.notation.proofs.settle_key.Reads as reads
-use Rattle.notation.proofs.settle_key.Lts as lts
-use Rattle.notation.proofs.key.Reads as key-reads
-use Rattle.notation.proofs.pick.Reads as pick-reads
-use Rattle.notation.proofs.refuse.Reads as refuse-reads
-use Rattle.notation.proofs.to_phase.Reads as to-phase-reads
 
 key-requires : tie.Need-key-requires
 key-requires c κs = search needs

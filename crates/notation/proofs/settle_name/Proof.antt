@@ -1,16 +1,8 @@
 -- `notation::settle_name` meets its contract. Assumes nothing.
-use mathlib.Core.Path.{_≡_, refl, sym, ap, _∙_}
-use native.Mathlib.Omega.{arith}
 use Rattle.notation.specs.Reading.{settleName}
 use borrow.Author.Needs.{needs}
 use Rattle.notation.proofs.settle_name.Statement.{statement}
 use Rattle.notation.proofs.settle_name.Tie as tie
-use Rattle.notation.proofs.settle_name.Reads as reads
-use Rattle.notation.proofs.settle_name.Lts as lts
-use Rattle.notation.proofs.pick.Reads as pick-reads
-use Rattle.notation.proofs.refuse.Reads as refuse-reads
-use Rattle.notation.proofs.tag_named.Reads as tag-named-reads
-use Rattle.notation.proofs.with_tag.Reads as with-tag-reads
 
 tag-named-requires : tie.Need-tag-named-requires
 tag-named-requires c κs = search needs

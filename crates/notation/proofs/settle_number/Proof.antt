@@ -1,23 +1,12 @@
 -- `notation::settle_number` meets its contract. Assumes nothing.
 use Prim.Native.Nat.{_≤_}
 use Rattle.notation.proofs.Codes.{one-le}
-use mathlib.Core.Path.{_≡_, refl, sym, ap, _∙_}
 use native.Mathlib.Omega.{arith}
-use borrow.Author.Tests.{eq-eqb, ne-eqb, le-leb, lt-leb, lt-ltb, le-ltb}
-use Rattle.notation.specs.Reading.{settleNumber, limitOf}
-use Rattle.lists.specs.Lists.{oneIf}
+use borrow.Author.Tests.{lt-ltb, le-ltb}
+use Rattle.notation.specs.Reading.{settleNumber}
 use borrow.Author.Needs.{needs}
 use Rattle.notation.proofs.settle_number.Statement.{statement}
 use Rattle.notation.proofs.settle_number.Tie as tie
-use Rattle.notation.proofs.settle_number.Reads as reads
-use Rattle.notation.proofs.settle_number.Lts as lts
-use Rattle.forms.proofs.kind.Reads as kind-reads
-use Rattle.lists.proofs.both.Reads as both-reads
-use Rattle.lists.proofs.one_if.Reads as one-if-reads
-use Rattle.notation.proofs.limit.Reads as limit-reads
-use Rattle.notation.proofs.number.Reads as number-reads
-use Rattle.notation.proofs.refuse.Reads as refuse-reads
-use Rattle.notation.proofs.store.Reads as store-reads
 
 both-requires : tie.Need-both-requires
 both-requires c κs = search needs

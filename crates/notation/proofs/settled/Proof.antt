@@ -1,17 +1,9 @@
 -- `notation::settled` meets its contract. Assumes nothing.
-use mathlib.Core.Path.{_≡_, refl, sym, ap, _∙_}
-use native.Mathlib.Omega.{arith}
-use borrow.Author.Tests.{eq-eqb, ne-eqb, le-leb, lt-leb, lt-ltb, le-ltb}
+use borrow.Author.Tests.{eq-eqb, ne-eqb}
 use Rattle.notation.specs.Reading.{settle}
 use borrow.Author.Needs.{needs}
 use Rattle.notation.proofs.settled.Statement.{statement}
 use Rattle.notation.proofs.settled.Tie as tie
-use Rattle.notation.proofs.settled.Reads as reads
-use Rattle.notation.proofs.settled.Lts as lts
-use Rattle.notation.proofs.settle_dash.Reads as settle-dash-reads
-use Rattle.notation.proofs.settle_key.Reads as settle-key-reads
-use Rattle.notation.proofs.settle_name.Reads as settle-name-reads
-use Rattle.notation.proofs.settle_number.Reads as settle-number-reads
 
 settle-name-requires : tie.Need-settle-name-requires
 settle-name-requires c κs = search needs

@@ -1,14 +1,9 @@
 -- `notation::stepped` meets its contract. Assumes nothing.
-use mathlib.Core.Path.{_≡_, refl, sym, ap, _∙_}
-use native.Mathlib.Omega.{arith}
-use borrow.Author.Tests.{eq-eqb, ne-eqb, le-leb, lt-leb, lt-ltb, le-ltb}
+use borrow.Author.Tests.{le-leb, lt-leb}
 use Rattle.notation.specs.Reading.{step}
 use borrow.Author.Needs.{needs}
 use Rattle.notation.proofs.stepped.Statement.{statement}
 use Rattle.notation.proofs.stepped.Tie as tie
-use Rattle.notation.proofs.stepped.Reads as reads
-use Rattle.notation.proofs.stepped.Lts as lts
-use Rattle.notation.proofs.on_byte.Reads as on-byte-reads
 
 returns : tie.Need-returns
 unfolding step

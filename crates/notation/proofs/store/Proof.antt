@@ -1,13 +1,7 @@
 -- `notation::store` meets its contract. Assumes nothing.
-use mathlib.Core.Path.{_≡_, refl, sym, ap, _∙_}
-use native.Mathlib.Omega.{arith}
 use borrow.Author.Needs.{needs}
 use Rattle.notation.proofs.store.Statement.{statement}
 use Rattle.notation.proofs.store.Tie as tie
-use Rattle.notation.proofs.store.Reads as reads
-use Rattle.notation.proofs.store.Lts as lts
-use Rattle.notation.proofs.next_item.Reads as next-item-reads
-use Rattle.notation.proofs.with_number.Reads as with-number-reads
 
 with-number-requires : tie.Need-with-number-requires
 with-number-requires c κs = search needs

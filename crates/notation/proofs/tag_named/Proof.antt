@@ -1,13 +1,9 @@
 -- `notation::tag_named` meets its contract. Assumes nothing.
-use mathlib.Core.Path.{_≡_, refl, sym, ap, _∙_}
-use native.Mathlib.Omega.{arith}
+use mathlib.Core.Path.{sym}
 use Rattle.notation.proofs.Codes.{named-by}
 use borrow.Author.Needs.{needs}
 use Rattle.notation.proofs.tag_named.Statement.{statement}
 use Rattle.notation.proofs.tag_named.Tie as tie
-use Rattle.notation.proofs.tag_named.Reads as reads
-use Rattle.notation.proofs.tag_named.Lts as lts
-use Rattle.lists.proofs.decline_if.Reads as decline-if-reads
 
 decline-if-requires : tie.Need-decline-if-requires
 decline-if-requires c κs = search needs

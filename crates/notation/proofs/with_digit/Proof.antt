@@ -1,12 +1,9 @@
 -- `notation::with_digit` meets its contract. Assumes nothing.
-use mathlib.Core.Path.{_≡_, refl, sym, ap, _∙_}
-use native.Mathlib.Omega.{arith}
+use mathlib.Core.Path.{sym}
 use Rattle.notation.proofs.Codes.{grown-short, grown-long}
 use borrow.Author.Needs.{needs}
 use Rattle.notation.proofs.with_digit.Statement.{statement}
 use Rattle.notation.proofs.with_digit.Tie as tie
-use Rattle.notation.proofs.with_digit.Reads as reads
-use Rattle.notation.proofs.with_digit.Lts as lts
 
 mul-result : tie.Need-mul-result
 mul-result c = search needs

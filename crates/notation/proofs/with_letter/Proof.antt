@@ -1,12 +1,9 @@
 -- `notation::with_letter` meets its contract. Assumes nothing.
-use mathlib.Core.Path.{_≡_, refl, sym, ap, _∙_}
-use native.Mathlib.Omega.{arith}
+use mathlib.Core.Path.{sym}
 use Rattle.notation.proofs.Codes.{grown-short, grown-long}
 use borrow.Author.Needs.{needs}
 use Rattle.notation.proofs.with_letter.Statement.{statement}
 use Rattle.notation.proofs.with_letter.Tie as tie
-use Rattle.notation.proofs.with_letter.Reads as reads
-use Rattle.notation.proofs.with_letter.Lts as lts
 
 mul-result : tie.Need-mul-result
 mul-result c = search needs

@@ -1,12 +1,9 @@
 -- `notation::with_number` meets its contract. Assumes nothing.
-use mathlib.Core.Path.{_≡_, refl, sym, ap, _∙_}
-use native.Mathlib.Omega.{arith}
+use mathlib.Core.Path.{sym}
 use lib.Seq.{set-out}
 use borrow.Author.Needs.{needs}
 use Rattle.notation.proofs.with_number.Statement.{statement}
 use Rattle.notation.proofs.with_number.Tie as tie
-use Rattle.notation.proofs.with_number.Reads as reads
-use Rattle.notation.proofs.with_number.Lts as lts
 
 returns : tie.Need-returns
 returns c = sym (set-out _ _ _ (search needs))

@@ -1,20 +1,12 @@
 -- `spelling::put_money` meets its contract. Assumes nothing.
-use mathlib.Core.Path.{_≡_, refl, sym, ap, _∙_}
-use mathlib.Core.List.{List, [], _∷_, _++_}
-use Prim.Native.Nat.{ℕ, suc, _+_, _/_, _%_, _*_, _-_, _≤_, _<_, _^_}
-use native.Mathlib.Omega.{arith}
-use native.Mathlib.Numerals.{add-one}
+use mathlib.Core.List.{[], _∷_}
+use Prim.Native.Nat.{_+_, _/_, _%_}
 use Rattle.forms.proofs.Puts.{put-then}
 use Rattle.machine.specs.Printed.{decimal}
-use Rattle.spelling.specs.Text.{moneyText, moreText, membersText, numberText}
+use Rattle.spelling.specs.Text.{moneyText}
 use borrow.Author.Needs.{needs}
 use Rattle.spelling.proofs.put_money.Statement.{statement}
 use Rattle.spelling.proofs.put_money.Tie as tie
-use Rattle.spelling.proofs.put_money.Reads as reads
-use Rattle.spelling.proofs.put_money.Lts as lts
-use Rattle.forms.proofs.put.Reads as put-reads
-use Rattle.spelling.proofs.put_decimal.Reads as put-decimal-reads
-use Rattle.spelling.proofs.put_digit.Reads as put-digit-reads
 
 put-decimal-requires : tie.Need-put-decimal-requires
 put-decimal-requires c κs = search needs
@@ -33,7 +25,7 @@ same-length c = search needs
 
 returns : tie.Need-returns
 unfolding moneyText
-returns c = 
+returns c =
     let n = c .before .before .before .before .before .before .before .before .before .before .before .before .before .before .before .before .before .args .n in
     put-then (decimal 20 (n / 100)) (46 ∷ (48 + n / 10 % 10) ∷ (48 + n % 10) ∷ []) (c .before .before .before .before .before .before .before .before .before .before .before .before .before .before .put-decimal .ensures)
     (put-then (46 ∷ []) ((48 + n / 10 % 10) ∷ (48 + n % 10) ∷ []) (c .before .before .before .before .before .before .before .before .before .before .put .ensures)

@@ -1,20 +1,10 @@
 -- `spelling::put_number` meets its contract. Assumes nothing.
-use mathlib.Core.Path.{_≡_, refl, sym, ap, _∙_}
-use mathlib.Core.List.{List, [], _∷_, _++_}
-use Prim.Native.Nat.{ℕ, suc, _+_, _/_, _%_, _*_, _-_, _≤_, _<_, _^_}
 use native.Mathlib.Omega.{arith}
-use native.Mathlib.Numerals.{add-one}
 use Rattle.forms.proofs.Puts.{put-as}
 use Rattle.spelling.proofs.Texts.{number-low, number-set, number-money, number-price}
 use borrow.Author.Needs.{needs}
 use Rattle.spelling.proofs.put_number.Statement.{statement}
 use Rattle.spelling.proofs.put_number.Tie as tie
-use Rattle.spelling.proofs.put_number.Reads as reads
-use Rattle.spelling.proofs.put_number.Lts as lts
-use Rattle.spelling.proofs.put_decimal.Reads as put-decimal-reads
-use Rattle.spelling.proofs.put_members.Reads as put-members-reads
-use Rattle.spelling.proofs.put_money.Reads as put-money-reads
-use Rattle.spelling.proofs.put_price.Reads as put-price-reads
 
 put-decimal-requires : tie.Need-put-decimal-requires
 put-decimal-requires c κs = search needs

@@ -1,18 +1,10 @@
 -- `spelling::put_price` meets its contract. Assumes nothing.
-use mathlib.Core.Path.{_≡_, refl, sym, ap, _∙_}
-use mathlib.Core.List.{List, [], _∷_, _++_}
-use Prim.Native.Nat.{ℕ, suc, _+_, _/_, _%_, _*_, _-_, _≤_, _<_, _^_}
 use native.Mathlib.Omega.{arith}
-use native.Mathlib.Numerals.{add-one}
 use Rattle.forms.proofs.Puts.{put-as}
 use Rattle.spelling.proofs.Texts.{price-low, price-mid, price-high}
 use borrow.Author.Needs.{needs}
 use Rattle.spelling.proofs.put_price.Statement.{statement}
 use Rattle.spelling.proofs.put_price.Tie as tie
-use Rattle.spelling.proofs.put_price.Reads as reads
-use Rattle.spelling.proofs.put_price.Lts as lts
-use Rattle.spelling.proofs.put_money.Reads as put-money-reads
-use Rattle.spelling.proofs.put_negative.Reads as put-negative-reads
 
 sub-put-negative : tie.Need-sub-put-negative
 sub-put-negative c = search needs

@@ -1,18 +1,10 @@
 -- `spelling::write_text` meets its contract. Assumes nothing.
-use mathlib.Core.Path.{_≡_, refl, sym, ap, _∙_}
-use mathlib.Core.List.{List, [], _∷_, _++_}
-use Prim.Native.Nat.{ℕ, suc, _+_, _/_, _%_, _*_, _-_, _≤_, _<_, _^_}
-use native.Mathlib.Omega.{arith}
-use native.Mathlib.Numerals.{add-one}
+use mathlib.Core.Path.{sym}
 use Rattle.forms.proofs.Values.{flat-few}
 use Rattle.spelling.proofs.Texts.{tag-small, line-short, line-none, line-some}
 use borrow.Author.Needs.{needs}
 use Rattle.spelling.proofs.write_text.Statement.{statement}
 use Rattle.spelling.proofs.write_text.Tie as tie
-use Rattle.spelling.proofs.write_text.Reads as reads
-use Rattle.spelling.proofs.write_text.Lts as lts
-use Rattle.forms.proofs.flat.Reads as flat-reads
-use Rattle.spelling.proofs.put_form.Reads as put-form-reads
 
 returns : tie.Need-returns
 returns c = sym (line-short _ _ (search needs))
