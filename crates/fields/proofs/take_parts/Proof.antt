@@ -1,0 +1,56 @@
+-- `fields::take_parts` is safe and ends. Assumes nothing.
+use mathlib.Core.Path.{_≡_}
+use Prim.Native.Nat.{_-_, _≤_, _<_}
+use lib.ListN.{length}
+use borrow.Author.Needs.{needs}
+use Rattle.fields.proofs.take_parts.Statement.{statement}
+use Rattle.fields.proofs.take_parts.Tie as tie
+
+abbrev Inv-loop : tie.InvT-loop
+Inv-loop first buf got field₀ out₀ n₀ i₀ field out n i = (n < 65538) × (65538 ≤ length field) × (length field ≡ length field₀) × (length out ≡ length out₀)
+
+abbrev μ-loop : tie.MeasureT-loop
+μ-loop first buf got field₀ out₀ n₀ i₀ field out n i = got - i
+
+loop-holds : tie.Need-loop-holds Inv-loop μ-loop
+loop-holds c = search needs
+
+shared-slice-read-take-part : tie.Need-shared-slice-read-take-part Inv-loop μ-loop
+shared-slice-read-take-part c = search needs
+
+take-part-requires : tie.Need-take-part-requires Inv-loop μ-loop
+take-part-requires c κs = search needs
+
+add-i : tie.Need-add-i Inv-loop μ-loop
+add-i c = search needs
+
+loop-less : tie.Need-loop-less Inv-loop μ-loop
+loop-less c = search needs
+
+loop-again : tie.Need-loop-again Inv-loop μ-loop
+loop-again c = search needs
+
+same-length : tie.Need-same-length Inv-loop μ-loop
+same-length c = search needs
+
+same-length-2 : tie.Need-same-length-2 Inv-loop μ-loop
+same-length-2 c = search needs
+
+returns : tie.Need-returns Inv-loop μ-loop
+returns c = search needs
+
+pub take-parts-spec : {M : Type 1} → statement M
+take-parts-spec =
+    tie.close
+    (tie.spec
+    Inv-loop
+    μ-loop
+    loop-holds
+    shared-slice-read-take-part
+    take-part-requires
+    add-i
+    loop-less
+    loop-again
+    same-length
+    same-length-2
+    returns)

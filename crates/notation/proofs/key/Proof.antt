@@ -1,0 +1,35 @@
+-- `notation::key` meets its contract. Assumes nothing.
+use mathlib.Core.Path.{sym}
+use Rattle.notation.proofs.Codes.{key-high, key-past, key-in}
+use borrow.Author.Needs.{needs}
+use Rattle.notation.proofs.key.Statement.{statement}
+use Rattle.notation.proofs.key.Tie as tie
+
+returns : tie.Need-returns
+returns c = sym (key-high _ _ (search needs))
+
+returns-2 : tie.Need-returns-2
+returns-2 c = sym (key-past _ _ (search needs) (search needs))
+
+place-requires : tie.Need-place-requires
+place-requires c κs = search needs
+
+mul-k : tie.Need-mul-k
+mul-k c = search needs
+
+add-k : tie.Need-add-k
+add-k c = search needs
+
+mul-result : tie.Need-mul-result
+mul-result c = search needs
+
+array-read-result : tie.Need-array-read-result
+array-read-result c = search needs
+
+returns-3 : tie.Need-returns-3
+returns-3 c = rw (c .place .ensures .0) (sym (key-in (c .before .before .before .args .tag) (c .before .before .before .args .i) (search needs) (search needs)))
+
+pub key-spec : {M : Type 1} → statement M
+key-spec =
+    tie.close
+    (tie.spec returns returns-2 place-requires mul-k add-k mul-result array-read-result returns-3)

@@ -1,0 +1,20 @@
+-- `notation::stepped` meets its contract. Assumes nothing.
+use borrow.Author.Tests.{le-leb, lt-leb}
+use Rattle.notation.specs.Reading.{step}
+use borrow.Author.Needs.{needs}
+use Rattle.notation.proofs.stepped.Statement.{statement}
+use Rattle.notation.proofs.stepped.Tie as tie
+
+returns : tie.Need-returns
+unfolding step
+returns c = rw (le-leb _ _ (c .if1 .taken))
+
+on-byte-requires : tie.Need-on-byte-requires
+on-byte-requires c κs = search needs
+
+returns-2 : tie.Need-returns-2
+unfolding step
+returns-2 c = rw (lt-leb _ _ (c .before .if1 .left)) (c .on-byte .ensures)
+
+pub stepped-spec : {M : Type 1} → statement M
+stepped-spec = tie.close (tie.spec returns on-byte-requires returns-2)

@@ -1,0 +1,21 @@
+-- `notation::with_digit` meets its contract. Assumes nothing.
+use mathlib.Core.Path.{sym}
+use Rattle.notation.proofs.Codes.{grown-short, grown-long}
+use borrow.Author.Needs.{needs}
+use Rattle.notation.proofs.with_digit.Statement.{statement}
+use Rattle.notation.proofs.with_digit.Tie as tie
+
+mul-result : tie.Need-mul-result
+mul-result c = search needs
+
+add-result : tie.Need-add-result
+add-result c = search needs
+
+returns : tie.Need-returns
+returns c = sym (grown-short 10 _ _ (search needs))
+
+returns-2 : tie.Need-returns-2
+returns-2 c = sym (grown-long 10 _ _ (search needs))
+
+pub with-digit-spec : {M : Type 1} → statement M
+with-digit-spec = tie.close (tie.spec mul-result add-result returns returns-2)
