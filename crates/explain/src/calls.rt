@@ -2,17 +2,22 @@
 use wire::Call;
 use wire::Head;
 
+// The losses and the money of HEAD.
+fn write_amounts(h: Head, out: &mut [u8], at: usize) -> usize {
+    let hedge = words::named_money(out, at, b" hedge ", h.hedge as u64);
+    let other = words::named_money(out, hedge, b" other ", h.other as u64);
+    let margin = words::named_money(out, other, b" margin ", h.margin as u64);
+    let fund = words::named_money(out, margin, b" fund ", h.fund as u64);
+    words::named_money(out, fund, b" house ", h.house as u64)
+}
+
 // HEAD
 fn write_head(h: Head, out: &mut [u8], at: usize) -> usize {
     let pools = words::named(out, at, b"HEAD pools ", h.pools as u64);
     let least = words::named(out, pools, b" least ", h.least as u64);
     let word = words::put(out, least, b" members ");
     let set = words::members(out, word, h.set);
-    let hedge = words::named_money(out, set, b" hedge ", h.hedge as u64);
-    let other = words::named_money(out, hedge, b" other ", h.other as u64);
-    let margin = words::named_money(out, other, b" margin ", h.margin as u64);
-    let fund = words::named_money(out, margin, b" fund ", h.fund as u64);
-    words::named_money(out, fund, b" house ", h.house as u64)
+    write_amounts(h, out, set)
 }
 
 // POOL
@@ -78,12 +83,17 @@ fn write_pay(member: u8, amount: u32, out: &mut [u8], at: usize) -> usize {
     words::named_money(out, named, b" amount ", amount as u64)
 }
 
+// A byte as a wider number.
+pub fn wide(b: u8) -> u64 {
+    b as u64
+}
+
 // Bytes that are no call: their tag and how many bytes of value follow.
 fn write_unknown(bytes: &[u8], out: &mut [u8], at: usize) -> usize {
     if bytes.len() < 3 {
         return words::put(out, at, b"cut off");
     }
-    let named = words::named(out, at, b"tag ", bytes[0] as u64);
+    let named = words::named(out, at, b"tag ", wide(bytes[0]));
     words::named(out, named, b", bytes ", (bytes.len() - 3) as u64)
 }
 

@@ -149,7 +149,7 @@ fn write_cut(rest: &[u8], out: &mut [u8], at: usize) -> usize {
     if rest.len() == 0 {
         return at;
     }
-    let tag = words::named(out, at, b"cut off, tag ", rest[0] as u64);
+    let tag = words::named(out, at, b"cut off, tag ", calls::wide(rest[0]));
     let size = words::named(out, tag, b", bytes ", rest.len() as u64);
     let named = paper::end_line(out, size);
     let said = words::put(

@@ -1,14 +1,16 @@
 // The tables at the end: pools, the loss and its six layers, members, and the units held by member, pool and price. Each has a row of totals.
-ghost use Prim.Native.Nat.{_≤_};
+ghost use Prim.Native.Nat.{_≤_, _<_};
+use crate::paper::end_line;
+use crate::paper::line;
+use accounts::members::Members;
 use accounts::members::over_pools;
 use book::Book;
 use book::Result;
 use case::Case;
 use case::Held;
-use crate::paper::end_line;
-use crate::paper::line;
 use roll::Entry;
 use roll::EntryState;
+use wire::Head;
 use words::difference;
 use words::money_right;
 use words::number_right;
@@ -156,17 +158,21 @@ fn named_amount(name: &[u8], cents: u64, out: &mut [u8], at: usize) -> usize {
     end_line(out, to)
 }
 
+// The prices of the units not open, together.
+fn write_prices(book: Book, out: &mut [u8], at: usize) -> usize {
+    let named = words::left(out, at, 34, b"  less prices of units not open");
+    let units = lists::smaller(book.priced(), 16_000);
+    let to = money_right(out, named, 15, difference(book.prices(), 1_000_000 * units));
+    end_line(out, to)
+}
+
 // How the requirement comes about.
 fn write_requirement(book: Book, out: &mut [u8], at: usize) -> usize {
     let head = book.head;
     let title = line(out, at, b"\nLoss");
     let hedge = named_amount(b"  hedge loss", head.hedge as u64, out, title);
     let other = named_amount(b"  other loss", head.other as u64, out, hedge);
-    let named = words::left(out, other, 34, b"  less the prices of units not open");
-    let prices = lists::smaller(book.prices(), 8_000_000_000_000);
-    let units = lists::smaller(book.priced(), 16_000);
-    let to = money_right(out, named, 14, difference(prices, 1_000_000 * units));
-    let less = end_line(out, to);
+    let less = write_prices(book, out, other);
     named_amount(b"  requirement, at least 0", book.requirement(), out, less)
 }
 
@@ -184,22 +190,63 @@ fn layer_row(name: &[u8], limit: u64, charged: u64, out: &mut [u8], at: usize) -
     end_line(out, left)
 }
 
+// The first three layers.
+fn first_layers(head: Head, charges: [u64; 6], out: &mut [u8], at: usize) -> usize {
+    let tranche = first_tranche(head.house);
+    let one = layer_row(
+        b"  1 defaulter's margin",
+        head.margin as u64,
+        charges[0],
+        out,
+        at,
+    );
+    let two = layer_row(
+        b"  2 defaulter's fund",
+        head.fund as u64,
+        charges[1],
+        out,
+        one,
+    );
+    layer_row(
+        b"  3 house money, first tranche",
+        tranche,
+        charges[2],
+        out,
+        two,
+    )
+}
+
+// The last three layers; the contributions and the payments are given.
+fn last_layers(
+    head: Head,
+    charges: [u64; 6],
+    funds: u64,
+    paid: u64,
+    out: &mut [u8],
+    at: usize,
+) -> usize {
+    let tranche = lists::less(head.house as u64, first_tranche(head.house));
+    let four = layer_row(b"  4 members' contributions", funds, charges[3], out, at);
+    let five = layer_row(
+        b"  5 house money, second tranche",
+        tranche,
+        charges[4],
+        out,
+        four,
+    );
+    layer_row(b"  6 members' payments", paid, charges[5], out, five)
+}
+
 // The six layers.
 fn write_layers(book: Book, result: Result, out: &mut [u8], at: usize) -> usize {
     let head = book.head;
     let members = book.members;
     let charges = result.charges;
-    let paid = accounts::members::amounts(members.paid);
-    let funds = book.contributions();
-    let first = first_tranche(head.house);
-    let second = lists::less(head.house as u64, first);
-    let one = layer_row(b"  1 defaulter's margin", head.margin as u64, charges[0], out, at);
-    let two = layer_row(b"  2 defaulter's fund", head.fund as u64, charges[1], out, one);
-    let three = layer_row(b"  3 house money, first tranche", first, charges[2], out, two);
-    let four = layer_row(b"  4 members' contributions", funds, charges[3], out, three);
-    let five = layer_row(b"  5 house money, second tranche", second, charges[4], out, four);
-    let six = layer_row(b"  6 members' payments", paid, charges[5], out, five);
-    layers_total(plus(book.prefunded(), paid), result, out, six)
+    let payments = members.paid;
+    let paid = accounts::members::amounts(payments);
+    let first = first_layers(head, charges, out, at);
+    let last = last_layers(head, charges, book.contributions(), paid, out, first);
+    layers_total(plus(book.prefunded(), paid), result, out, last)
 }
 
 // The six charges together.
@@ -244,92 +291,130 @@ fn units_row(won: u64, expected: u64, out: &mut [u8], at: usize) -> usize {
     words::difference_right(out, second, 9, won, expected)
 }
 
-// Contribution, what is charged on it, payments, and what is charged on them.
-fn money_row(
-    contribution: u64,
-    charged: u64,
-    paid: u64,
-    taken: u64,
-    out: &mut [u8],
-    at: usize,
-) -> usize {
-    let first = amount(out, at, contribution);
-    let second = amount(out, first, charged);
-    let third = amount(out, second, paid);
-    let fourth = amount(out, third, taken);
+// Four amounts in columns.
+fn money_row(a: u64, b: u64, c: u64, d: u64, out: &mut [u8], at: usize) -> usize {
+    let first = amount(out, at, a);
+    let second = amount(out, first, b);
+    let third = amount(out, second, c);
+    let fourth = amount(out, third, d);
     end_line(out, fourth)
 }
 
-// The row of a member.
-fn member_row(book: Book, result: Result, m: u8, out: &mut [u8], at: usize) -> usize {
-    let members = book.members;
-    let won = over_pools(members.won);
-    let expected = over_pools(members.expected);
-    let named = number_right(out, at, 8, m as u64);
-    let units = units_row(number_at(won, m), number_at(expected, m), out, named);
-    let ranked = number_right(out, units, 7, rank_at(result.ranks, m));
+// The units won and expected, and the excess, of a member.
+fn member_units(members: Members, m: u8, out: &mut [u8], at: usize) -> usize {
+    let table = members.won;
+    let won = over_pools(table);
+    let other = members.expected;
+    let expected = over_pools(other);
+    units_row(number_at(won, m), number_at(expected, m), out, at)
+}
+
+// The money of a member, and what is charged of it.
+fn member_money(members: Members, result: Result, m: u8, out: &mut [u8], at: usize) -> usize {
+    let contribution = members.contribution;
+    let paid = members.paid;
+    let charged = result.contributions;
+    let taken = result.payments;
     money_row(
-        number_at(members.contribution, m),
-        number_at(result.contributions, m),
-        number_at(members.paid, m),
-        number_at(result.payments, m),
+        number_at(contribution, m),
+        number_at(charged, m),
+        number_at(paid, m),
+        number_at(taken, m),
         out,
-        ranked,
+        at,
+    )
+}
+
+// The row of a member, where it is in the set.
+fn member_row(
+    members: Members,
+    result: Result,
+    m: u8,
+    given: bool,
+    out: &mut [u8],
+    at: usize,
+) -> usize {
+    if !given {
+        return at;
+    }
+    let ranks = result.ranks;
+    let named = number_right(out, at, 8, m as u64);
+    let units = member_units(members, m, out, named);
+    let ranked = number_right(out, units, 7, rank_at(ranks, m));
+    member_money(members, result, m, out, ranked)
+}
+
+// The units won and expected by all members, and the excess.
+fn units_total(members: Members, out: &mut [u8], at: usize) -> usize {
+    let table = members.won;
+    let won = over_pools(table);
+    let other = members.expected;
+    let expected = over_pools(other);
+    units_row(sum_of(won), sum_of(expected), out, at)
+}
+
+// The money of all members, and what is charged of it.
+fn money_total(members: Members, result: Result, out: &mut [u8], at: usize) -> usize {
+    let contribution = members.contribution;
+    let paid = members.paid;
+    let charged = result.contributions;
+    let taken = result.payments;
+    money_row(
+        sum_of(contribution),
+        sum_of(charged),
+        sum_of(paid),
+        sum_of(taken),
+        out,
+        at,
     )
 }
 
 // The row of totals of the members.
-fn members_total(book: Book, result: Result, out: &mut [u8], at: usize) -> usize {
-    let members = book.members;
-    let won = sum_of(over_pools(members.won));
-    let expected = sum_of(over_pools(members.expected));
+fn members_total(members: Members, result: Result, out: &mut [u8], at: usize) -> usize {
     let named = words::right(out, at, 8, b"total");
-    let units = units_row(won, expected, out, named);
+    let units = units_total(members, out, named);
     let ranked = words::spaces(out, units, 7);
-    money_row(
-        sum_of(members.contribution),
-        sum_of(result.contributions),
-        sum_of(members.paid),
-        sum_of(result.payments),
-        out,
-        ranked,
-    )
+    money_total(members, result, out, ranked)
 }
 
 // The rows of a set's members.
-fn member_rows(book: Book, result: Result, set: u32, out: &mut [u8], at: usize) -> usize {
+fn member_rows(members: Members, result: Result, set: u32, out: &mut [u8], at: usize) -> usize {
     let mut to = at;
-    let mut left = set;
-    while left != 0 {
-        let m = sets::next(left) as u8;
-        left = sets::without_least(left);
-        to = member_row(book, result, m, out, to);
+    let mut m: u8 = 0;
+    while m < 32 {
+        to = member_row(members, result, m, sets::has(set, m), out, to);
+        m += 1;
     }
     to
 }
 
 // The row of a member before FINISH, when nothing is charged and nobody is ranked.
-fn early_row(book: Book, m: u8, out: &mut [u8], at: usize) -> usize {
-    let members = book.members;
-    let won = over_pools(members.won);
-    let expected = over_pools(members.expected);
+fn early_row(members: Members, m: u8, given: bool, out: &mut [u8], at: usize) -> usize {
+    if !given {
+        return at;
+    }
+    let contribution = members.contribution;
+    let called = members.called;
+    let paid = members.paid;
     let named = number_right(out, at, 8, m as u64);
-    let units = units_row(number_at(won, m), number_at(expected, m), out, named);
-    let contribution = amount(out, units, number_at(members.contribution, m));
-    let called = amount(out, contribution, number_at(members.called, m));
-    let paid = amount(out, called, number_at(members.paid, m));
-    let owed = amount(out, paid, members.owes(m));
-    end_line(out, owed)
+    let units = member_units(members, m, out, named);
+    money_row(
+        number_at(contribution, m),
+        number_at(called, m),
+        number_at(paid, m),
+        members.owes(m),
+        out,
+        units,
+    )
 }
 
 // The rows of a set's members before FINISH.
-fn early_rows(book: Book, set: u32, out: &mut [u8], at: usize) -> usize {
+fn early_rows(members: Members, set: u32, out: &mut [u8], at: usize) -> usize {
     let mut to = at;
-    let mut left = set;
-    while left != 0 {
-        let m = sets::next(left) as u8;
-        left = sets::without_least(left);
-        to = early_row(book, m, out, to);
+    let mut m: u8 = 0;
+    while m < 32 {
+        to = early_row(members, m, sets::has(set, m), out, to);
+        m += 1;
     }
     to
 }
@@ -337,6 +422,7 @@ fn early_rows(book: Book, set: u32, out: &mut [u8], at: usize) -> usize {
 // The table of the members.
 fn write_members(book: Book, out: &mut [u8], at: usize) -> usize {
     let head = book.head;
+    let members = book.members;
     let title = line(out, at, b"\nMembers");
     if book::letter(book.phase) != 5 {
         let heads = line(
@@ -344,7 +430,7 @@ fn write_members(book: Book, out: &mut [u8], at: usize) -> usize {
             title,
             b"  member     won  expected   excess   contribution         called           paid           owes",
         );
-        return early_rows(book, head.set, out, heads);
+        return early_rows(members, head.set, out, heads);
     }
     let heads = line(
         out,
@@ -352,8 +438,8 @@ fn write_members(book: Book, out: &mut [u8], at: usize) -> usize {
         b"  member     won  expected   excess   rank   contribution        charged           paid        charged",
     );
     let result = book.result();
-    let rows = member_rows(book, result, head.set, out, heads);
-    members_total(book, result, out, rows)
+    let rows = member_rows(members, result, head.set, out, heads);
+    members_total(members, result, out, rows)
 }
 
 // ---- units held
@@ -403,6 +489,13 @@ fn lesser(price: u32, first: u32, best: u32) -> u32 {
     if price < best { price } else { best }
 }
 
+// How many entries count: at most all.
+fn counted(len: usize) -> usize
+    ensures { λ r. ⌜ r ≤ 4000 ⌝ }
+{
+    if len < 4000 { len } else { 4000 }
+}
+
 // The least price, from a first one on, at which a member holds units of a pool; 2,000,001 where there is none.
 fn next_price(case: Case, m: u8, pool: u8, first: u32) -> u32 {
     let roll = case.roll;
@@ -410,16 +503,20 @@ fn next_price(case: Case, m: u8, pool: u8, first: u32) -> u32 {
     let bids = book.bids;
     let members = bids.member;
     let prices = bids.price;
+    let n = counted(roll.len);
     let mut best: u32 = 2_000_001;
     let mut i: usize = 0;
-    while i < 4000 {
-        if i < roll.len {
-            let e = roll.entries[i];
-            best = lesser(held_price(e, m, pool, &members, &prices), first, best);
-        }
+    while i < n {
+        let e = roll.entries[i];
+        best = lesser(held_price(e, m, pool, &members, &prices), first, best);
         i += 1;
     }
     best
+}
+
+// Units times their price, the units held to those of a case, the price to the prices.
+fn worth(units: u64, price: u32) -> u64 {
+    lists::smaller(units, 4_000) * lists::smaller(price as u64, 2_000_001)
 }
 
 // A row of the units held at a price.
@@ -428,14 +525,13 @@ fn held_row(m: u8, pool: u8, price: u32, units: u64, out: &mut [u8], at: usize) 
     let kept = number_right(out, named, 8, pool as u64);
     let priced = money_right(out, kept, 15, words::price(price));
     let counted = number_right(out, priced, 10, units);
-    let few = lists::smaller(units, 4_000);
-    let worth = money_right(
+    let amounted = money_right(
         out,
         counted,
         15,
-        difference(few * price as u64, few * 1_000_000),
+        difference(worth(units, price), worth(units, 1_000_000)),
     );
-    end_line(out, worth)
+    end_line(out, amounted)
 }
 
 // The rows of a member's units in a pool, by price.
@@ -449,17 +545,20 @@ fn price_rows(case: Case, m: u8, pool: u8, rows: Rows, out: &mut [u8]) -> Rows {
         if 2_000_000 < price {
             return Rows { at, units, prices };
         }
-        let n = lists::smaller(case.holding(m, pool, price), 4_000);
+        let n = case.holding(m, pool, price);
         at = held_row(m, pool, price, n, out, at);
         units = plus(units, n);
-        prices = plus(prices, n * price as u64);
+        prices = plus(prices, worth(n, price));
         first = after(price, first);
     }
     Rows { at, units, prices }
 }
 
 // The price behind a price, and above the first in any case.
-fn after(price: u32, first: u32) -> u32 {
+fn after(price: u32, first: u32) -> u32
+    requires { ⌜ first ≤ 2000000 ⌝ }
+    ensures { λ r. ⌜ (first < r) × (r ≤ 2000001) ⌝ }
+{
     if price < first {
         return 2_000_001;
     }
@@ -478,14 +577,22 @@ fn pool_rows(case: Case, m: u8, rows: Rows, out: &mut [u8]) -> Rows {
     price_rows(case, m, 3, third, out)
 }
 
+// The rows of a member's units, where it is in the set.
+fn rows_if(given: bool, case: Case, m: u8, rows: Rows, out: &mut [u8]) -> Rows {
+    if given {
+        pool_rows(case, m, rows, out)
+    } else {
+        rows
+    }
+}
+
 // The rows of the units of a set's members.
 fn held_rows(case: Case, set: u32, rows: Rows, out: &mut [u8]) -> Rows {
     let mut next = rows;
-    let mut left = set;
-    while left != 0 {
-        let m = sets::next(left) as u8;
-        left = sets::without_least(left);
-        next = pool_rows(case, m, next, out);
+    let mut m: u8 = 0;
+    while m < 32 {
+        next = rows_if(sets::has(set, m), case, m, next, out);
+        m += 1;
     }
     next
 }
@@ -495,8 +602,8 @@ fn sum_row(name: &[u8], units: u64, prices: u64, out: &mut [u8], at: usize) -> u
     let named = words::left(out, at, 31, name);
     let counted = number_right(out, named, 10, units);
     let few = lists::smaller(units, 16_000);
-    let worth = money_right(out, counted, 15, difference(prices, 1_000_000 * few));
-    end_line(out, worth)
+    let amounted = money_right(out, counted, 15, difference(prices, 1_000_000 * few));
+    end_line(out, amounted)
 }
 
 // The table of the units held, with the torn ones and all units that are not open below.

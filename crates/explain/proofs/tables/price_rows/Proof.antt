@@ -1,0 +1,79 @@
+use Rattle.explain.proofs.tables.price_rows.Statement.{statement}
+use Rattle.explain.proofs.tables.price_rows.Tie as tie
+use Rattle.explain.proofs.tables.price_rows.Reads as reads
+use Rattle.explain.proofs.tables.price_rows.Lts as lts
+use Rattle.case.proofs.Case.holding.Reads as holding-reads
+use Rattle.explain.proofs.tables.after.Reads as after-reads
+use Rattle.explain.proofs.tables.held_row.Reads as held-row-reads
+use Rattle.explain.proofs.tables.next_price.Reads as next-price-reads
+use Rattle.explain.proofs.tables.plus.Reads as plus-reads
+use Rattle.explain.proofs.tables.worth.Reads as worth-reads
+
+abbrev Inv-loop : tie.InvT-loop
+Inv-loop case m pool out₀ at₀ units₀ prices₀ first₀ out at units prices first = ?
+
+abbrev μ-loop : tie.MeasureT-loop
+μ-loop case m pool out₀ at₀ units₀ prices₀ first₀ out at units prices first = ?
+
+loop-holds : tie.Need-loop-holds Inv-loop μ-loop
+loop-holds c = ?
+
+next-price-requires : tie.Need-next-price-requires Inv-loop μ-loop
+next-price-requires c κs = ?
+
+same-length : tie.Need-same-length Inv-loop μ-loop
+same-length c = ?
+
+returns : tie.Need-returns Inv-loop μ-loop
+returns c = ?
+
+holding-requires : tie.Need-holding-requires Inv-loop μ-loop
+holding-requires c κs = ?
+
+held-row-requires : tie.Need-held-row-requires Inv-loop μ-loop
+held-row-requires c κs = ?
+
+plus-requires : tie.Need-plus-requires Inv-loop μ-loop
+plus-requires c κs = ?
+
+worth-requires : tie.Need-worth-requires Inv-loop μ-loop
+worth-requires c κs = ?
+
+plus-requires-2 : tie.Need-plus-requires-2 Inv-loop μ-loop
+plus-requires-2 c κs = ?
+
+after-requires : tie.Need-after-requires Inv-loop μ-loop
+after-requires c κs = ?
+
+loop-less : tie.Need-loop-less Inv-loop μ-loop
+loop-less c = ?
+
+loop-again : tie.Need-loop-again Inv-loop μ-loop
+loop-again c = ?
+
+same-length-2 : tie.Need-same-length-2 Inv-loop μ-loop
+same-length-2 c = ?
+
+returns-2 : tie.Need-returns-2 Inv-loop μ-loop
+returns-2 c = ?
+
+pub price-rows-spec : {M : Type 1} → statement M
+price-rows-spec =
+    tie.close
+    (tie.spec
+    Inv-loop
+    μ-loop
+    loop-holds
+    next-price-requires
+    same-length
+    returns
+    holding-requires
+    held-row-requires
+    plus-requires
+    worth-requires
+    plus-requires-2
+    after-requires
+    loop-less
+    loop-again
+    same-length-2
+    returns-2)
