@@ -8,7 +8,7 @@ ghost use Rattle.machine.specs.Printed.{decimal, numbersText};
 ghost use Rattle.lines.specs.Placed.{Placed, placed, lineOf, lineText};
 
 // How many digits a number has.
-fn digits(n: u64) -> usize
+pub fn digits(n: u64) -> usize
     ensures { λ r. ⌜ (r ≡ length (decimal 20 n)) × (r ≤ 20) ⌝ }
 {
     let mut k: usize = 1;
@@ -37,7 +37,7 @@ fn glyph(d: u64) -> u8
 }
 
 // The digits of a number, of which there are k, from a place of the buffer on.
-fn spell(out: &mut [u8], at: usize, k: usize, n: u64)
+pub fn spell(out: &mut [u8], at: usize, k: usize, n: u64)
     requires { ⌜ (k ≡ length (decimal 20 n)) × (at + k ≤ length (now out)) ⌝ }
     ensures { λ _. ⌜ now (out .exit) ≡ sets (now (out .entry)) at (decimal 20 n) ⌝ }
 {

@@ -1,0 +1,4 @@
+pub mod Puts
+pub mod Table
+pub mod Values
+pub mod Codec

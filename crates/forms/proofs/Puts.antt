@@ -1,0 +1,87 @@
+-- Texts put into a buffer one behind the other. Assumes nothing.
+use mathlib.Core.Path.{_≡_, refl, sym, ap, _∙_}
+use mathlib.Core.List.{List, [], _∷_, _++_, append-assoc, append-nil}
+use Prim.Native.Nat.{ℕ, _+_, _≤_}
+use native.Mathlib.Omega.{arith}
+use lib.ListN.{length, set, length-append, length-set}
+use lib.Seq.{sets}
+use Rattle.lines.proofs.Stores.{sets-then, sets-earlier}
+use Rattle.forms.specs.Put.{Put}
+
+-- one byte
+pub put-one : (old : List ℕ) (at b r : ℕ) (new : List ℕ) → r ≡ at + 1 → new ≡ set old at b → Put old at (b ∷ []) 1 r new
+put-one old at b r new e f = record { behind = e; stored = f; short = omega arith; same = ap length f ∙ length-set old at b }
+
+-- two texts
+pub put-then : {old mid new : List ℕ} {at p r m n : ℕ} (s t : List ℕ) → Put old at s m p mid → Put mid p t n r new → Put old at (s ++ t) (m + n) r new
+put-then {old} {mid} {new} {at} s t a b =
+    record {
+      behind = omega (arith, a .behind, b .behind, length-append s t);
+      stored = b .stored ∙ ap (λ (k : ℕ). sets mid k t) (a .behind) ∙ ap (λ (l : List ℕ). sets l (at + length s) t) (a .stored) ∙ sets-then old at s t;
+      short = omega (arith, a .short, b .short, length-append s t);
+      same = b .same ∙ a .same;
+    }
+
+-- no text
+pub put-none : (old : List ℕ) (at : ℕ) → Put old at [] 0 at old
+put-none old at = record { behind = omega arith; stored = refl; short = omega arith; same = refl }
+
+-- another bound, and another text that is the same
+pub put-as : {old new : List ℕ} {at r m : ℕ} (n : ℕ) {s t : List ℕ} → m ≤ n → s ≡ t → Put old at s m r new → Put old at t n r new
+put-as {old} {at = at} n {s} {t} h e p =
+    record {
+      behind = omega (arith, p .behind, ap length e);
+      stored = p .stored ∙ ap (sets old at) e;
+      short = omega (arith, p .short, ap length e);
+      same = p .same;
+    }
+
+-- a byte before a text
+pub put-before : {old mid new : List ℕ} {at p q r m : ℕ} (b : ℕ) (t : List ℕ) → p ≡ at + 1 → Put old p t m r mid → Put mid at (b ∷ []) 1 q new → Put old at (b ∷ t) (m + 1) r new
+put-before {old} {mid} {new} {at} b t e a h =
+    record {
+      behind = omega (arith, a .behind);
+      stored = h .stored ∙ ap (λ (l : List ℕ). set l at b) (a .stored) ∙ ap (λ (k : ℕ). set (sets old k t) at b) e ∙ sets-earlier old at b t;
+      short = omega (arith, a .short);
+      same = h .same ∙ a .same;
+    }
+
+-- a byte that equals another
+pub put-byte : {old new : List ℕ} {at r a : ℕ} (b : ℕ) → a ≡ b → Put old at (a ∷ []) 1 r new → Put old at (b ∷ []) 1 r new
+put-byte b e p = put-as 1 (omega arith) (ap (λ (x : ℕ). x ∷ []) e) p
+
+-- ---- a text put piece by piece
+
+-- a first part of the text is put, and `rest` is left
+pub record Putting (old : List ℕ) (at : ℕ) (whole rest : List ℕ) (most to : ℕ) (out : List ℕ) : Type 0 where
+  pub done : List ℕ
+  pub put : Put old at done most to out
+  pub is : done ++ rest ≡ whole
+
+pub putting-start : (old : List ℕ) (at : ℕ) (whole : List ℕ) → Putting old at whole whole 0 at old
+putting-start old at whole = record { done = []; put = put-none old at; is = refl }
+
+-- a piece more
+pub putting-turn : {old : List ℕ} {at : ℕ} {whole rest : List ℕ} {m to n r : ℕ} {out new : List ℕ} (t rest' : List ℕ)
+    → Putting old at whole rest m to out → rest ≡ t ++ rest' → Put out to t n r new → Putting old at whole rest' (m + n) r new
+putting-turn t rest' p e q =
+    record {
+      done = p .done ++ t;
+      put = put-then (p .done) t (p .put) q;
+      is = append-assoc (p .done) t rest' ∙ ap (λ (l : List ℕ). p .done ++ l) (sym e) ∙ p .is;
+    }
+
+-- the last piece
+pub putting-last : {old : List ℕ} {at : ℕ} {whole rest : List ℕ} {m to n r : ℕ} {out new : List ℕ}
+    → Putting old at whole rest m to out → Put out to rest n r new → Put old at whole (m + n) r new
+putting-last {rest = rest} {m} {n = n} p q = put-as (m + n) (omega arith) (p .is) (put-then (p .done) rest (p .put) q)
+
+-- nothing is left
+pub putting-end : {old : List ℕ} {at : ℕ} {whole rest : List ℕ} {m to : ℕ} {out : List ℕ} (n : ℕ)
+    → m ≤ n → rest ≡ [] → Putting old at whole rest m to out → Put old at whole n to out
+putting-end n h e p = put-as n h (sym (append-nil (p .done)) ∙ ap (λ (l : List ℕ). p .done ++ l) (sym e) ∙ p .is) (p .put)
+
+-- a weaker bound
+pub putting-most : {old : List ℕ} {at : ℕ} {whole rest : List ℕ} {m to : ℕ} {out : List ℕ} (n : ℕ) → m ≤ n
+    → Putting old at whole rest m to out → Putting old at whole rest n to out
+putting-most n h p = record { done = p .done; put = put-as n h refl (p .put); is = p .is }

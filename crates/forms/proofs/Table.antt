@@ -1,0 +1,19 @@
+-- The kind of a call's number, by the tests of the code. Assumes nothing.
+use mathlib.Core.Path.{_≡_, refl}
+use Prim.Native.Nat.{ℕ, _+_, _*_, _≤_, _<_}
+use lib.Dec.{ltb}
+use lib.ListN.{getD}
+use borrow.Author.Tests.{lt-ltb, le-ltb}
+use Rattle.forms.specs.Forms.{kinds, kindOf}
+
+pub kind-high : (tag i : ℕ) → 14 ≤ tag → kindOf tag i ≡ 0
+unfolding kindOf
+kind-high tag i h = rw (le-ltb tag 14 h)
+
+pub kind-past : (tag i : ℕ) → tag < 14 → 8 ≤ i → kindOf tag i ≡ 0
+unfolding kindOf
+kind-past tag i l h = rw (lt-ltb tag 14 l, le-ltb i 8 h)
+
+pub kind-in : (tag i : ℕ) → tag < 14 → i < 8 → kindOf tag i ≡ getD kinds (tag * 8 + i) 0
+unfolding kindOf
+kind-in tag i l h = rw (lt-ltb tag 14 l, lt-ltb i 8 h)

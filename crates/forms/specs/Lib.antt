@@ -1,0 +1,4 @@
+pub mod Forms
+pub mod Encode
+pub mod Put
+pub mod Computing
