@@ -8,7 +8,7 @@ use wire::Call;
 fn sentence_to_8(answer: u8, out: &mut [u8], at: usize) -> usize {
     match answer {
         1 => words::put(out, at, b"not a call: unknown tag or wrong length"),
-        2 => words::put(out, at, b"not allowed in this stage"),
+        2 => words::put(out, at, b"not allowed"),
         3 => words::put(out, at, b"no such pool, or not the next pool"),
         4 => words::put(out, at, b"no such member, or given already"),
         5 => words::put(out, at, b"a number is out of range"),
@@ -102,18 +102,17 @@ fn fault_length(present: bool, book: Book, out: &mut [u8], at: usize) -> usize {
         return at;
     }
     let head = book.head;
-    let said = words::named(out, at, b" (the case's pools ", head.pools as u64);
+    let said = words::named(out, at, b" (pools of the case ", head.pools as u64);
     words::put(out, said, b")")
 }
 
 // 2: the stage.
 fn fault_stage(present: bool, phase: Phase, out: &mut [u8], at: usize) -> usize {
     if !present {
-        return words::put(out, at, b" (there is no case)");
+        return words::put(out, at, b" before HEAD");
     }
-    let said = words::put(out, at, b" (");
-    let stage = write_stage(phase, out, said);
-    words::put(out, stage, b")")
+    let said = words::put(out, at, b" in ");
+    write_stage(phase, out, said)
 }
 
 // 3: the pools of the case, and the next in turn.

@@ -38,7 +38,7 @@ decode-member m contribution (a ∷ b ∷ []) w = absurd (omega (arith, w .2))
 decode-member m contribution (a ∷ b ∷ c ∷ []) w = absurd (omega (arith, w .2))
 decode-member m contribution (a ∷ b ∷ c ∷ d ∷ []) w =
     λ k. some (Wire.MEMBER (one-read m (w .0) k) (four-read contribution (w .1) k)
-      (two-read a (w .3 .0) k ∷ two-read b (w .3 .1 .0) k ∷ two-read c (w .3 .1 .1 .0) k ∷ two-read d (w .3 .1 .1 .1 .0) k ∷ []))
+    (two-read a (w .3 .0) k ∷ two-read b (w .3 .1 .0) k ∷ two-read c (w .3 .1 .1 .0) k ∷ two-read d (w .3 .1 .1 .1 .0) k ∷ []))
 decode-member m contribution (a ∷ b ∷ c ∷ d ∷ e ∷ l) w = absurd (omega (arith, w .2))
 
 decode-round : (reserves : List ℕ) → InWidth (Wire.ROUND reserves) → Wire.decode (encode (Wire.ROUND reserves)) ≡ some (Wire.ROUND reserves)
@@ -50,7 +50,7 @@ decode-round (a ∷ b ∷ c ∷ []) w =
     λ k. some (Wire.ROUND (price-bytes a (w .2 .0) k ∷ price-bytes b (w .2 .1 .0) k ∷ price-bytes c (w .2 .1 .1 .0) k ∷ []))
 decode-round (a ∷ b ∷ c ∷ d ∷ []) w =
     λ k. some (Wire.ROUND
-      (price-bytes a (w .2 .0) k ∷ price-bytes b (w .2 .1 .0) k ∷ price-bytes c (w .2 .1 .1 .0) k ∷ price-bytes d (w .2 .1 .1 .1 .0) k ∷ []))
+    (price-bytes a (w .2 .0) k ∷ price-bytes b (w .2 .1 .0) k ∷ price-bytes c (w .2 .1 .1 .0) k ∷ price-bytes d (w .2 .1 .1 .1 .0) k ∷ []))
 decode-round (a ∷ b ∷ c ∷ d ∷ e ∷ l) w = absurd (omega (arith, w .1))
 
 pub decode-encode : (call : Wire.Call) → InWidth call → Wire.decode (encode call) ≡ some call

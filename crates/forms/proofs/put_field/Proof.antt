@@ -31,7 +31,7 @@ same-length c = search needs
 
 returns : tie.Need-returns
 unfolding bytesOf
-returns c = 
+returns c =
     put-as 4 (omega arith) (bytes-low _ _ _ _ (c .before .before .before .before .before .if1 .taken) (c .before .before .before .before .before .before .raw .ensures) (ap (λ (b : ℕ). b ∷ []) (c .before .before .before .low .ensures))) (c .before .before .put .ensures)
 
 put-two-requires : tie.Need-put-two-requires
@@ -41,7 +41,7 @@ same-length-2 : tie.Need-same-length-2
 same-length-2 c = search needs
 
 returns-2 : tie.Need-returns-2
-returns-2 c = 
+returns-2 c =
     put-as 4 (omega arith) (bytes-two _ _ _ (c .before .before .before .before .if2 .taken) (c .before .before .before .before .before .before .raw .ensures)) (c .before .before .put-two .ensures)
 
 put-four-requires : tie.Need-put-four-requires
@@ -51,7 +51,7 @@ same-length-3 : tie.Need-same-length-3
 same-length-3 c = search needs
 
 returns-3 : tie.Need-returns-3
-returns-3 c = 
+returns-3 c =
     put-as 4 (omega arith) (bytes-four _ _ _ (omega arith) (c .before .before .before .before .if2 .left) (c .before .before .before .before .before .before .raw .ensures)) (c .before .before .put-four .ensures)
 
 pub put-field-spec : {M : Type 1} → statement M

@@ -36,7 +36,7 @@ array-read-put-field : tie.Need-array-read-put-field Inv-loop μ-loop
 array-read-put-field c = search needs
 
 put-field-requires : tie.Need-put-field-requires Inv-loop μ-loop
-put-field-requires c κs = 
+put-field-requires c κs =
     let l = c .before .before .before .loop .inv in
     omega (arith, l .0 .put .behind, l .0 .put .short, l .0 .put .same, l .1, l .2, l .3)
 
@@ -47,7 +47,7 @@ loop-less : tie.Need-loop-less Inv-loop μ-loop
 loop-less c = search needs
 
 loop-again : tie.Need-loop-again Inv-loop μ-loop
-loop-again c = 
+loop-again c =
     let l = c .before .before .before .before .before .before .loop in
     let a = c .before .before .before .before .before .before .before .before .args in
     let q = put-as 4 (omega arith) (ap (λ (k : ℕ). fieldBytes k (getD (a .t5) (l .i) 0)) (c .before .before .before .kind .ensures)) (c .before .before .put-field .ensures) in
@@ -58,7 +58,7 @@ same-length : tie.Need-same-length Inv-loop μ-loop
 same-length c = c .before .loop .inv .0 .put .same
 
 returns : tie.Need-returns Inv-loop μ-loop
-returns c = 
+returns c =
     let l = c .before .loop in
     let a = c .before .before .before .args in
     putting-end 32 (omega (arith, l .inv .1, l .inv .2)) (value-none (a .tag) (a .count) (l .i) _ (search needs) (l .inv .2) (l .inv .1) (omega arith)) (l .inv .0)

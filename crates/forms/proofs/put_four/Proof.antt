@@ -23,7 +23,7 @@ same-length c = search needs
 
 returns : tie.Need-returns
 unfolding bytesOf
-returns c = 
+returns c =
     let n = c .before .before .before .before .before .before .before .before .before .args .n in
     let e : n / 65536 ≡ n / 256 / 256 = omega arith in
     put-as 4 (omega arith) (ap (λ (x : ℕ). (x / 256 % 256) ∷ (x % 256) ∷ (n / 256 % 256) ∷ (n % 256) ∷ []) e)

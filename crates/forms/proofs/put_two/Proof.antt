@@ -30,7 +30,7 @@ same-length c = search needs
 
 returns : tie.Need-returns
 unfolding bytesOf
-returns c = 
+returns c =
     let n = c .before .before .before .before .before .before .before .before .before .before .before .args .n in
     put-then ((n / 256 % 256) ∷ []) ((n % 256) ∷ []) (put-byte _ (c .before .before .before .before .before .before .before .before .low .ensures) (c .before .before .before .before .before .before .before .put .ensures)) (put-byte _ (c .before .before .before .low2 .ensures) (c .before .before .put2 .ensures))
 

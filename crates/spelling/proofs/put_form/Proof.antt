@@ -34,7 +34,7 @@ same-length : tie.Need-same-length
 same-length c = search needs
 
 returns : tie.Need-returns
-returns c = 
+returns c =
     let a = c .before .before .before .before .before .before .before .before .before .before .args in
     let e : getD pieces (112 + c .before .before .before .before .before .before .before .place .result) [] ≡ nameOf (a .tag) =
     ap (λ (t : ℕ). getD pieces (112 + t) []) (c .before .before .before .before .before .before .before .place .ensures .0) ∙ piece-name (a .tag) (c .before .before .before .before .before .before .before .before .before .before .pre .0) in

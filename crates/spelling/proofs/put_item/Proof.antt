@@ -42,7 +42,7 @@ same-length : tie.Need-same-length
 same-length c = search needs
 
 returns : tie.Need-returns
-returns c = 
+returns c =
     let a = c .before .before .before .before .before .before .before .before .before .before .before .args in
     let e : getD pieces (c .before .before .before .before .before .before .before .before .place .result * 8 + a .i) [] ≡ separator (keyOf (a .tag) (a .i)) =
     ap (λ (t : ℕ). getD pieces (t * 8 + a .i) []) (c .before .before .before .before .before .before .before .before .place .ensures .0) ∙ piece-separator (a .tag) (a .i) (c .before .before .before .before .before .before .before .before .before .before .before .pre .0) (c .before .before .before .before .before .before .before .before .before .before .before .pre .1) in

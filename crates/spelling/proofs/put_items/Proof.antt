@@ -32,7 +32,7 @@ array-read-put-item : tie.Need-array-read-put-item Inv-loop μ-loop
 array-read-put-item c = search needs
 
 put-item-requires : tie.Need-put-item-requires Inv-loop μ-loop
-put-item-requires c κs = 
+put-item-requires c κs =
     let l = c .before .before .loop .inv in
     (l .3, search needs, omega (arith, l .0 .put .behind, l .0 .put .short, l .0 .put .same, l .1, l .2, l .4, c .before .loop-test .taken))
 
@@ -43,14 +43,14 @@ loop-less : tie.Need-loop-less Inv-loop μ-loop
 loop-less c = search needs
 
 loop-again : tie.Need-loop-again Inv-loop μ-loop
-loop-again c = 
+loop-again c =
     let l = c .before .before .before .before .before .loop in
     let a = c .before .before .before .before .before .before .before .args in
     let e = items-next (a .tag) (a .count) (l .i) (a .t5) (search needs) (l .inv .2) (search needs) in
     (putting-most ((l .i + 1) * 708) (omega arith) (putting-turn _ _ (l .inv .0) e (c .before .before .put-item .ensures)), search needs, l .inv .2, l .inv .3, l .inv .4)
 
 put-requires : tie.Need-put-requires Inv-loop μ-loop
-put-requires c κs = 
+put-requires c κs =
     let l = c .before .before .loop .inv in
     omega (arith, l .0 .put .behind, l .0 .put .short, l .0 .put .same, l .1, l .2, l .4)
 
@@ -58,7 +58,7 @@ same-length : tie.Need-same-length Inv-loop μ-loop
 same-length c = (c .before .before .put .ensures .same) ∙ (c .before .before .before .before .before .loop .inv .0 .put .same)
 
 returns : tie.Need-returns Inv-loop μ-loop
-returns c = 
+returns c =
     let l = c .before .before .before .before .before .loop in
     let a = c .before .before .before .before .before .before .before .args in
     let e = items-none (a .tag) (a .count) (l .i) (a .t5) (search needs) (l .inv .2) (l .inv .1) (search needs) in

@@ -33,7 +33,7 @@ same-length c = search needs
 
 returns : tie.Need-returns
 unfolding moneyText
-returns c = 
+returns c =
     let n = c .before .before .before .before .before .before .before .before .before .before .before .before .before .before .before .before .before .args .n in
     put-then (decimal 20 (n / 100)) (46 ∷ (48 + n / 10 % 10) ∷ (48 + n % 10) ∷ []) (c .before .before .before .before .before .before .before .before .before .before .before .before .before .before .put-decimal .ensures)
     (put-then (46 ∷ []) ((48 + n / 10 % 10) ∷ (48 + n % 10) ∷ []) (c .before .before .before .before .before .before .before .before .before .before .put .ensures)

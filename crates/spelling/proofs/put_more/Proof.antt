@@ -39,19 +39,19 @@ without-least-requires : tie.Need-without-least-requires Inv-loop μ-loop
 without-least-requires c κs = tt
 
 put-member-requires : tie.Need-put-member-requires Inv-loop μ-loop
-put-member-requires c κs = 
+put-member-requires c κs =
     let l = c .before .before .before .before .loop in
     let t = taken (l .left) (c .before .before .next .result) (c .before .without-least .result) (c .before .before .before .loop-test .taken) (l .inv .1) (c .before .before .next .ensures) (c .before .without-least .ensures) in
     let p = l .inv .0 .put in
     omega (arith, p .behind, p .short, p .same, l .inv .2, t .shorter)
 
 loop-less : tie.Need-loop-less Inv-loop μ-loop
-loop-less c = 
+loop-less c =
     let l = c .before .before .before .before .before .before .before .loop in
     taken (l .left) (c .before .before .before .before .before .next .result) (c .before .before .before .before .without-least .result) (c .before .before .before .before .before .before .loop-test .taken) (l .inv .1) (c .before .before .before .before .before .next .ensures) (c .before .before .before .before .without-least .ensures) .shorter
 
 loop-again : tie.Need-loop-again Inv-loop μ-loop
-loop-again c = 
+loop-again c =
     let l = c .before .before .before .before .before .before .before .loop in
     let t = taken (l .left) (c .before .before .before .before .before .next .result) (c .before .before .before .before .without-least .result) (c .before .before .before .before .before .before .loop-test .taken) (l .inv .1) (c .before .before .before .before .before .next .ensures) (c .before .before .before .before .without-least .ensures) in
     let e = more-next (l .left) (c .before .before .before .before .before .next .result) (c .before .before .before .before .without-least .result) (t .cons) in
@@ -61,7 +61,7 @@ same-length : tie.Need-same-length Inv-loop μ-loop
 same-length c = c .before .loop .inv .0 .put .same
 
 returns : tie.Need-returns Inv-loop μ-loop
-returns c = 
+returns c =
     let l = c .before .loop in
     putting-end 672 (omega arith) (more-none (l .left) (ap members (c .loop-test .left) ∙ members-none)) (l .inv .0)
 

@@ -39,17 +39,17 @@ loop-holds : tie.Need-loop-holds Inv-loop μ-loop
 loop-holds c = (putting-start _ _ _, search needs, c .before .place .ensures .0, c .place2 .ensures .0, c .before .before .before .pre .0, c .before .before .before .pre .1)
 
 add-put : tie.Need-add-put Inv-loop μ-loop
-add-put c = 
+add-put c =
     let l = c .before .before .loop .inv in
     omega (arith, l .2, l .3, letter-in _ (c .before .before .loop .j) (l .4) (rw (l .3) at (c .before .loop-test .taken)))
 
 array-read-put : tie.Need-array-read-put Inv-loop μ-loop
-array-read-put c = 
+array-read-put c =
     let l = c .before .before .loop .inv in
     rw (l .2) (letter-in _ (c .before .before .loop .j) (l .4) (rw (l .3) at (c .before .loop-test .taken)))
 
 put-requires : tie.Need-put-requires Inv-loop μ-loop
-put-requires c κs = 
+put-requires c κs =
     let l = c .before .before .loop .inv in
     omega (arith, l .0 .put .behind, l .0 .put .short, l .0 .put .same, l .3, l .5, lengths-small (c .before .before .before .before .before .before .args .k), c .before .loop-test .taken)
 
@@ -60,7 +60,7 @@ loop-less : tie.Need-loop-less Inv-loop μ-loop
 loop-less c = search needs
 
 loop-again : tie.Need-loop-again Inv-loop μ-loop
-loop-again c = 
+loop-again c =
     let l = c .before .before .before .before .before .loop in
     let i = l .inv in
     let k = c .before .before .before .before .before .before .before .before .before .args .k in
@@ -73,7 +73,7 @@ same-length : tie.Need-same-length Inv-loop μ-loop
 same-length c = c .before .loop .inv .0 .put .same
 
 returns : tie.Need-returns Inv-loop μ-loop
-returns c = 
+returns c =
     let l = c .before .loop in
     let i = l .inv in
     let k = c .before .before .before .before .before .args .k in

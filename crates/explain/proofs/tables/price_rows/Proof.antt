@@ -1,3 +1,8 @@
+-- `explain::tables::price_rows` is safe and ends. Assumes nothing.
+use mathlib.Core.Path.{_≡_}
+use Prim.Native.Nat.{_-_, _≤_}
+use lib.ListN.{length}
+use borrow.Author.Needs.{needs}
 use Rattle.explain.proofs.tables.price_rows.Statement.{statement}
 use Rattle.explain.proofs.tables.price_rows.Tie as tie
 use Rattle.explain.proofs.tables.price_rows.Reads as reads
@@ -10,52 +15,52 @@ use Rattle.explain.proofs.tables.plus.Reads as plus-reads
 use Rattle.explain.proofs.tables.worth.Reads as worth-reads
 
 abbrev Inv-loop : tie.InvT-loop
-Inv-loop case m pool out₀ at₀ units₀ prices₀ first₀ out at units prices first = ?
+Inv-loop case m pool out₀ at₀ units₀ prices₀ first₀ out at units prices first = (first ≤ 2000001) × (length out ≡ length out₀)
 
 abbrev μ-loop : tie.MeasureT-loop
-μ-loop case m pool out₀ at₀ units₀ prices₀ first₀ out at units prices first = ?
+μ-loop case m pool out₀ at₀ units₀ prices₀ first₀ out at units prices first = 2000001 - first
 
 loop-holds : tie.Need-loop-holds Inv-loop μ-loop
-loop-holds c = ?
+loop-holds c = search needs
 
 next-price-requires : tie.Need-next-price-requires Inv-loop μ-loop
-next-price-requires c κs = ?
+next-price-requires c κs = search needs
 
 same-length : tie.Need-same-length Inv-loop μ-loop
-same-length c = ?
+same-length c = search needs
 
 returns : tie.Need-returns Inv-loop μ-loop
-returns c = ?
+returns c = search needs
 
 holding-requires : tie.Need-holding-requires Inv-loop μ-loop
-holding-requires c κs = ?
+holding-requires c κs = search needs
 
 held-row-requires : tie.Need-held-row-requires Inv-loop μ-loop
-held-row-requires c κs = ?
+held-row-requires c κs = search needs
 
 plus-requires : tie.Need-plus-requires Inv-loop μ-loop
-plus-requires c κs = ?
+plus-requires c κs = search needs
 
 worth-requires : tie.Need-worth-requires Inv-loop μ-loop
-worth-requires c κs = ?
+worth-requires c κs = search needs
 
 plus-requires-2 : tie.Need-plus-requires-2 Inv-loop μ-loop
-plus-requires-2 c κs = ?
+plus-requires-2 c κs = search needs
 
 after-requires : tie.Need-after-requires Inv-loop μ-loop
-after-requires c κs = ?
+after-requires c κs = search needs
 
 loop-less : tie.Need-loop-less Inv-loop μ-loop
-loop-less c = ?
+loop-less c = search needs
 
 loop-again : tie.Need-loop-again Inv-loop μ-loop
-loop-again c = ?
+loop-again c = search needs
 
 same-length-2 : tie.Need-same-length-2 Inv-loop μ-loop
-same-length-2 c = ?
+same-length-2 c = search needs
 
 returns-2 : tie.Need-returns-2 Inv-loop μ-loop
-returns-2 c = ?
+returns-2 c = search needs
 
 pub price-rows-spec : {M : Type 1} → statement M
 price-rows-spec =
