@@ -8,6 +8,7 @@ mod tables;
 ghost use mathlib.Core.Path.{_≡_};
 ghost use Prim.Native.Nat.{_+_, _≤_};
 ghost use lib.ListN.{length};
+ghost use Rattle.case.specs.Cases.{applied};
 use case::Held;
 use libc::STDIN_FILENO;
 
@@ -75,7 +76,9 @@ fn whole_size(input: &[u8]) -> usize
 }
 
 // One field: the call, its answer in words, and the stage and the open units after it.
-fn take_field(held: Held, bytes: &[u8], out: &mut [u8], at: usize) -> Step {
+fn take_field(held: Held, bytes: &[u8], out: &mut [u8], at: usize) -> Step
+    ensures { λ r. ⌜ r .held ≡ applied held (now (bytes .entry)) .held ⌝ }
+{
     let call = wire::read_call(bytes);
     let applied = case::take(held, call);
     let case = held.case;

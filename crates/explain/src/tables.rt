@@ -1,5 +1,7 @@
 // The tables at the end: pools, the loss and its six layers, members, and the units held by member, pool and price. Each has a row of totals.
+ghost use mathlib.Core.Path.{_≡_};
 ghost use Prim.Native.Nat.{_≤_, _<_};
+ghost use Rattle.book.specs.Results.{limitsIn};
 use crate::paper::end_line;
 use crate::paper::line;
 use accounts::members::Members;
@@ -10,7 +12,6 @@ use case::Case;
 use case::Held;
 use roll::Entry;
 use roll::EntryState;
-use wire::Head;
 use words::difference;
 use words::money_right;
 use words::number_right;
@@ -176,9 +177,25 @@ fn write_requirement(book: Book, out: &mut [u8], at: usize) -> usize {
     named_amount(b"  requirement, at least 0", book.requirement(), out, less)
 }
 
-// "First tranche = floor(3 x house money / 5), the second the rest."
-fn first_tranche(house: u32) -> u64 {
-    3 * house as u64 / 5
+// The limits of the six layers.
+fn limits(book: Book) -> [u64; 6]
+    ensures { λ r. ⌜ r ≡ limitsIn book ⌝ }
+{
+    let head = book.head;
+    let members = book.members;
+    let house = head.house as u64;
+    let first = 3 * house / 5;
+    let funds = book.contributions();
+    let xs = members.paid;
+    let paid = accounts::members::amounts(xs);
+    [
+        head.margin as u64,
+        head.fund as u64,
+        first,
+        funds,
+        house - first,
+        paid,
+    ]
 }
 
 // A layer: its limit, what it is charged and what is left.
@@ -190,82 +207,56 @@ fn layer_row(name: &[u8], limit: u64, charged: u64, out: &mut [u8], at: usize) -
     end_line(out, left)
 }
 
-// The first three layers.
-fn first_layers(head: Head, charges: [u64; 6], out: &mut [u8], at: usize) -> usize {
-    let tranche = first_tranche(head.house);
-    let one = layer_row(
-        b"  1 defaulter's margin",
-        head.margin as u64,
-        charges[0],
-        out,
-        at,
-    );
-    let two = layer_row(
-        b"  2 defaulter's fund",
-        head.fund as u64,
-        charges[1],
-        out,
-        one,
-    );
+// The first three layers, by their limits and charges.
+fn first_layers(most: [u64; 6], charges: [u64; 6], out: &mut [u8], at: usize) -> usize {
+    let one = layer_row(b"  1 defaulter's margin", most[0], charges[0], out, at);
+    let two = layer_row(b"  2 defaulter's fund", most[1], charges[1], out, one);
     layer_row(
         b"  3 house money, first tranche",
-        tranche,
+        most[2],
         charges[2],
         out,
         two,
     )
 }
 
-// The last three layers; the contributions and the payments are given.
-fn last_layers(
-    head: Head,
-    charges: [u64; 6],
-    funds: u64,
-    paid: u64,
-    out: &mut [u8],
-    at: usize,
-) -> usize {
-    let tranche = lists::less(head.house as u64, first_tranche(head.house));
-    let four = layer_row(b"  4 members' contributions", funds, charges[3], out, at);
+// The last three layers.
+fn last_layers(most: [u64; 6], charges: [u64; 6], out: &mut [u8], at: usize) -> usize {
+    let four = layer_row(b"  4 members' contributions", most[3], charges[3], out, at);
     let five = layer_row(
         b"  5 house money, second tranche",
-        tranche,
+        most[4],
         charges[4],
         out,
         four,
     );
-    layer_row(b"  6 members' payments", paid, charges[5], out, five)
+    layer_row(b"  6 members' payments", most[5], charges[5], out, five)
 }
 
-// The six layers.
-fn write_layers(book: Book, result: Result, out: &mut [u8], at: usize) -> usize {
-    let head = book.head;
-    let members = book.members;
-    let charges = result.charges;
-    let payments = members.paid;
-    let paid = accounts::members::amounts(payments);
-    let first = first_layers(head, charges, out, at);
-    let last = last_layers(head, charges, book.contributions(), paid, out, first);
-    layers_total(plus(book.prefunded(), paid), result, out, last)
-}
-
-// The six charges together.
-fn all_charges(result: Result) -> u64 {
-    let charges = result.charges;
-    let first = plus(charges[0], plus(charges[1], charges[2]));
-    let last = plus(charges[3], plus(charges[4], charges[5]));
+// The sum of six numbers.
+fn sum_of_six(xs: [u64; 6]) -> u64 {
+    let first = plus(xs[0], plus(xs[1], xs[2]));
+    let last = plus(xs[3], plus(xs[4], xs[5]));
     plus(first, last)
 }
 
-// The row of totals of the layers, and below it the uncovered rest and the loss.
-fn layers_total(limits: u64, result: Result, out: &mut [u8], at: usize) -> usize {
-    let total = layer_row(b"  total", limits, all_charges(result), out, at);
-    let first = words::left(out, total, 49, b"  uncovered");
-    let rest = amount(out, first, result.uncovered);
-    let uncovered = end_line(out, rest);
-    let second = words::left(out, uncovered, 49, b"  loss");
-    let loss = amount(out, second, plus(all_charges(result), result.uncovered));
-    end_line(out, loss)
+// A word and an amount in the column of the charges.
+fn charge_row(name: &[u8], cents: u64, out: &mut [u8], at: usize) -> usize {
+    let named = words::left(out, at, 49, name);
+    let to = amount(out, named, cents);
+    end_line(out, to)
+}
+
+// The six layers, their totals, the uncovered rest and the loss.
+fn write_layers(book: Book, result: Result, out: &mut [u8], at: usize) -> usize {
+    let most = limits(book);
+    let charges = result.charges;
+    let all = sum_of_six(charges);
+    let first = first_layers(most, charges, out, at);
+    let last = last_layers(most, charges, out, first);
+    let total = layer_row(b"  total", sum_of_six(most), all, out, last);
+    let rest = charge_row(b"  uncovered", result.uncovered, out, total);
+    charge_row(b"  loss", plus(all, result.uncovered), out, rest)
 }
 
 // The table of the loss; the layers stand in it after FINISH.
@@ -606,6 +597,21 @@ fn sum_row(name: &[u8], units: u64, prices: u64, out: &mut [u8], at: usize) -> u
     end_line(out, amounted)
 }
 
+// The units held, the torn ones, and all units that are not open.
+fn write_sums(book: Book, rows: Rows, out: &mut [u8]) -> usize {
+    let units = book.priced();
+    let prices = book.prices();
+    let held = sum_row(b"  held", rows.units, rows.prices, out, rows.at);
+    let torn = sum_row(
+        b"  torn",
+        lists::less(units, rows.units),
+        lists::less(prices, rows.prices),
+        out,
+        held,
+    );
+    sum_row(b"  total, units not open", units, prices, out, torn)
+}
+
 // The table of the units held, with the torn ones and all units that are not open below.
 fn write_held(case: Case, out: &mut [u8], at: usize) -> usize {
     let book = case.book;
@@ -622,17 +628,7 @@ fn write_held(case: Case, out: &mut [u8], at: usize) -> usize {
         prices: 0,
     };
     let rows = held_rows(case, head.set, none, out);
-    let units = book.priced();
-    let prices = book.prices();
-    let held = sum_row(b"  held", rows.units, rows.prices, out, rows.at);
-    let torn = sum_row(
-        b"  torn",
-        lists::less(units, rows.units),
-        lists::less(prices, rows.prices),
-        out,
-        held,
-    );
-    sum_row(b"  total, units not open", units, prices, out, torn)
+    write_sums(book, rows, out)
 }
 
 // ---- all tables

@@ -1,0 +1,48 @@
+use borrow.Author.Needs.{needs}
+use Rattle.explain.proofs.take_field.Statement.{statement}
+use Rattle.explain.proofs.take_field.Tie as tie
+use Rattle.explain.proofs.take_field.Reads as reads
+use Rattle.explain.proofs.take_field.Lts as lts
+use Rattle.case.proofs.take.Reads as take-reads
+use Rattle.explain.proofs.answers.write_answer.Reads as write-answer-reads
+use Rattle.explain.proofs.answers.write_state.Reads as write-state-reads
+use Rattle.explain.proofs.calls.write_call.Reads as write-call-reads
+use Rattle.explain.proofs.paper.end_line.Reads as end-line-reads
+use Rattle.wire.proofs.read_call.Reads as read-call-reads
+
+read-call-requires : tie.Need-read-call-requires
+read-call-requires c κs = search needs
+
+take-requires : tie.Need-take-requires
+take-requires c κs = search needs
+
+write-call-requires : tie.Need-write-call-requires
+write-call-requires c κs = search needs
+
+write-answer-requires : tie.Need-write-answer-requires
+write-answer-requires c κs = search needs
+
+write-state-requires : tie.Need-write-state-requires
+write-state-requires c κs = search needs
+
+end-line-requires : tie.Need-end-line-requires
+end-line-requires c κs = search needs
+
+same-length : tie.Need-same-length
+same-length c = search needs
+
+returns : tie.Need-returns
+returns c = ?
+
+pub take-field-spec : {M : Type 1} → statement M
+take-field-spec =
+    tie.close
+    (tie.spec
+    read-call-requires
+    take-requires
+    write-call-requires
+    write-answer-requires
+    write-state-requires
+    end-line-requires
+    same-length
+    returns)
