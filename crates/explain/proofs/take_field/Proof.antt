@@ -1,3 +1,7 @@
+-- `explain::take_field` meets its contract: what is held is what the ledger holds after the field. Assumes nothing.
+use mathlib.Core.Path.{_≡_, ap, _∙_}
+use Rattle.case.specs.declared.Applied.{Applied}
+use Rattle.case.specs.Cases.{takeAsked, applied}
 use borrow.Author.Needs.{needs}
 use Rattle.explain.proofs.take_field.Statement.{statement}
 use Rattle.explain.proofs.take_field.Tie as tie
@@ -32,7 +36,10 @@ same-length : tie.Need-same-length
 same-length c = search needs
 
 returns : tie.Need-returns
-returns c = ?
+unfolding applied
+returns c =
+    ap (λ (x : Applied). x .held)
+    (c .before .before .before .before .before .before .before .before .before .before .before .before .before .before .before .before .before .before .before .before .before .take .ensures ∙ ap (takeAsked (c .before .before .before .before .before .before .before .before .before .before .before .before .before .before .before .before .before .before .before .before .before .before .before .before .before .args .held)) (c .before .before .before .before .before .before .before .before .before .before .before .before .before .before .before .before .before .before .before .before .before .before .read-call .ensures))
 
 pub take-field-spec : {M : Type 1} → statement M
 take-field-spec =
