@@ -1,6 +1,7 @@
 // The program `explain`: reads the same fields as `ledger` and prints for people what was asked, what was answered and why, and at the end tables.
 mod answers;
 mod calls;
+mod figures;
 mod paper;
 mod ranges;
 mod tables;
@@ -152,8 +153,8 @@ fn write_cut(rest: &[u8], out: &mut [u8], at: usize) -> usize {
     if rest.len() == 0 {
         return at;
     }
-    let tag = words::named(out, at, b"cut off, tag ", calls::wide(rest[0]));
-    let size = words::named(out, tag, b", bytes ", rest.len() as u64);
+    let tag = figures::named(out, at, b"cut off, tag ", calls::wide(rest[0]));
+    let size = figures::named(out, tag, b", bytes ", rest.len() as u64);
     let named = paper::end_line(out, size);
     let said = words::put(
         out,

@@ -2,6 +2,8 @@
 ghost use mathlib.Core.Path.{_≡_};
 ghost use Prim.Native.Nat.{_≤_, _<_};
 ghost use Rattle.book.specs.Results.{limitsIn};
+use crate::figures::difference_right;
+use crate::figures::money_right;
 use crate::paper::end_line;
 use crate::paper::line;
 use accounts::members::Members;
@@ -13,7 +15,6 @@ use case::Held;
 use roll::Entry;
 use roll::EntryState;
 use words::difference;
-use words::money_right;
 use words::number_right;
 
 // The sum of two numbers, held to the largest number.
@@ -279,7 +280,7 @@ fn write_loss(book: Book, out: &mut [u8], at: usize) -> usize {
 fn units_row(won: u64, expected: u64, out: &mut [u8], at: usize) -> usize {
     let first = number_right(out, at, 8, won);
     let second = number_right(out, first, 10, expected);
-    words::difference_right(out, second, 9, won, expected)
+    difference_right(out, second, 9, won, expected)
 }
 
 // Four amounts in columns.

@@ -1,4 +1,4 @@
--- `words::members` meets its contract: it ends. Assumes nothing.
+-- `explain::figures::member_list` meets its contract: it ends. Assumes nothing.
 use mathlib.Core.Path.{_≡_, refl, ap, _∙_}
 use Prim.Native.Nat.{_^_, _<_}
 use native.Mathlib.Omega.{arith}
@@ -6,14 +6,14 @@ use lib.ListN.{length}
 use borrow.Author.Needs.{needs}
 use Rattle.sets.specs.Set.{members}
 use Rattle.sets.proofs.Members.{Taken, taken}
-use Rattle.words.proofs.members.Statement.{statement}
-use Rattle.words.proofs.members.Tie as tie
-use Rattle.words.proofs.members.Reads as reads
-use Rattle.words.proofs.members.Lts as lts
+use Rattle.explain.proofs.figures.member_list.Statement.{statement}
+use Rattle.explain.proofs.figures.member_list.Tie as tie
+use Rattle.explain.proofs.figures.member_list.Reads as reads
+use Rattle.explain.proofs.figures.member_list.Lts as lts
 use Rattle.sets.proofs.next.Reads as next-reads
 use Rattle.sets.proofs.without_least.Reads as without-least-reads
-use Rattle.words.proofs.comma_if.Reads as comma-if-reads
+use Rattle.explain.proofs.figures.comma_if.Reads as comma-if-reads
 use Rattle.words.proofs.number.Reads as number-reads
 
 abbrev Inv-loop : tie.InvT-loop
 Inv-loop out₀ at set to₀ left₀ out to left = (left < 2 ^ 32) × (length out ≡ length out₀)
@@ -57,8 +57,8 @@ same-length c = search needs
 returns : tie.Need-returns Inv-loop μ-loop
 returns c = search needs
 
-pub members-spec : {M : Type 1} → statement M
-members-spec =
+pub member-list-spec : {M : Type 1} → statement M
+member-list-spec =
     tie.close
     (tie.spec
     Inv-loop
