@@ -1,7 +1,7 @@
 // An answer in words: one sentence for each number, the value at fault where there is one, and the stage and the open units after the call.
 use crate::figures::member_list;
-use crate::figures::named;
-use crate::figures::named_money;
+use crate::figures::with_money;
+use crate::figures::with_number;
 use book::Book;
 use book::Phase;
 use wire::Call;
@@ -50,8 +50,8 @@ fn write_stage(phase: Phase, out: &mut [u8], at: usize) -> usize {
     let round = book::round_of(phase) as u64;
     match book::letter(phase) {
         1 => words::put(out, at, b"stage S"),
-        2 => named(out, at, b"stage B, round ", round),
-        3 => named(out, at, b"stage A, round ", round),
+        2 => with_number(out, at, b"stage B, round ", round),
+        3 => with_number(out, at, b"stage A, round ", round),
         4 => words::put(out, at, b"stage C"),
         _ => words::put(out, at, b"stage F"),
     }
@@ -60,7 +60,7 @@ fn write_stage(phase: Phase, out: &mut [u8], at: usize) -> usize {
 // A pool's open units behind a plus sign, where the pool is given.
 fn write_open(given: bool, units: u64, out: &mut [u8], at: usize) -> usize {
     if given {
-        named(out, at, b" + ", units)
+        with_number(out, at, b" + ", units)
     } else {
         at
     }
@@ -77,14 +77,14 @@ pub fn all_open(book: Book) -> u64 {
 fn write_units(book: Book, out: &mut [u8], at: usize) -> usize {
     let pools = book.pools;
     let given = pools.given;
-    let first = named(out, at, b"; open units ", book.open_units(0));
+    let first = with_number(out, at, b"; open units ", book.open_units(0));
     if given < 2 {
         return first;
     }
-    let second = named(out, first, b" + ", book.open_units(1));
+    let second = with_number(out, first, b" + ", book.open_units(1));
     let third = write_open(2 < given, book.open_units(2), out, second);
     let fourth = write_open(3 < given, book.open_units(3), out, third);
-    named(out, fourth, b" = ", all_open(book))
+    with_number(out, fourth, b" = ", all_open(book))
 }
 
 // The stage and the open units.
@@ -105,7 +105,7 @@ fn fault_length(present: bool, book: Book, out: &mut [u8], at: usize) -> usize {
         return at;
     }
     let head = book.head;
-    let said = named(out, at, b" (pools of the case ", head.pools as u64);
+    let said = with_number(out, at, b" (pools of the case ", head.pools as u64);
     words::put(out, said, b")")
 }
 
@@ -122,8 +122,8 @@ fn fault_stage(present: bool, phase: Phase, out: &mut [u8], at: usize) -> usize 
 fn fault_pool(book: Book, out: &mut [u8], at: usize) -> usize {
     let head = book.head;
     let pools = book.pools;
-    let all = named(out, at, b" (pools of the case ", head.pools as u64);
-    let given = named(out, all, b", given ", pools.given as u64);
+    let all = with_number(out, at, b" (pools of the case ", head.pools as u64);
+    let given = with_number(out, all, b", given ", pools.given as u64);
     words::put(out, given, b")")
 }
 
@@ -143,8 +143,8 @@ fn fault_given(book: Book, out: &mut [u8], at: usize) -> usize {
     let head = book.head;
     let pools = book.pools;
     let members = book.members;
-    let given = named(out, at, b" (pools given ", pools.given as u64);
-    let all = named(out, given, b" of ", head.pools as u64);
+    let given = with_number(out, at, b" (pools given ", pools.given as u64);
+    let all = with_number(out, given, b" of ", head.pools as u64);
     let said = words::put(out, all, b"; members given ");
     let some = member_list(out, said, members.given);
     let more = words::put(out, some, b" of ");
@@ -154,21 +154,21 @@ fn fault_given(book: Book, out: &mut [u8], at: usize) -> usize {
 
 // 11: the open units.
 fn fault_open(book: Book, out: &mut [u8], at: usize) -> usize {
-    let said = named(out, at, b" (open units ", all_open(book));
+    let said = with_number(out, at, b" (open units ", all_open(book));
     words::put(out, said, b")")
 }
 
 // 12 and 13: the requirement and what is prefunded.
 fn fault_prefunded(book: Book, out: &mut [u8], at: usize) -> usize {
-    let required = named_money(out, at, b" (requirement ", book.requirement());
-    let held = named_money(out, required, b", prefunded ", book.prefunded());
+    let required = with_money(out, at, b" (requirement ", book.requirement());
+    let held = with_money(out, required, b", prefunded ", book.prefunded());
     words::put(out, held, b")")
 }
 
 // 14: what the member owes.
 fn fault_owed(book: Book, m: u8, out: &mut [u8], at: usize) -> usize {
     let members = book.members;
-    let said = named_money(out, at, b" (owes ", members.owes(m));
+    let said = with_money(out, at, b" (owes ", members.owes(m));
     words::put(out, said, b")")
 }
 
@@ -176,8 +176,8 @@ fn fault_owed(book: Book, m: u8, out: &mut [u8], at: usize) -> usize {
 fn fault_owing(book: Book, out: &mut [u8], at: usize) -> usize {
     let members = book.members;
     let m = first_owing(book);
-    let said = named(out, at, b" (member ", m as u64);
-    let owes = named_money(out, said, b" owes ", members.owes(m));
+    let said = with_number(out, at, b" (member ", m as u64);
+    let owes = with_money(out, said, b" owes ", members.owes(m));
     words::put(out, owes, b")")
 }
 
@@ -196,7 +196,7 @@ fn first_owing(book: Book) -> u8 {
 
 // The word and the number at fault, in brackets.
 fn fault_number(name: &[u8], n: u64, out: &mut [u8], at: usize) -> usize {
-    let said = named(out, at, name, n);
+    let said = with_number(out, at, name, n);
     words::put(out, said, b")")
 }
 
@@ -305,7 +305,7 @@ fn write_refusal(
     out: &mut [u8],
     at: usize,
 ) -> usize {
-    let number = named(out, at, b"    refused ", answer as u64);
+    let number = with_number(out, at, b"    refused ", answer as u64);
     let said = words::put(out, number, b": ");
     let sentence = write_sentence(answer, out, said);
     if answer == 2 {

@@ -1,5 +1,5 @@
 // A call as a line of text: that of the notation in which cases are written.
-use crate::figures::named;
+use crate::figures::with_number;
 use wire::Call;
 
 // A byte as a wider number.
@@ -12,8 +12,8 @@ fn write_unknown(bytes: &[u8], out: &mut [u8], at: usize) -> usize {
     if bytes.len() < 3 {
         return crate::paper::line(out, at, b"cut off");
     }
-    let named = named(out, at, b"tag ", wide(bytes[0]));
-    let to = named(out, named, b", bytes ", (bytes.len() - 3) as u64);
+    let named = with_number(out, at, b"tag ", wide(bytes[0]));
+    let to = with_number(out, named, b", bytes ", (bytes.len() - 3) as u64);
     crate::paper::end_line(out, to)
 }
 

@@ -74,13 +74,13 @@ fn comma_if(out: &mut [u8], at: usize, test: bool) -> usize {
 }
 
 // A word and a number behind it.
-pub fn named(out: &mut [u8], at: usize, name: &[u8], n: u64) -> usize {
+pub fn with_number(out: &mut [u8], at: usize, name: &[u8], n: u64) -> usize {
     let to = put(out, at, name);
     number(out, to, n)
 }
 
 // A word and an amount of money behind it.
-pub fn named_money(out: &mut [u8], at: usize, name: &[u8], cents: u64) -> usize {
+pub fn with_money(out: &mut [u8], at: usize, name: &[u8], cents: u64) -> usize {
     let to = put(out, at, name);
     money(
         out,
@@ -93,7 +93,7 @@ pub fn named_money(out: &mut [u8], at: usize, name: &[u8], cents: u64) -> usize 
 }
 
 // A word and a price behind it.
-pub fn named_price(out: &mut [u8], at: usize, name: &[u8], p: u32) -> usize {
+pub fn with_price(out: &mut [u8], at: usize, name: &[u8], p: u32) -> usize {
     let to = put(out, at, name);
     money(out, to, price(p))
 }

@@ -153,8 +153,8 @@ fn write_cut(rest: &[u8], out: &mut [u8], at: usize) -> usize {
     if rest.len() == 0 {
         return at;
     }
-    let tag = figures::named(out, at, b"cut off, tag ", calls::wide(rest[0]));
-    let size = figures::named(out, tag, b", bytes ", rest.len() as u64);
+    let tag = figures::with_number(out, at, b"cut off, tag ", calls::wide(rest[0]));
+    let size = figures::with_number(out, tag, b", bytes ", rest.len() as u64);
     let named = paper::end_line(out, size);
     let said = words::put(
         out,

@@ -1,23 +1,23 @@
 // Which number of a call is out of its range, and what the range is.
-use crate::figures::named;
-use crate::figures::named_money;
-use crate::figures::named_price;
+use crate::figures::with_money;
+use crate::figures::with_number;
+use crate::figures::with_price;
 use wire::Call;
 use wire::Head;
 
 // A count at fault and its range.
 fn count_fault(name: &[u8], n: u64, low: u64, high: u64, out: &mut [u8], at: usize) -> usize {
-    let said = named(out, at, name, n);
-    let from = named(out, said, b"; from ", low);
-    let to = named(out, from, b" to ", high);
+    let said = with_number(out, at, name, n);
+    let from = with_number(out, said, b"; from ", low);
+    let to = with_number(out, from, b" to ", high);
     words::put(out, to, b")")
 }
 
 // An amount at fault and the most that it may be.
 fn money_fault(name: &[u8], cents: u64, low: u64, high: u64, out: &mut [u8], at: usize) -> usize {
-    let said = named_money(out, at, name, cents);
-    let from = named_money(out, said, b"; from ", low);
-    let to = named_money(out, from, b" to ", high);
+    let said = with_money(out, at, name, cents);
+    let from = with_money(out, said, b"; from ", low);
+    let to = with_money(out, from, b" to ", high);
     words::put(out, to, b")")
 }
 
@@ -26,7 +26,7 @@ fn price_fault(name: &[u8], price: u32, out: &mut [u8], at: usize) -> usize {
     if price <= 2_000_000 {
         return at;
     }
-    let said = named_price(out, at, name, price);
+    let said = with_price(out, at, name, price);
     words::put(out, said, b"; from -10000.00 to 10000.00)")
 }
 
