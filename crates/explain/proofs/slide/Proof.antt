@@ -5,8 +5,6 @@ use lib.ListN.{length}
 use borrow.Author.Needs.{needs}
 use Rattle.explain.proofs.slide.Statement.{statement}
 use Rattle.explain.proofs.slide.Tie as tie
-use Rattle.explain.proofs.slide.Reads as reads
-use Rattle.explain.proofs.slide.Lts as lts
 
 abbrev Inv-loop : tie.InvT-loop
 Inv-loop buf₀ start end n i₀ buf i = (i ≤ n) × (length buf ≡ length buf₀)

@@ -1,18 +1,10 @@
 -- `explain::take_field` meets its contract: what is held is what the ledger holds after the field. Assumes nothing.
-use mathlib.Core.Path.{_≡_, ap, _∙_}
+use mathlib.Core.Path.{ap, _∙_}
 use Rattle.case.specs.declared.Applied.{Applied}
 use Rattle.case.specs.Cases.{takeAsked, applied}
 use borrow.Author.Needs.{needs}
 use Rattle.explain.proofs.take_field.Statement.{statement}
 use Rattle.explain.proofs.take_field.Tie as tie
-use Rattle.explain.proofs.take_field.Reads as reads
-use Rattle.explain.proofs.take_field.Lts as lts
-use Rattle.case.proofs.take.Reads as take-reads
-use Rattle.explain.proofs.answers.write_answer.Reads as write-answer-reads
-use Rattle.explain.proofs.answers.write_state.Reads as write-state-reads
-use Rattle.explain.proofs.calls.write_call.Reads as write-call-reads
-use Rattle.explain.proofs.paper.end_line.Reads as end-line-reads
-use Rattle.wire.proofs.read_call.Reads as read-call-reads
 
 read-call-requires : tie.Need-read-call-requires
 read-call-requires c κs = search needs

@@ -1,16 +1,10 @@
 -- `explain::take_input` is safe and ends. Assumes nothing.
 use mathlib.Core.Path.{_≡_}
-use Prim.Native.Nat.{_-_, _≤_}
+use Prim.Native.Nat.{_≤_}
 use lib.ListN.{length}
 use borrow.Author.Needs.{needs}
 use Rattle.explain.proofs.take_input.Statement.{statement}
 use Rattle.explain.proofs.take_input.Tie as tie
-use Rattle.explain.proofs.take_input.Reads as reads
-use Rattle.explain.proofs.take_input.Lts as lts
-use Rattle.case.proofs.Held.none.Reads as none-reads
-use Rattle.explain.proofs.read_at.Reads as read-at-reads
-use Rattle.explain.proofs.slide.Reads as slide-reads
-use Rattle.explain.proofs.take_part.Reads as take-part-reads
 
 abbrev Inv-loop : tie.InvT-loop
 Inv-loop buf₀ out₀ held₀ len₀ at₀ turns₀ buf out held len at turns = (len ≤ length buf) × (length buf ≡ length buf₀) × (length out ≡ length out₀)

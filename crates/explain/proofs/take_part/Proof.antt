@@ -5,10 +5,6 @@ use lib.ListN.{length}
 use borrow.Author.Needs.{needs}
 use Rattle.explain.proofs.take_part.Statement.{statement}
 use Rattle.explain.proofs.take_part.Tie as tie
-use Rattle.explain.proofs.take_part.Reads as reads
-use Rattle.explain.proofs.take_part.Lts as lts
-use Rattle.explain.proofs.take_field.Reads as take-field-reads
-use Rattle.explain.proofs.whole_size.Reads as whole-size-reads
 
 abbrev Inv-loop : tie.InvT-loop
 Inv-loop input out₀ at next₀ used₀ to₀ out next used to = (used ≤ length input) × (length out ≡ length out₀)

@@ -4,8 +4,6 @@ use Rattle.words.specs.Amounts.{differenceOf}
 use borrow.Author.Needs.{needs}
 use Rattle.words.proofs.difference.Statement.{statement}
 use Rattle.words.proofs.difference.Tie as tie
-use Rattle.words.proofs.difference.Reads as reads
-use Rattle.words.proofs.difference.Lts as lts
 
 sub-t4 : tie.Need-sub-t4
 sub-t4 c = search needs

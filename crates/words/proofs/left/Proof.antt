@@ -1,16 +1,11 @@
 -- `words::left` meets its contract. Assumes nothing.
-use mathlib.Core.Path.{_≡_, ap, _∙_}
+use mathlib.Core.Path.{ap, _∙_}
 use Prim.Native.Nat.{ℕ}
 use Rattle.lines.specs.Placed.{Placed, placed}
 use Rattle.words.specs.Columns.{blanks, placedLeft}
 use borrow.Author.Needs.{needs}
 use Rattle.words.proofs.left.Statement.{statement}
 use Rattle.words.proofs.left.Tie as tie
-use Rattle.words.proofs.left.Reads as reads
-use Rattle.words.proofs.left.Lts as lts
-use Rattle.words.proofs.gap.Reads as gap-reads
-use Rattle.words.proofs.put.Reads as put-reads
-use Rattle.words.proofs.spaces.Reads as spaces-reads
 
 put-requires : tie.Need-put-requires
 put-requires c κs = search needs

@@ -1,5 +1,5 @@
 -- `words::number` meets its contract. Assumes nothing.
-use mathlib.Core.Path.{_≡_, sym, ap, _∙_}
+use mathlib.Core.Path.{sym, ap, _∙_}
 use mathlib.Core.List.{List}
 use Prim.Native.Nat.{ℕ, _+_}
 use native.Mathlib.Omega.{arith}
@@ -9,10 +9,6 @@ use Rattle.lines.proofs.Numbers.{placed-fits, placed-not}
 use borrow.Author.Needs.{needs}
 use Rattle.words.proofs.number.Statement.{statement}
 use Rattle.words.proofs.number.Tie as tie
-use Rattle.words.proofs.number.Reads as reads
-use Rattle.words.proofs.number.Lts as lts
-use Rattle.lines.proofs.digits.Reads as digits-reads
-use Rattle.lines.proofs.spell.Reads as spell-reads
 
 digits-requires : tie.Need-digits-requires
 digits-requires c κs = search needs

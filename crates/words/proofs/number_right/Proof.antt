@@ -1,5 +1,5 @@
 -- `words::number_right` meets its contract. Assumes nothing.
-use mathlib.Core.Path.{_≡_, ap, _∙_}
+use mathlib.Core.Path.{ap, _∙_}
 use Prim.Native.Nat.{ℕ, _-_}
 use Rattle.machine.specs.Printed.{decimal}
 use Rattle.lines.specs.Placed.{Placed, placed}
@@ -7,12 +7,6 @@ use Rattle.words.specs.Columns.{blanks, placedRight}
 use borrow.Author.Needs.{needs}
 use Rattle.words.proofs.number_right.Statement.{statement}
 use Rattle.words.proofs.number_right.Tie as tie
-use Rattle.words.proofs.number_right.Reads as reads
-use Rattle.words.proofs.number_right.Lts as lts
-use Rattle.lines.proofs.digits.Reads as digits-reads
-use Rattle.words.proofs.gap.Reads as gap-reads
-use Rattle.words.proofs.number.Reads as number-reads
-use Rattle.words.proofs.spaces.Reads as spaces-reads
 
 digits-requires : tie.Need-digits-requires
 digits-requires c κs = search needs

@@ -4,9 +4,6 @@ use Rattle.words.specs.Amounts.{amountOf}
 use borrow.Author.Needs.{needs}
 use Rattle.words.proofs.price.Statement.{statement}
 use Rattle.words.proofs.price.Tie as tie
-use Rattle.words.proofs.price.Reads as reads
-use Rattle.words.proofs.price.Lts as lts
-use Rattle.words.proofs.difference.Reads as difference-reads
 
 difference-requires : tie.Need-difference-requires
 difference-requires c κs = search needs

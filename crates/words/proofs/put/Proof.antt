@@ -1,5 +1,5 @@
 -- `words::put` meets its contract. The invariant: the bytes copied stand in the buffer. Assumes nothing.
-use mathlib.Core.Path.{_≡_, refl, sym, ap, _∙_}
+use mathlib.Core.Path.{_≡_, refl, sym, _∙_}
 use Prim.Native.Nat.{_+_, _-_, _≤_}
 use native.Mathlib.Omega.{arith}
 use lib.ListN.{length, take, length-set}
@@ -9,8 +9,6 @@ use Rattle.lines.proofs.Numbers.{placed-not}
 use Rattle.words.proofs.Copying.{copied-next, copied-all}
 use Rattle.words.proofs.put.Statement.{statement}
 use Rattle.words.proofs.put.Tie as tie
-use Rattle.words.proofs.put.Reads as reads
-use Rattle.words.proofs.put.Lts as lts
 
 abbrev Inv-loop : tie.InvT-loop
 Inv-loop out₀ at text i₀ out i = (out ≡ sets out₀ at (take i text)) × (i ≤ length text) × (at + length text ≤ length out₀) × (length out ≡ length out₀)

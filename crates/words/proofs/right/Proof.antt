@@ -1,16 +1,11 @@
 -- `words::right` meets its contract. Assumes nothing.
-use mathlib.Core.Path.{_≡_, ap, _∙_}
+use mathlib.Core.Path.{ap, _∙_}
 use Prim.Native.Nat.{ℕ}
 use Rattle.lines.specs.Placed.{Placed, placed}
 use Rattle.words.specs.Columns.{blanks, placedRight}
 use borrow.Author.Needs.{needs}
 use Rattle.words.proofs.right.Statement.{statement}
 use Rattle.words.proofs.right.Tie as tie
-use Rattle.words.proofs.right.Reads as reads
-use Rattle.words.proofs.right.Lts as lts
-use Rattle.words.proofs.gap.Reads as gap-reads
-use Rattle.words.proofs.put.Reads as put-reads
-use Rattle.words.proofs.spaces.Reads as spaces-reads
 
 gap-requires : tie.Need-gap-requires
 gap-requires c κs = search needs

@@ -1,5 +1,5 @@
 -- `words::spaces` meets its contract. Assumes nothing.
-use mathlib.Core.Path.{_≡_, ap, _∙_}
+use mathlib.Core.Path.{ap, _∙_}
 use Prim.Native.Nat.{ℕ}
 use native.Mathlib.Nat.{sub-zero}
 use lib.ListN.{take, replicate}
@@ -8,10 +8,6 @@ use Rattle.words.specs.Columns.{blanks}
 use borrow.Author.Needs.{needs}
 use Rattle.words.proofs.spaces.Statement.{statement}
 use Rattle.words.proofs.spaces.Tie as tie
-use Rattle.words.proofs.spaces.Reads as reads
-use Rattle.words.proofs.spaces.Lts as lts
-use Rattle.words.proofs.at_most_widest.Reads as at-most-widest-reads
-use Rattle.words.proofs.put.Reads as put-reads
 
 at-most-widest-requires : tie.Need-at-most-widest-requires
 at-most-widest-requires c κs = search needs

@@ -1,13 +1,8 @@
 -- `explain::answers::first_owing` is safe and ends. Assumes nothing.
-use mathlib.Core.Path.{_≡_}
 use Prim.Native.Nat.{_-_, _≤_}
-use lib.ListN.{length}
 use borrow.Author.Needs.{needs}
 use Rattle.explain.proofs.answers.first_owing.Statement.{statement}
 use Rattle.explain.proofs.answers.first_owing.Tie as tie
-use Rattle.explain.proofs.answers.first_owing.Reads as reads
-use Rattle.explain.proofs.answers.first_owing.Lts as lts
-use Rattle.accounts.proofs.members.Members.owes.Reads as owes-reads
 
 abbrev Inv-loop : tie.InvT-loop
 Inv-loop members m₀ m = m ≤ 32

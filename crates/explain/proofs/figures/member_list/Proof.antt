@@ -1,5 +1,5 @@
 -- `explain::figures::member_list` meets its contract: it ends. Assumes nothing.
-use mathlib.Core.Path.{_≡_, refl, ap, _∙_}
+use mathlib.Core.Path.{_≡_, refl}
 use Prim.Native.Nat.{_^_, _<_}
 use native.Mathlib.Omega.{arith}
 use lib.ListN.{length}
@@ -8,12 +8,6 @@ use Rattle.sets.specs.Set.{members}
 use Rattle.sets.proofs.Members.{Taken, taken}
 use Rattle.explain.proofs.figures.member_list.Statement.{statement}
 use Rattle.explain.proofs.figures.member_list.Tie as tie
-use Rattle.explain.proofs.figures.member_list.Reads as reads
-use Rattle.explain.proofs.figures.member_list.Lts as lts
-use Rattle.sets.proofs.next.Reads as next-reads
-use Rattle.sets.proofs.without_least.Reads as without-least-reads
-use Rattle.explain.proofs.figures.comma_if.Reads as comma-if-reads
-use Rattle.words.proofs.number.Reads as number-reads
 
 abbrev Inv-loop : tie.InvT-loop
 Inv-loop out₀ at set to₀ left₀ out to left = (left < 2 ^ 32) × (length out ≡ length out₀)

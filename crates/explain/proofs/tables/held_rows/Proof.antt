@@ -5,10 +5,6 @@ use lib.ListN.{length}
 use borrow.Author.Needs.{needs}
 use Rattle.explain.proofs.tables.held_rows.Statement.{statement}
 use Rattle.explain.proofs.tables.held_rows.Tie as tie
-use Rattle.explain.proofs.tables.held_rows.Reads as reads
-use Rattle.explain.proofs.tables.held_rows.Lts as lts
-use Rattle.explain.proofs.tables.rows_if.Reads as rows-if-reads
-use Rattle.sets.proofs.has.Reads as has-reads
 
 abbrev Inv-loop : tie.InvT-loop
 Inv-loop case set out₀ next₀ m₀ out next m = (m ≤ 32) × (length out ≡ length out₀)

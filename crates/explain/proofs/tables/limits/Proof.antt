@@ -3,10 +3,6 @@ use Rattle.book.specs.Results.{limitsIn}
 use borrow.Author.Needs.{needs}
 use Rattle.explain.proofs.tables.limits.Statement.{statement}
 use Rattle.explain.proofs.tables.limits.Tie as tie
-use Rattle.explain.proofs.tables.limits.Reads as reads
-use Rattle.explain.proofs.tables.limits.Lts as lts
-use Rattle.accounts.proofs.members.amounts.Reads as amounts-reads
-use Rattle.book.proofs.Book.contributions.Reads as contributions-reads
 
 cast-house : tie.Need-cast-house
 cast-house c = search needs

@@ -5,10 +5,6 @@ use lib.ListN.{length}
 use borrow.Author.Needs.{needs}
 use Rattle.explain.proofs.tables.member_rows.Statement.{statement}
 use Rattle.explain.proofs.tables.member_rows.Tie as tie
-use Rattle.explain.proofs.tables.member_rows.Reads as reads
-use Rattle.explain.proofs.tables.member_rows.Lts as lts
-use Rattle.explain.proofs.tables.member_row.Reads as member-row-reads
-use Rattle.sets.proofs.has.Reads as has-reads
 
 abbrev Inv-loop : tie.InvT-loop
 Inv-loop members result set out₀ at to₀ m₀ out to m = (m ≤ 32) × (length out ≡ length out₀)

@@ -1,15 +1,8 @@
 -- `explain::tables::next_price` is safe and ends. Assumes nothing.
-use mathlib.Core.Path.{_≡_}
 use Prim.Native.Nat.{_-_, _≤_}
-use lib.ListN.{length}
 use borrow.Author.Needs.{needs}
 use Rattle.explain.proofs.tables.next_price.Statement.{statement}
 use Rattle.explain.proofs.tables.next_price.Tie as tie
-use Rattle.explain.proofs.tables.next_price.Reads as reads
-use Rattle.explain.proofs.tables.next_price.Lts as lts
-use Rattle.explain.proofs.tables.counted.Reads as counted-reads
-use Rattle.explain.proofs.tables.held_price.Reads as held-price-reads
-use Rattle.explain.proofs.tables.lesser.Reads as lesser-reads
 
 abbrev Inv-loop : tie.InvT-loop
 Inv-loop m pool first roll members prices n best₀ i₀ best i = (i ≤ n) × (n ≤ 4000)

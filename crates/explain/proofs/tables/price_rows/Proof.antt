@@ -5,14 +5,6 @@ use lib.ListN.{length}
 use borrow.Author.Needs.{needs}
 use Rattle.explain.proofs.tables.price_rows.Statement.{statement}
 use Rattle.explain.proofs.tables.price_rows.Tie as tie
-use Rattle.explain.proofs.tables.price_rows.Reads as reads
-use Rattle.explain.proofs.tables.price_rows.Lts as lts
-use Rattle.case.proofs.Case.holding.Reads as holding-reads
-use Rattle.explain.proofs.tables.after.Reads as after-reads
-use Rattle.explain.proofs.tables.held_row.Reads as held-row-reads
-use Rattle.explain.proofs.tables.next_price.Reads as next-price-reads
-use Rattle.explain.proofs.tables.plus.Reads as plus-reads
-use Rattle.explain.proofs.tables.worth.Reads as worth-reads
 
 abbrev Inv-loop : tie.InvT-loop
 Inv-loop case m pool out₀ at₀ units₀ prices₀ first₀ out at units prices first = (first ≤ 2000001) × (length out ≡ length out₀)

@@ -1,13 +1,8 @@
 -- `explain::tables::sum_of` is safe and ends. Assumes nothing.
-use mathlib.Core.Path.{_≡_}
 use Prim.Native.Nat.{_-_, _≤_}
-use lib.ListN.{length}
 use borrow.Author.Needs.{needs}
 use Rattle.explain.proofs.tables.sum_of.Statement.{statement}
 use Rattle.explain.proofs.tables.sum_of.Tie as tie
-use Rattle.explain.proofs.tables.sum_of.Reads as reads
-use Rattle.explain.proofs.tables.sum_of.Lts as lts
-use Rattle.explain.proofs.tables.plus.Reads as plus-reads
 
 abbrev Inv-loop : tie.InvT-loop
 Inv-loop xs total₀ m₀ total m = m ≤ 32

@@ -5,9 +5,6 @@ use native.Mathlib.Omega.{arith}
 use borrow.Author.Needs.{needs}
 use Rattle.explain.proofs.tables.worth.Statement.{statement}
 use Rattle.explain.proofs.tables.worth.Tie as tie
-use Rattle.explain.proofs.tables.worth.Reads as reads
-use Rattle.explain.proofs.tables.worth.Lts as lts
-use Rattle.lists.proofs.smaller.Reads as smaller-reads
 
 smaller-requires : tie.Need-smaller-requires
 smaller-requires c κs = search needs
