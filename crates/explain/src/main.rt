@@ -1,0 +1,179 @@
+// The program `explain`: reads the same fields as `ledger` and prints for people what was asked, what was answered and why, and at the end tables.
+mod answers;
+mod calls;
+mod figures;
+mod paper;
+mod ranges;
+mod tables;
+
+ghost use mathlib.Core.Path.{_≡_};
+ghost use Prim.Native.Nat.{_+_, _≤_};
+ghost use lib.ListN.{length};
+ghost use Rattle.case.specs.Cases.{applied};
+use case::Held;
+use libc::STDIN_FILENO;
+
+// What is held after a part of an input, the bytes that its whole fields took, and the place behind the text.
+struct Taken {
+    held: Held,
+    used: usize,
+    at: usize,
+}
+
+// What is held after a field, and the place behind its text.
+struct Step {
+    held: Held,
+    at: usize,
+}
+
+// What is held when the input has ended, how many bytes of a field that is cut off are left at the buffer's front, and the place behind the text.
+struct Rest {
+    held: Held,
+    len: usize,
+    at: usize,
+}
+
+// One read into the buffer from a place on: how many bytes came.
+fn read_at(buf: &mut [u8], at: usize) -> usize
+    requires { ⌜ at ≤ length (now buf) ⌝ }
+    ensures { λ r. ⌜ at + r ≤ length (now (buf .entry)) ⌝ }
+{
+    let part = &mut buf[at..];
+    let got = libc::read(STDIN_FILENO, part);
+    io::count(got, part)
+}
+
+// Moves the bytes between two places to the front, and says how many they are.
+fn slide(buf: &mut [u8], start: usize, end: usize) -> usize
+    requires { ⌜ (start ≤ end) × (end ≤ length (now buf)) ⌝ }
+    ensures { λ r. ⌜ r ≤ end ⌝ }
+{
+    let n = end - start;
+    let mut i: usize = 0;
+    while i < n {
+        buf[i] = buf[start + i];
+        i += 1;
+    }
+    n
+}
+
+// A byte as a wider number.
+fn wide(b: u8) -> usize
+    ensures { λ r. ⌜ (r ≡ b) × (r ≤ 255) ⌝ }
+{
+    b as usize
+}
+
+// The bytes of the first field of an input, and 0 where it is not all there.
+fn whole_size(input: &[u8]) -> usize
+    ensures { λ r. ⌜ r ≤ length (now (input .entry)) ⌝ }
+{
+    let n = input.len();
+    if n < 3 {
+        return 0;
+    }
+    let size = 3 + wide(input[1]) * 256 + wide(input[2]);
+    if n < size { 0 } else { size }
+}
+
+// One field: the call, its answer in words, and the stage and the open units after it.
+fn take_field(held: Held, bytes: &[u8], out: &mut [u8], at: usize) -> Step
+    ensures { λ r. ⌜ r .held ≡ applied held (now (bytes .entry)) .held ⌝ }
+{
+    let call = wire::read_call(bytes);
+    let applied = case::take(held, call);
+    let case = held.case;
+    let book = case.book;
+    let named = calls::write_call(call, bytes, out, at);
+    let said = answers::write_answer(held.present, book, call, applied.answer, out, named);
+    let next = applied.held;
+    let after = next.case;
+    let now = after.book;
+    let shown = answers::write_state(next.present, now, out, said);
+    Step {
+        held: next,
+        at: paper::end_line(out, shown),
+    }
+}
+
+// The whole fields at the front of a part of an input, in turn.
+fn take_part(held: Held, input: &[u8], out: &mut [u8], at: usize) -> Taken
+    ensures { λ r. ⌜ r .used ≤ length (now (input .entry)) ⌝ }
+{
+    let mut next = held;
+    let mut used: usize = 0;
+    let mut to = at;
+    while used < input.len() {
+        let size = whole_size(&input[used..]);
+        if size == 0 {
+            return Taken {
+                held: next,
+                used,
+                at: to,
+            };
+        }
+        let end = used + size;
+        let step = take_field(next, &input[used..end], out, to);
+        next = step.held;
+        to = step.at;
+        used = end;
+    }
+    Taken {
+        held: next,
+        used,
+        at: to,
+    }
+}
+
+// Reads and takes until the input ends.
+fn take_input(buf: &mut [u8], out: &mut [u8]) -> Rest
+    ensures { λ r. ⌜ r .len ≤ length (now (buf .entry)) ⌝ }
+{
+    let mut held = Held::none();
+    let mut len: usize = 0;
+    let mut at: usize = 0;
+    let mut turns = u64::MAX;
+    while turns > 0 {
+        turns -= 1;
+        let got = read_at(buf, len);
+        if got == 0 {
+            return Rest { held, len, at };
+        }
+        let end = len + got;
+        let taken = take_part(held, &buf[0..end], out, at);
+        held = taken.held;
+        at = taken.at;
+        len = slide(buf, taken.used, end);
+    }
+    Rest { held, len, at }
+}
+
+// A field that is cut off by the input's end, of which these bytes are left.
+fn write_cut(rest: &[u8], out: &mut [u8], at: usize) -> usize {
+    if rest.len() == 0 {
+        return at;
+    }
+    let tag = figures::with_number(out, at, b"cut off, tag ", calls::wide(rest[0]));
+    let size = figures::with_number(out, tag, b", bytes ", rest.len() as u64);
+    let named = paper::end_line(out, size);
+    let said = words::put(
+        out,
+        named,
+        b"    refused 1: the input ends within the field",
+    );
+    paper::end_line(out, said)
+}
+
+fn run(buf: &mut [u8], out: &mut [u8]) {
+    let rest = take_input(buf, out);
+    let len = rest.len;
+    let cut = write_cut(&buf[0..len], out, rest.at);
+    let end = tables::write_tables(rest.held, out, cut);
+    paper::flush(out, end);
+}
+
+fn main() {
+    let mut buf = [0u8; 131072];
+    let mut out = [0u8; 131072];
+    run(&mut buf, &mut out);
+}

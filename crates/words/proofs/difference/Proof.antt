@@ -1,0 +1,20 @@
+-- `words::difference` meets its contract. Assumes nothing.
+use borrow.Author.Tests.{lt-ltb, le-ltb}
+use Rattle.words.specs.Amounts.{differenceOf}
+use borrow.Author.Needs.{needs}
+use Rattle.words.proofs.difference.Statement.{statement}
+use Rattle.words.proofs.difference.Tie as tie
+
+sub-t4 : tie.Need-sub-t4
+sub-t4 c = search needs
+
+returns : tie.Need-returns
+unfolding differenceOf
+returns c = simp (lt-ltb _ _ (c .if1 .taken))
+
+returns-2 : tie.Need-returns-2
+unfolding differenceOf
+returns-2 c = simp (le-ltb _ _ (c .if1 .left))
+
+pub difference-spec : {M : Type 1} → statement M
+difference-spec = tie.close (tie.spec sub-t4 returns returns-2)
