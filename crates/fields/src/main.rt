@@ -212,18 +212,27 @@ fn two(high: u8, low: u8) -> usize
     high as usize * 256 + low as usize
 }
 
+// A further line of a comment, behind every 32nd byte.
+fn print_break(i: usize) {
+    if i % 32 != 31 {
+        return;
+    }
+    io::write_all(STDOUT_FILENO, b"\n#");
+}
+
 // A byte in hexadecimal.
 fn print_hex(b: u8) {
     io::write_all(STDOUT_FILENO, b" ");
     io::print_hex(STDOUT_FILENO, b as u64, 2);
 }
 
-// Bytes that are no call, as a comment.
+// Bytes that are no call, as a comment, 32 bytes to a line.
 fn print_other(bytes: &[u8]) {
     io::write_all(STDOUT_FILENO, b"# not a call:");
     let mut i: usize = 0;
     while i < bytes.len() {
         print_hex(bytes[i]);
+        print_break(i);
         i += 1;
     }
     io::write_all(STDOUT_FILENO, b"\n");

@@ -26,6 +26,9 @@ shared-slice-read-print-hex c = search needs
 print-hex-requires : tie.Need-print-hex-requires Inv-loop μ-loop
 print-hex-requires c κs = search needs
 
+print-break-requires : tie.Need-print-break-requires Inv-loop μ-loop
+print-break-requires c κs = search needs
+
 add-i : tie.Need-add-i Inv-loop μ-loop
 add-i c = search needs
 
@@ -55,6 +58,7 @@ print-other-spec =
     loop-holds
     shared-slice-read-print-hex
     print-hex-requires
+    print-break-requires
     add-i
     loop-less
     loop-again
