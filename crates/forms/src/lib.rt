@@ -268,7 +268,7 @@ pub fn flat(call: Call) -> Tagged
 }
 
 // A byte at a place of the buffer, and the next place.
-pub fn put(out: &mut [u8], at: usize, b: u8) -> usize
+fn put(out: &mut [u8], at: usize, b: u8) -> usize
     requires { ⌜ at + 1 ≤ length (now out) ⌝ }
     ensures { λ r. ⌜ Put (now (out .entry)) at (b ∷ []) 1 r (now (out .exit)) ⌝ }
 {

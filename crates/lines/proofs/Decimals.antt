@@ -1,13 +1,14 @@
 -- The digits of a number, from the last on: what is spelled of it, and what is left. Assumes nothing.
 use mathlib.Core.Path.{_≡_, refl, sym, ap, _∙_}
 use mathlib.Core.List.{List, [], _∷_, _++_, append-assoc, append-nil}
-use Prim.Native.Nat.{ℕ, zero, suc, _+_, _*_, _/_, _%_, _^_, _≤_, _<_}
+use Prim.Native.Nat.{ℕ, zero, suc, _+_, _/_, _%_, _^_, _≤_, _<_}
 use native.Mathlib.Nat.{pow-suc, div-lt-iff-lt-mul}
 use native.Mathlib.Omega.{arith}
 use lib.Dec.{ltb}
 use lib.ListN.{length, length-append}
 use borrow.Author.Tests.{lt-ltb, le-ltb}
 use Rattle.lists.specs.Lists.{if_then_else_}
+use Rattle.lists.proofs.Bools.{either}
 use Rattle.machine.specs.Printed.{decimal}
 
 -- the last digits `w` of n are spelled, and `rest` is left
@@ -73,3 +74,11 @@ pub record Counted (n rest k : ℕ) : Type 0 where
   pub spelled : List ℕ
   pub spelling : Spelling n rest spelled
   pub count : k ≡ 1 + length spelled
+
+-- a number has at most as many digits as are asked for
+pub decimal-le : (k n : ℕ) → length (decimal k n) ≤ k
+unfolding decimal
+decimal-le zero n = omega arith
+decimal-le (suc k) n =
+    rw (length-append (if ltb n 10 then [] else decimal k (n / 10)) ((48 + n % 10) ∷ []))
+    (either (λ (l : List ℕ). length l + 1 ≤ suc k) (ltb n 10) (omega arith) (omega (arith, decimal-le k (n / 10))))

@@ -37,7 +37,7 @@ fn glyph(d: u64) -> u8
 }
 
 // The digits of a number, of which there are k, from a place of the buffer on.
-pub fn spell(out: &mut [u8], at: usize, k: usize, n: u64)
+fn spell(out: &mut [u8], at: usize, k: usize, n: u64)
     requires { ⌜ (k ≡ length (decimal 20 n)) × (at + k ≤ length (now out)) ⌝ }
     ensures { λ _. ⌜ now (out .exit) ≡ sets (now (out .entry)) at (decimal 20 n) ⌝ }
 {
@@ -49,6 +49,21 @@ pub fn spell(out: &mut [u8], at: usize, k: usize, n: u64)
         i -= 1;
     }
     put(out, i, glyph(rest));
+}
+
+// A number in decimal, put into the buffer from a place on, and the place behind it. Where it does not fit, the place and the buffer stay as they are.
+pub fn number(out: &mut [u8], at: usize, n: u64) -> usize
+    ensures { λ r. ⌜ _≡_ {A = Placed} (r, now (out .exit)) (placed (decimal 20 n) (now (out .entry)) at) ⌝ }
+{
+    let k = digits(n);
+    if out.len() < at {
+        return at;
+    }
+    if out.len() - at < k {
+        return at;
+    }
+    spell(out, at, k, n);
+    at + k
 }
 
 // The bytes that the first `count` of eight numbers take, each behind a space, and the line's end.

@@ -478,6 +478,15 @@ fn place(b: u8) -> usize
     b as usize
 }
 
+// A byte at a place of the buffer, and the next place.
+fn put(out: &mut [u8], at: usize, b: u8) -> usize
+    requires { ⌜ at + 1 ≤ length (now out) ⌝ }
+    ensures { λ r. ⌜ Put (now (out .entry)) at (b ∷ []) 1 r (now (out .exit)) ⌝ }
+{
+    out[at] = b;
+    at + 1
+}
+
 // A piece of text, from a place of the buffer on, and the place behind it.
 fn put_piece(out: &mut [u8], at: usize, k: usize) -> usize
     requires { ⌜ (k < 126) × (at + 16 ≤ length (now out)) ⌝ }
@@ -488,7 +497,7 @@ fn put_piece(out: &mut [u8], at: usize, k: usize) -> usize
     let mut to = at;
     let mut j: usize = 0;
     while j < n {
-        to = forms::put(out, to, TEXT[start + j]);
+        to = put(out, to, TEXT[start + j]);
         j += 1;
     }
     to
@@ -499,9 +508,7 @@ fn put_decimal(out: &mut [u8], at: usize, n: u64) -> usize
     requires { ⌜ at + 20 ≤ length (now out) ⌝ }
     ensures { λ r. ⌜ Put (now (out .entry)) at (decimal 20 n) 20 r (now (out .exit)) ⌝ }
 {
-    let k = lines::digits(n);
-    lines::spell(out, at, k, n);
-    at + k
+    lines::number(out, at, n)
 }
 
 // A digit.
@@ -509,7 +516,7 @@ fn put_digit(out: &mut [u8], at: usize, d: u64) -> usize
     requires { ⌜ (d < 10) × (at + 1 ≤ length (now out)) ⌝ }
     ensures { λ r. ⌜ Put (now (out .entry)) at ((48 + d) ∷ []) 1 r (now (out .exit)) ⌝ }
 {
-    forms::put(out, at, 48 + d as u8)
+    put(out, at, 48 + d as u8)
 }
 
 // Cents, with a point and two digits behind it.
@@ -518,7 +525,7 @@ fn put_money(out: &mut [u8], at: usize, n: u64) -> usize
     ensures { λ r. ⌜ Put (now (out .entry)) at (moneyText n) 23 r (now (out .exit)) ⌝ }
 {
     let a = put_decimal(out, at, n / 100);
-    let b = forms::put(out, a, b'.');
+    let b = put(out, a, b'.');
     let c = put_digit(out, b, n / 10 % 10);
     put_digit(out, c, n % 10)
 }
@@ -528,7 +535,7 @@ fn put_negative(out: &mut [u8], at: usize, n: u64) -> usize
     requires { ⌜ at + 24 ≤ length (now out) ⌝ }
     ensures { λ r. ⌜ Put (now (out .entry)) at (45 ∷ moneyText n) 24 r (now (out .exit)) ⌝ }
 {
-    let a = forms::put(out, at, b'-');
+    let a = put(out, at, b'-');
     put_money(out, a, n)
 }
 
@@ -551,7 +558,7 @@ fn put_member(out: &mut [u8], at: usize, m: u64) -> usize
     requires { ⌜ at + 21 ≤ length (now out) ⌝ }
     ensures { λ r. ⌜ Put (now (out .entry)) at (44 ∷ decimal 20 m) 21 r (now (out .exit)) ⌝ }
 {
-    let a = forms::put(out, at, b',');
+    let a = put(out, at, b',');
     put_decimal(out, a, m)
 }
 
@@ -576,7 +583,7 @@ fn put_members(out: &mut [u8], at: usize, set: u32) -> usize
     ensures { λ r. ⌜ Put (now (out .entry)) at (membersText (members set)) 692 r (now (out .exit)) ⌝ }
 {
     if set == 0 {
-        return forms::put(out, at, b'-');
+        return put(out, at, b'-');
     }
     let m = sets::next(set) as u64;
     let rest = sets::without_least(set);
@@ -621,7 +628,7 @@ fn put_items(out: &mut [u8], at: usize, tag: u8, count: usize, numbers: [u32; 8]
         to = put_item(out, to, tag, i, numbers[i]);
         i += 1;
     }
-    forms::put(out, to, b'\n')
+    put(out, to, b'\n')
 }
 
 // A line at the front of the buffer, and its length.

@@ -73,15 +73,7 @@ pub fn left(out: &mut [u8], at: usize, width: usize, word: &[u8]) -> usize
 pub fn number(out: &mut [u8], at: usize, n: u64) -> usize
     ensures { λ r. ⌜ _≡_ {A = Placed} (r, now (out .exit)) (placed (decimal 20 n) (now (out .entry)) at) ⌝ }
 {
-    let k = lines::digits(n);
-    if out.len() < at {
-        return at;
-    }
-    if out.len() - at < k {
-        return at;
-    }
-    lines::spell(out, at, k, n);
-    at + k
+    lines::number(out, at, n)
 }
 
 // A number at the right of a column.

@@ -1,14 +1,13 @@
 -- `lines::write_line` meets its contract. Assumes nothing.
 use mathlib.Core.Path.{_≡_, sym, ap, _∙_}
-use mathlib.Core.List.{List, _∷_}
-use Prim.Native.Nat.{ℕ, suc, _+_, _≤_, min}
+use mathlib.Core.List.{List}
+use Prim.Native.Nat.{ℕ, _+_, min}
 use native.Mathlib.Omega.{arith}
-use lib.ListN.{length, set, take}
-use lib.Seq.{sets}
+use lib.ListN.{length, take}
 use borrow.Author.Needs.{needs}
 use Rattle.machine.specs.Printed.{numbersText}
 use Rattle.lines.specs.Placed.{lineOf, lineText, placed}
-use Rattle.lines.proofs.Numbers.{line-text, length-line, placed-fits, placed-not, placed-line}
+use Rattle.lines.proofs.Numbers.{length-line, placed-not, placed-line}
 use Rattle.lines.proofs.write_line.Statement.{statement}
 use Rattle.lines.proofs.write_line.Tie as tie
 

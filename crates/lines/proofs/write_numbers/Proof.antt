@@ -3,11 +3,10 @@ use mathlib.Core.Path.{_≡_, refl, sym, ap, _∙_}
 use mathlib.Core.List.{List}
 use Prim.Native.Nat.{ℕ, _+_, _-_, _≤_, _<_}
 use native.Mathlib.Omega.{arith}
-use lib.ListN.{length, getD, set, length-set}
+use lib.ListN.{length, getD, length-set}
 use lib.Seq.{sets, length-sets}
 use borrow.Author.Needs.{needs}
-use Rattle.machine.specs.Printed.{decimal}
-use Rattle.lines.proofs.Numbers.{textFrom, numberText, text-next, text-end, length-next, sets-next}
+use Rattle.lines.proofs.Numbers.{textFrom, numberText, text-end, length-next, sets-next}
 use Rattle.lines.proofs.write_numbers.Statement.{statement}
 use Rattle.lines.proofs.write_numbers.Tie as tie
 

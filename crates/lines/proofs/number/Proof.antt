@@ -1,14 +1,14 @@
--- `words::number` meets its contract. Assumes nothing.
+-- `lines::number` meets its contract. Assumes nothing.
 use mathlib.Core.Path.{sym, ap, _∙_}
 use mathlib.Core.List.{List}
 use Prim.Native.Nat.{ℕ, _+_}
 use native.Mathlib.Omega.{arith}
 use lib.Seq.{sets}
 use Rattle.machine.specs.Printed.{decimal}
 use Rattle.lines.proofs.Numbers.{placed-fits, placed-not}
 use borrow.Author.Needs.{needs}
-use Rattle.words.proofs.number.Statement.{statement}
-use Rattle.words.proofs.number.Tie as tie
+use Rattle.lines.proofs.number.Statement.{statement}
+use Rattle.lines.proofs.number.Tie as tie
 
 digits-requires : tie.Need-digits-requires
 digits-requires c κs = search needs
