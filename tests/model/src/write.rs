@@ -105,3 +105,22 @@ pub fn finish() -> Vec<u8> {
 fn byte_and_four(first: u8, rest: [u8; 4]) -> [u8; 5] {
     [first, rest[0], rest[1], rest[2], rest[3]]
 }
+
+/// The example of document 01, call by call.
+pub fn example() -> Vec<Vec<u8>> {
+    let h = Head { pools: 1, least_bid: 1, set: 0b111, hedge_loss: 0, other_loss: 0, margin: 20, fund: 10, house: 50 };
+    vec![
+        head(&h),
+        pool(0, 10, 0),
+        member(0, 100, [4, 0, 0, 0]),
+        member(1, 100, [3, 0, 0, 0]),
+        member(2, 60, [3, 0, 0, 0]),
+        round(&[-30]),
+        bid(0, 0, 4, -10),
+        bid(0, 1, 5, -20),
+        bid(0, 2, 3, -20),
+        bid(0, 2, 5, -40),
+        close(),
+        finish(),
+    ]
+}

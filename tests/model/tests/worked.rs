@@ -139,22 +139,7 @@ fn the_example_of_01_byte_for_byte() {
 
 #[test]
 fn the_writers_make_the_example_of_01() {
-    let h = Head { margin: 20, fund: 10, house: 50, ..head_of(1, 3) };
-    let fields = [
-        head(&h),
-        pool(0, 10, 0),
-        member(0, 100, [4, 0, 0, 0]),
-        member(1, 100, [3, 0, 0, 0]),
-        member(2, 60, [3, 0, 0, 0]),
-        round(&[-30]),
-        bid(0, 0, 4, -10),
-        bid(0, 1, 5, -20),
-        bid(0, 2, 3, -20),
-        bid(0, 2, 5, -40),
-        close(),
-        finish(),
-    ];
-    assert_eq!(fields.concat(), example_bytes());
+    assert_eq!(example().concat(), example_bytes());
 }
 
 /// Annexure 1 of document 000: seven members P to V, one bucket of 160 units, reserves −11.25 and −15.19, prices in hundredths.

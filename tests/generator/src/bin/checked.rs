@@ -2,7 +2,7 @@
 //! every byte, and lists that give every answer to every call that can get it.
 
 use generator::{calls, fields, profile_of};
-use model::write::{Head, bid, close, finish, head, member, pool, round};
+use model::write::{Head, bid, close, example, finish, head, member, pool, round};
 use model::{Ledger, Roll, print};
 use std::collections::BTreeSet;
 use std::io::{self, Write};
@@ -28,7 +28,7 @@ fn main() -> ExitCode {
 
 fn inputs() -> Vec<Vec<u8>> {
     let mut all = vec![bids_255_and_256(), annexure_1()];
-    let example = example();
+    let example = example().concat();
     all.extend((0..=example.len()).map(|length| example[..length].to_vec()));
     let seen = all.iter().flat_map(|input| pairs_of(input)).collect();
     all.extend(every_pair(seen));
@@ -37,25 +37,6 @@ fn inputs() -> Vec<Vec<u8>> {
 
 fn head_of(pools: u8, members: u32) -> Head {
     Head { pools, least_bid: 1, set: (1 << members) - 1, hedge_loss: 0, other_loss: 0, margin: 0, fund: 0, house: 0 }
-}
-
-/// "The program `ledger`": the example of document 01.
-fn example() -> Vec<u8> {
-    [
-        head(&Head { margin: 20, fund: 10, house: 50, ..head_of(1, 3) }),
-        pool(0, 10, 0),
-        member(0, 100, [4, 0, 0, 0]),
-        member(1, 100, [3, 0, 0, 0]),
-        member(2, 60, [3, 0, 0, 0]),
-        round(&[-30]),
-        bid(0, 0, 4, -10),
-        bid(0, 1, 5, -20),
-        bid(0, 2, 3, -20),
-        bid(0, 2, 5, -40),
-        close(),
-        finish(),
-    ]
-    .concat()
 }
 
 /// K9: bid 255 is kept, the next is declined by 7, and the case goes on.

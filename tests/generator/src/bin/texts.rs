@@ -68,24 +68,25 @@ fn main() -> ExitCode {
     println!("{count} calls: fields to text to fields, and text to fields to text, unchanged");
     let mut rng = Rng::new(1);
     let garbage: Vec<u8> = (0..100_000).map(|_| rng.below(256) as u8).filter(|&byte| byte != b'\n').collect();
-    let bad: [(&str, Vec<u8>); 8] = [
-        ("an unknown word", b"HEDGE pools 1\n".to_vec()),
-        ("another key", b"BID pool 0 member 1 price 5 units 5\n".to_vec()),
-        ("a number too large", b"POOL pool 0 units 70000 mark 0\n".to_vec()),
-        ("a number past all limits", [&b"PAY member 0 amount "[..], &b"9".repeat(1000), b"\n"].concat()),
-        ("a missing value", b"BID pool 0 member 1 units 5 price\n".to_vec()),
-        ("one value too many", b"MOVE member 1 2\n".to_vec()),
-        ("a line of 10 MB", [b"BID ".repeat(2_500_000), b"\n".to_vec()].concat()),
-        ("bytes that are no text", [&garbage[..], b"\n"].concat()),
+    let bad: [(&str, Vec<u8>); 9] = [
+        ("column 1: not the name of a call", b"HEDGE pools 1\n".to_vec()),
+        ("column 21: not the key that is expected here", b"BID pool 0 member 1 price 5 units 5\n".to_vec()),
+        ("column 19: the number is too large", b"POOL pool 0 units 70000 mark 0\n".to_vec()),
+        ("column 21: the number is too large", [&b"PAY member 0 amount "[..], &b"9".repeat(1000), b"\n"].concat()),
+        ("column 21: not a number", b"PAY member 1 amount 1.5\n".to_vec()),
+        ("column 34: the line ends before the call does", b"BID pool 0 member 1 units 5 price\n".to_vec()),
+        ("column 15: not expected here", b"MOVE member 1 2\n".to_vec()),
+        ("column 65537: the line is longer than 65536 bytes", [b"BID ".repeat(2_500_000), b"\n".to_vec()].concat()),
+        ("column 65537: the line is longer than 65536 bytes", [&garbage[..], b"\n"].concat()),
     ];
-    for (name, input) in bad {
+    for (reason, input) in bad {
         let output = run(program, None, input);
         let message = String::from_utf8_lossy(&output.stderr).into_owned();
-        if output.status.code().is_none() || !output.stdout.is_empty() || !message.contains("line 1") {
-            println!("FAILED: {name}: {} bytes on standard output, message {message:?}", output.stdout.len());
+        if output.status.code().is_none() || !output.stdout.is_empty() || message.trim_end() != format!("line 1 {reason}") {
+            println!("FAILED: {reason}: {} bytes on standard output, message {message:?}", output.stdout.len());
             return ExitCode::FAILURE;
         }
-        println!("{name}: {}", message.lines().next().unwrap_or(""));
+        println!("{}", message.trim_end());
     }
     ExitCode::SUCCESS
 }
