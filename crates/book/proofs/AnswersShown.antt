@@ -10,8 +10,9 @@ use native.Mathlib.Omega.{arith}
 use lib.Dec.{eqb, leb}
 use lib.ListN.{length, getD, take, length-take}
 use borrow.Author.Tests.{leb-false, eqb-true, eq-eqb, not-false}
-use Rattle.lists.specs.Lists.{if_then_else_, any, places}
-use Rattle.lists.specs.Tests.{Test, firstOf}
+use Rattle.lists.proofs.Passed.{first-same as same}
+use Rattle.lists.specs.Lists.{any, places}
+use Rattle.lists.specs.Tests.{firstOf}
 use Rattle.lists.proofs.Bools.{cases, bool-ext, lt-or-le}
 use Rattle.lists.proofs.Each.{each-more, each-kept-at}
 use Rattle.lists.proofs.Counts.{each-any, any-false}
@@ -36,15 +37,6 @@ use Rattle.book.specs.Answers.{headAnswer, poolAnswer, memberAnswer, rou
 use Rattle.book.specs.View.{viewOf}
 use Rattle.book.proofs.Sound.{Sound}
 use Rattle.book.proofs.Shown.{open-shown, any-open-shown, requirement-shown, prefunded-shown, short-shown, passed-shown, debt-shown, someone-owes-shown}
-
--- two lists of tests whose first tests come out alike, and whose others do where these fail
-same : (n : ℕ) (ts us : List Test) {t u : Bool} → t ≡ u → (u ≡ false → firstOf ts ≡ firstOf us) → firstOf ((n, t) ∷ ts) ≡ firstOf ((n, u) ∷ us)
-unfolding firstOf
-same n ts us {u = u} first rest = rw first (go u rest)
-  where
-    go : (v : Bool) → (v ≡ false → firstOf ts ≡ firstOf us) → (if v then n else firstOf ts) ≡ (if v then n else firstOf us)
-    go true rest = refl
-    go false rest = rest refl
 
 -- where there is no case
 pub head-answer : (h : Head) → headAnswer h ≡ refusal none (HEAD (headOf h))

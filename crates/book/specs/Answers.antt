@@ -1,7 +1,7 @@
 -- Why a call is declined, read off the program's book: the same tests in the same order as the machine's (`Refusals`). Each list stands in the order of
 -- the numbers, and the answer is the first that applies.
 use mathlib.Core.Bool.{Bool, true, false, _&&_, _||_, not}
-use mathlib.Core.List.{List, [], _∷_}
+use mathlib.Core.List.{[], _∷_}
 use Prim.Native.Nat.{ℕ}
 use lib.Dec.{leb, ltb, eqb}
 use lib.ListN.{getD, take}

@@ -1,6 +1,6 @@
 -- What FINISH charges, read off the program's book.
 use mathlib.Core.List.{List, [], _∷_}
-use Prim.Native.Nat.{ℕ, _+_, _-_, _*_, _/_}
+use Prim.Native.Nat.{ℕ, _-_, _*_, _/_}
 use lib.ListN.{getD, replicate}
 use Rattle.splitting.specs.Limits.{splitInto}
 use Rattle.waterfall.specs.Charging.{charged, uncovered}

@@ -1,9 +1,8 @@
 // The book of a case (document 01): everything but the unit roll. It says why a call is declined, what is called and what is charged.
 ghost use mathlib.Core.Path.{_≡_};
-ghost use mathlib.Core.Bool.{Bool, not, _&&_, _||_};
 ghost use mathlib.Core.List.{[], _∷_};
 ghost use Prim.Native.Nat.{ℕ, _≤_};
-ghost use lib.ListN.{length, take, getD};
+ghost use lib.ListN.{take, getD};
 ghost use Rattle.lists.specs.Lists.{sum, all};
 ghost use Rattle.auction.specs.Price.{priceOk};
 ghost use Rattle.machine.specs.Refusals.{headOk, poolOk, memberOk, bidOk, paymentOk};

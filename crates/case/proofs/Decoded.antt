@@ -110,9 +110,6 @@ decoded-read (tag ∷ high ∷ low ∷ v) h =
     by-test AllRead (between 1 13 tag && eqb (high * 256 + low) (length v) && rightLength tag (length v)) {x = some (callOf tag v)} {y = none}
     (λ t. call-read tag v (h .1 .1 .1) (and-right (between 1 13 tag && eqb (high * 256 + low) (length v)) (rightLength tag (length v)) t)) (λ f. tt)
 
-pub decode-read : (bytes : List ℕ) → Bytes bytes → (call : Call) → decode bytes ≡ some call → Read call
-decode-read bytes h call e = rw e at (decoded-read bytes h)
-
 -- ---- the answers
 
 -- a list of four

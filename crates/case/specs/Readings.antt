@@ -1,7 +1,6 @@
 -- What outsiders read of the program's case.
-use mathlib.Core.Bool.{Bool}
 use mathlib.Core.List.{List, [], map}
-use mathlib.Core.Option.{Option, none, some}
+use mathlib.Core.Option.{none, some}
 use Prim.Native.Nat.{ℕ, _*_}
 use lib.Dec.{eqb}
 use lib.IntN.{ℤ, pos, subℕ}

@@ -3,14 +3,10 @@ use mathlib.Core.Path.{_≡_, refl, sym, ap, _∙_}
 use mathlib.Core.List.{List, [], _∷_, _++_, append-assoc, append-nil}
 use Prim.Native.Nat.{ℕ, _+_, _≤_}
 use native.Mathlib.Omega.{arith}
-use lib.ListN.{length, set, length-append, length-set}
+use lib.ListN.{length, set, length-append}
 use lib.Seq.{sets}
 use Rattle.lines.proofs.Stores.{sets-then, sets-earlier}
 use Rattle.forms.specs.Put.{Put}
-
--- one byte
-pub put-one : (old : List ℕ) (at b r : ℕ) (new : List ℕ) → r ≡ at + 1 → new ≡ set old at b → Put old at (b ∷ []) 1 r new
-put-one old at b r new e f = record { behind = e; stored = f; short = omega arith; same = ap length f ∙ length-set old at b }
 
 -- two texts
 pub put-then : {old mid new : List ℕ} {at p r m n : ℕ} (s t : List ℕ) → Put old at s m p mid → Put mid p t n r new → Put old at (s ++ t) (m + n) r new

@@ -3,10 +3,10 @@
 use mathlib.Core.Path.{_≡_, refl, ap}
 use mathlib.Core.Bool.{Bool, true, false}
 use mathlib.Core.List.{List, [], _∷_, map}
-use Prim.Native.Nat.{ℕ, zero, suc, _+_, _≤_, _<_}
+use Prim.Native.Nat.{ℕ, zero, suc, _≤_, _<_}
 use native.Mathlib.Omega.{arith}
 use lib.ListN.{length, getD, set, drop}
-use Rattle.lists.specs.Lists.{if_then_else_, sum, count, oneIf, keep, changeFirst, mapFrom}
+use Rattle.lists.specs.Lists.{if_then_else_, sum, count, keep, changeFirst, mapFrom}
 use Rattle.lists.proofs.Bools.{oneIf-le}
 use Rattle.lists.proofs.Each.{Each, drop-step}
 use Rattle.lists.proofs.Keep.{sum-keep-cons}

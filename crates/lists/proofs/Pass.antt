@@ -43,9 +43,6 @@ module _ {A S : Type 0} (new : S → A → A) (next : S → A → S) where
       let e : k - i ≡ 0 = omega arith in
       rw e (take-append-drop i l)
 
-  pub pass-all : (k i : ℕ) (s : S) (l : List A) → length l ≤ i → take i l ++ pass new next (k - i) s (drop i l) ≡ l
-  pass-all k i s l h = rw (drop-of-length-le l h, pass-nil (k - i) s) (ap (λ (r : List A). take i l ++ r) (sym (drop-of-length-le l h)) ∙ take-append-drop i l)
-
 -- ---- what a pass is, by its kind
 
 -- a pass that keeps no state maps the first k

@@ -102,21 +102,11 @@ first-least n (t ∷ ts) h =
 
 -- ---- two lists of tests
 
--- the tests of two lists, pair by pair: the same number, and the same outcome where every earlier test of the second list failed
-abbrev pub SameTests : List Test → List Test → Type 0
-SameTests [] [] = Unit {0}
-SameTests [] (u ∷ us) = ⊥
-SameTests (t ∷ ts) [] = ⊥
-SameTests (t ∷ ts) (u ∷ us) = (t .0 ≡ u .0) × (t .1 ≡ u .1) × (u .1 ≡ false → SameTests ts us)
-
--- the same number is the first to apply
-pub first-same : (ts us : List Test) → SameTests ts us → firstOf ts ≡ firstOf us
+-- where the first tests agree, and the rest give the same number wherever the first one fails, the same number is the first to apply
+pub first-same : (n : ℕ) (ts us : List Test) {t u : Bool} → t ≡ u → (u ≡ false → firstOf ts ≡ firstOf us) → firstOf ((n, t) ∷ ts) ≡ firstOf ((n, u) ∷ us)
 unfolding firstOf
-first-same [] [] h = refl
-first-same [] (u ∷ us) h = absurd h
-first-same (t ∷ ts) [] h = absurd h
-first-same (t ∷ ts) (u ∷ us) h = rw (h .0, h .1) (go (u .1) (λ e. first-same ts us (h .2 e)))
+first-same n ts us {u = u} first rest = rw first (go u rest)
   where
-    go : (b : Bool) → (b ≡ false → firstOf ts ≡ firstOf us) → (if b then u .0 else firstOf ts) ≡ (if b then u .0 else firstOf us)
+    go : (v : Bool) → (v ≡ false → firstOf ts ≡ firstOf us) → (if v then n else firstOf ts) ≡ (if v then n else firstOf us)
     go true rest = refl
     go false rest = rest refl

@@ -3,10 +3,6 @@ use Rattle.machine.specs.Refusals.{bidOk}
 use borrow.Author.Needs.{needs}
 use Rattle.book.proofs.bid_ok.Statement.{statement}
 use Rattle.book.proofs.bid_ok.Tie as tie
-use Rattle.book.proofs.bid_ok.Reads as reads
-use Rattle.book.proofs.bid_ok.Lts as lts
-use Rattle.book.proofs.price_ok.Reads as price-ok-reads
-use Rattle.lists.proofs.both.Reads as both-reads
 
 both-requires : tie.Need-both-requires
 both-requires c κs = search needs

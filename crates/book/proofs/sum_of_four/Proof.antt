@@ -5,9 +5,6 @@ use Rattle.book.specs.Books.{fourHeld}
 use borrow.Author.Needs.{needs}
 use Rattle.book.proofs.sum_of_four.Statement.{statement}
 use Rattle.book.proofs.sum_of_four.Tie as tie
-use Rattle.book.proofs.sum_of_four.Reads as reads
-use Rattle.book.proofs.sum_of_four.Lts as lts
-use Rattle.lists.proofs.smaller.Reads as smaller-reads
 
 array-read-smaller : tie.Need-array-read-smaller
 array-read-smaller c = search needs

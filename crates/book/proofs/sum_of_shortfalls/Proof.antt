@@ -1,6 +1,6 @@
 -- `book::sum_of_shortfalls` meets its contract. The invariant: the sum of the shortfalls passed, and a bound on it that keeps it within a u64. Assumes nothing.
 use mathlib.Core.Path.{_≡_, sym, _∙_}
-use Prim.Native.Nat.{ℕ, _-_, _*_, _≤_}
+use Prim.Native.Nat.{_-_, _*_, _≤_}
 use native.Mathlib.Omega.{arith}
 use lib.ListN.{length, getD}
 use Rattle.lists.specs.Lists.{sumTo}
@@ -8,8 +8,6 @@ use Rattle.lists.proofs.Sums.{sumTo-none, sumTo-next, sum-places}
 use borrow.Author.Needs.{needs}
 use Rattle.book.proofs.sum_of_shortfalls.Statement.{statement}
 use Rattle.book.proofs.sum_of_shortfalls.Tie as tie
-use Rattle.book.proofs.sum_of_shortfalls.Reads as reads
-use Rattle.book.proofs.sum_of_shortfalls.Lts as lts
 
 abbrev Inv-loop : tie.InvT-loop
 Inv-loop xs total₀ m₀ total m = (m ≤ 32) × (total ≡ sumTo m (λ k. getD xs k 0)) × (total ≤ 1000 * m)

@@ -3,10 +3,6 @@ use Rattle.book.proofs.Bounds.{shortfall-from-le}
 use borrow.Author.Needs.{needs}
 use Rattle.book.proofs.total_shortfall.Statement.{statement}
 use Rattle.book.proofs.total_shortfall.Tie as tie
-use Rattle.book.proofs.total_shortfall.Reads as reads
-use Rattle.book.proofs.total_shortfall.Lts as lts
-use Rattle.accounts.proofs.members.shortfalls_from.Reads as shortfalls-from-reads
-use Rattle.book.proofs.sum_of_shortfalls.Reads as sum-of-shortfalls-reads
 
 shortfalls-from-requires : tie.Need-shortfalls-from-requires
 shortfalls-from-requires c κs = search needs

@@ -5,8 +5,6 @@ use Rattle.lists.proofs.Adding.{added, added-over, added-past}
 use borrow.Author.Needs.{needs}
 use Rattle.lists.proofs.add_at.Statement.{statement}
 use Rattle.lists.proofs.add_at.Tie as tie
-use Rattle.lists.proofs.add_at.Reads as reads
-use Rattle.lists.proofs.add_at.Lts as lts
 
 mul-if2 : tie.Need-mul-if2
 mul-if2 c = search needs

@@ -1,6 +1,5 @@
 -- `roll::is_open` meets its contract: the kind of an open entry is 0. Assumes nothing.
 use Rattle.machine.specs.Roll.{isOpen}
-use borrow.Author.Needs.{needs}
 use Rattle.roll.proofs.is_open.Statement.{statement}
 use Rattle.roll.proofs.is_open.Tie as tie
 

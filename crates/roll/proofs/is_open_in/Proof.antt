@@ -1,6 +1,5 @@
 -- `roll::is_open_in` meets its contract. Assumes nothing.
 use Rattle.machine.specs.Roll.{openIn}
-use borrow.Author.Needs.{needs}
 use Rattle.roll.proofs.is_open_in.Statement.{statement}
 use Rattle.roll.proofs.is_open_in.Tie as tie
 

@@ -5,13 +5,6 @@ use Rattle.book.specs.Books.{allocationIn}
 use borrow.Author.Needs.{needs}
 use Rattle.book.proofs.Book.allocation.Statement.{statement}
 use Rattle.book.proofs.Book.allocation.Tie as tie
-use Rattle.book.proofs.Book.allocation.Reads as reads
-use Rattle.book.proofs.Book.allocation.Lts as lts
-use Rattle.accounts.proofs.members.Members.shortfalls.Reads as shortfalls-reads
-use Rattle.book.proofs.Book.open_units.Reads as open-units-reads
-use Rattle.book.proofs.Book.short.Reads as short-reads
-use Rattle.lists.proofs.smaller.Reads as smaller-reads
-use Rattle.splitting.proofs.split.Reads as split-reads
 
 shortfalls-requires : tie.Need-shortfalls-requires
 shortfalls-requires c κs = search needs

@@ -4,9 +4,6 @@ use Rattle.book.specs.Books.{openIn, anyOpenIn}
 use borrow.Author.Needs.{needs}
 use Rattle.book.proofs.Book.any_open.Statement.{statement}
 use Rattle.book.proofs.Book.any_open.Tie as tie
-use Rattle.book.proofs.Book.any_open.Reads as reads
-use Rattle.book.proofs.Book.any_open.Lts as lts
-use Rattle.lists.proofs.either.Reads as either-reads
 
 array-read-either : tie.Need-array-read-either
 array-read-either c = search needs

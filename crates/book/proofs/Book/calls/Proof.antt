@@ -5,14 +5,6 @@ use Rattle.book.specs.Books.{callsIn}
 use borrow.Author.Needs.{needs}
 use Rattle.book.proofs.Book.calls.Statement.{statement}
 use Rattle.book.proofs.Book.calls.Tie as tie
-use Rattle.book.proofs.Book.calls.Reads as reads
-use Rattle.book.proofs.Book.calls.Lts as lts
-use Rattle.book.proofs.Book.contributions.Reads as contributions-reads
-use Rattle.book.proofs.Book.prefunded.Reads as prefunded-reads
-use Rattle.book.proofs.Book.requirement.Reads as requirement-reads
-use Rattle.lists.proofs.less.Reads as less-reads
-use Rattle.lists.proofs.smaller.Reads as smaller-reads
-use Rattle.splitting.proofs.split.Reads as split-reads
 
 requirement-requires : tie.Need-requirement-requires
 requirement-requires c κs = search needs

@@ -5,8 +5,6 @@ use Rattle.book.specs.Books.{openIn}
 use borrow.Author.Needs.{needs}
 use Rattle.book.proofs.Book.open_units.Statement.{statement}
 use Rattle.book.proofs.Book.open_units.Tie as tie
-use Rattle.book.proofs.Book.open_units.Reads as reads
-use Rattle.book.proofs.Book.open_units.Lts as lts
 
 mul-result : tie.Need-mul-result
 mul-result c = search needs

@@ -4,8 +4,6 @@ use Rattle.accounts.proofs.Past.{none-past}
 use borrow.Author.Needs.{needs}
 use Rattle.book.proofs.Book.passed.Statement.{statement}
 use Rattle.book.proofs.Book.passed.Tie as tie
-use Rattle.book.proofs.Book.passed.Reads as reads
-use Rattle.book.proofs.Book.passed.Lts as lts
 
 mul-result : tie.Need-mul-result
 mul-result c = search needs

@@ -5,9 +5,6 @@ use Rattle.book.proofs.Bounds.{amounts-le}
 use borrow.Author.Needs.{needs}
 use Rattle.book.proofs.Book.prefunded.Statement.{statement}
 use Rattle.book.proofs.Book.prefunded.Tie as tie
-use Rattle.book.proofs.Book.prefunded.Reads as reads
-use Rattle.book.proofs.Book.prefunded.Lts as lts
-use Rattle.book.proofs.Book.contributions.Reads as contributions-reads
 
 cast-result : tie.Need-cast-result
 cast-result c = search needs

@@ -1,15 +1,10 @@
 -- `book::Book::requirement` meets its contract. The units are at most 16,000, so that the sum fits. Assumes nothing.
-use mathlib.Core.Path.{_≡_}
 use native.Mathlib.Omega.{arith}
 use Rattle.book.specs.Books.{requirementIn}
 use Rattle.book.proofs.Bounds.{four-held-le}
 use borrow.Author.Needs.{needs}
 use Rattle.book.proofs.Book.requirement.Statement.{statement}
 use Rattle.book.proofs.Book.requirement.Tie as tie
-use Rattle.book.proofs.Book.requirement.Reads as reads
-use Rattle.book.proofs.Book.requirement.Lts as lts
-use Rattle.book.proofs.sum_of_four.Reads as sum-of-four-reads
-use Rattle.lists.proofs.less.Reads as less-reads
 
 cast-losses : tie.Need-cast-losses
 cast-losses c = search needs

@@ -3,8 +3,6 @@ use mathlib.Core.Path.{refl}
 use Rattle.book.specs.Books.{finishBook}
 use Rattle.book.proofs.Book.take_finish.Statement.{statement}
 use Rattle.book.proofs.Book.take_finish.Tie as tie
-use Rattle.book.proofs.Book.take_finish.Reads as reads
-use Rattle.book.proofs.Book.take_finish.Lts as lts
 
 returns : tie.Need-returns
 unfolding finishBook
