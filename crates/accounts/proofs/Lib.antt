@@ -1,5 +1,7 @@
 pub mod Past
 pub mod Tallies
+pub mod Narrow
+pub mod Asking
 pub mod FourPlaces
 pub mod AddedShares
 pub mod ViewPools

@@ -1,26 +1,25 @@
--- Amounts by member, in a run of 32 places that has 0 for those who are no member of the case: their sum, a split by them, and whether someone
--- owes, as the machine says them over the members. Assumes nothing.
+-- Amounts by member: their sum and a split by them, from a run of 32 places that has 0 for those who are no member of the case; and of a case that
+-- shows the members, all contributions, all payments, and whether someone owes. Assumes nothing.
 use mathlib.Core.Path.{_≡_, sym, ap, _∙_}
 use mathlib.Core.Bool.{true, false}
 use mathlib.Core.List.{List, map}
-use Prim.Native.Nat.{ℕ, _≤_, _<_, min}
-use native.Mathlib.Nat.{min-eq-left}
+use Prim.Native.Nat.{ℕ, _<_}
 use lib.Dec.{ltb}
 use lib.ListN.{length, getD}
-use Rattle.lists.proofs.Counts.{any-keep, any-ext}
-use Rattle.lists.specs.Lists.{if_then_else_, sum, tab, any, places}
+use Rattle.lists.proofs.Counts.{any-ext}
+use Rattle.lists.specs.Lists.{if_then_else_, sum, tab}
 use Rattle.lists.proofs.Bools.{cases}
-use Rattle.lists.proofs.Sums.{sumTo-ext}
-use Rattle.lists.proofs.Places.{tab-of, sum-tab}
-use Rattle.lists.proofs.Each.{each-tab}
-use Rattle.sets.specs.Set.{member, members}
-use Rattle.sets.proofs.Members.{sum-members}
+use Rattle.lists.proofs.Places.{tab-of, sum-tab, length-tab, getD-tab}
+use Rattle.sets.specs.Set.{member, members, ofMembers}
+use Rattle.sets.proofs.Members.{sum-members, sum-members-ext}
 use Rattle.splitting.specs.Split.{split, splitAmong}
 use Rattle.splitting.proofs.Among.{split-masked}
 use Rattle.machine.specs.State as M
-use Rattle.machine.specs.Requirement.{owes}
+use Rattle.machine.specs.Requirement.{contributionOf, contributions, owes}
+use Rattle.machine.specs.Refusals.{someoneOwes}
+use Rattle.machine.specs.Result.{paymentOf, payments}
 use Rattle.accounts.specs.declared.members.Members.{Members}
-use Rattle.accounts.specs.Members.{contributionLimit, owesOf, someoneOwesIn, amountsOf, viewMembers}
+use Rattle.accounts.specs.Members.{owesOf, someoneOwesIn, viewMembers}
 use Rattle.accounts.proofs.ViewMembers.{MembersLong, member-shown, owes-shown}
 
 -- the run xs has f at each member of the set s, and 0 at the other places
@@ -40,60 +39,51 @@ module _ (s : ℕ) (f : ℕ → ℕ) (xs : List ℕ) (o : Over s f xs) where
   pub over-sum : sum xs ≡ sum (map f (members s))
   over-sum = ap sum over-list ∙ sum-tab 32 (λ m. if member s m then f m else 0) ∙ sym (sum-members s f)
 
-  -- the same, as the code adds them up
-  pub over-amounts : ((m : ℕ) → m < 32 → getD xs m 0 ≤ contributionLimit) → amountsOf xs ≡ sum (map f (members s))
-  unfolding amountsOf
-  over-amounts within =
-      sumTo-ext 32 (λ m. min (getD xs m 0) contributionLimit) (λ m. if member s m then f m else 0) (λ m l. min-eq-left (within m l) ∙ over-at m l)
-      ∙ sym (sum-members s f)
-
   -- a split by them
   pub over-split : (q : ℕ) → splitAmong 32 (member s) q f ≡ split q xs
   over-split q = split-masked 32 (member s) q f ∙ ap (split q) (sym over-list)
 
--- ---- contributions and payments
+-- the values of the members, where they are f at each of them
+pub over-members : (s : ℕ) (f g : ℕ → ℕ) → ((m : ℕ) → m < 32 → member s m ≡ true → g m ≡ f m) → Over s f (ofMembers s g)
+unfolding ofMembers
+over-members s f g same = record {
+  long = length-tab 32 (λ m. if member s m then g m else 0);
+  on = λ m l e. getD-tab 32 (λ m. if member s m then g m else 0) m 0 l ∙ rw e (same m l e);
+  off = λ m l e. getD-tab 32 (λ m. if member s m then g m else 0) m 0 l ∙ rw e;
+}
 
-module _ (x : Members) (s : ℕ) (w : MembersLong x) where
-  module _ (none : (m : ℕ) → m < 32 → member s m ≡ false → getD (x .contribution) m 0 ≡ 0) where
-    over-contributions : Over s (λ m. M.memberAt (viewMembers x) m .contribution) (x .contribution)
-    over-contributions = record {
-      long = w .contribution;
-      on = λ m l e. sym (ap (λ (y : M.Member). y .contribution) (member-shown x m l));
-      off = none;
-    }
+-- ---- a case that shows the members x
 
-    -- "all contributions"
-    pub contributions-shown : ((m : ℕ) → m < 32 → getD (x .contribution) m 0 ≤ contributionLimit)
-        → amountsOf (x .contribution) ≡ sum (map (λ m. M.memberAt (viewMembers x) m .contribution) (members s))
-    contributions-shown = over-amounts s _ (x .contribution) over-contributions
+module _ (c : M.Case) (x : Members) (shown : c .members ≡ viewMembers x) where
+  -- the amounts in the arrays are the machine's
+  contribution-at : (m : ℕ) → m < 32 → getD (x .contribution) m 0 ≡ contributionOf c m
+  contribution-at m l = rw shown (sym (ap (λ (y : M.Member). y .contribution) (member-shown x m l)))
 
-    -- "split by contribution, in member order"
-    pub split-contributions : (q : ℕ) → splitAmong 32 (member s) q (λ m. M.memberAt (viewMembers x) m .contribution) ≡ split q (x .contribution)
-    split-contributions = over-split s _ (x .contribution) over-contributions
+  paid-at : (m : ℕ) → m < 32 → getD (x .paid) m 0 ≡ paymentOf c m
+  paid-at m l = rw shown (sym (ap (λ (y : M.Member). y .paid) (member-shown x m l)))
 
-  module _ (none : (m : ℕ) → m < 32 → member s m ≡ false → getD (x .paid) m 0 ≡ 0) where
-    over-payments : Over s (λ m. M.memberAt (viewMembers x) m .paid) (x .paid)
-    over-payments = record {
-      long = w .paid;
-      on = λ m l e. sym (ap (λ (y : M.Member). y .paid) (member-shown x m l));
-      off = none;
-    }
+  -- "all contributions"
+  pub contributions-shown : sum (map (λ m. getD (x .contribution) m 0) (members (c .head .set))) ≡ contributions c
+  unfolding contributions
+  contributions-shown = sum-members-ext (c .head .set) _ (contributionOf c) (λ m l e. contribution-at m l)
 
-    -- "payments", all of them
-    pub payments-shown : ((m : ℕ) → m < 32 → getD (x .paid) m 0 ≤ contributionLimit)
-        → amountsOf (x .paid) ≡ sum (map (λ m. M.memberAt (viewMembers x) m .paid) (members s))
-    payments-shown = over-amounts s _ (x .paid) over-payments
+  -- "payments", all of them
+  pub payments-shown : sum (map (λ m. getD (x .paid) m 0) (members (c .head .set))) ≡ payments c
+  unfolding payments
+  payments-shown = sum-members-ext (c .head .set) _ (paymentOf c) (λ m l e. paid-at m l)
 
-    -- "payments, split by payment"
-    pub split-payments : (q : ℕ) → splitAmong 32 (member s) q (λ m. M.memberAt (viewMembers x) m .paid) ≡ split q (x .paid)
-    split-payments = over-split s _ (x .paid) over-payments
+  -- "split by contribution, in member order", where who is no member contributed nothing
+  pub split-contributions : length (x .contribution) ≡ 32 → ((m : ℕ) → m < 32 → M.inSet (c .head) m ≡ false → getD (x .contribution) m 0 ≡ 0)
+      → (q : ℕ) → splitAmong 32 (M.inSet (c .head)) q (contributionOf c) ≡ split q (x .contribution)
+  split-contributions long none = over-split (c .head .set) (contributionOf c) (x .contribution) (record { long = long; on = λ m l e. contribution-at m l; off = none })
 
-  -- ---- whether someone owes
+  -- "payments, split by payment", where who is no member paid nothing
+  pub split-payments : length (x .paid) ≡ 32 → ((m : ℕ) → m < 32 → M.inSet (c .head) m ≡ false → getD (x .paid) m 0 ≡ 0)
+      → (q : ℕ) → splitAmong 32 (M.inSet (c .head)) q (paymentOf c) ≡ split q (x .paid)
+  split-payments long none = over-split (c .head .set) (paymentOf c) (x .paid) (record { long = long; on = λ m l e. paid-at m l; off = none })
 
-  pub someone-owes-shown : ((m : ℕ) → m < 32 → member s m ≡ false → owesOf x m ≡ 0)
-      → someoneOwesIn x ≡ any (λ m. ltb 0 (owes (viewMembers x) m)) (members s)
-  unfolding someoneOwesIn members
-  someone-owes-shown none =
-      sym (any-keep (λ m. ltb 0 (owesOf x m)) (member s) (places 32)
-      (each-tab (λ m. member s m ≡ false → ltb 0 (owesOf x m) ≡ false) 32 (λ m. m) (λ m l e. rw (none m l e))))
-      ∙ any-ext (λ m. ltb 0 (owesOf x m)) (λ m. ltb 0 (owes (viewMembers x) m)) _ (λ m. rw (owes-shown x m w))
+  -- whether someone owes
+  pub someone-owes-shown : MembersLong x → someoneOwesIn x (c .head .set) ≡ someoneOwes c
+  unfolding someoneOwesIn someoneOwes
+  someone-owes-shown w =
+      any-ext (λ m. ltb 0 (owesOf x m)) (λ m. ltb 0 (owes (c .members) m)) (members (c .head .set)) (λ m. rw (owes-shown x m w, shown))

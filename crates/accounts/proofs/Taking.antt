@@ -1,109 +1,94 @@
--- The wins of the pools taken one after the other: what the machine gives the bids at CLOSE. Taking wins changes nothing but the units won. Assumes nothing.
+-- What the bids of a round win in the four pools, taken at once: what the machine gives the bids at CLOSE. Assumes nothing.
 use mathlib.Core.Path.{_≡_, refl, sym, ap, _∙_}
-use mathlib.Core.Bool.{Bool, true, false, _&&_, and-false}
-use mathlib.Core.List.{List, []}
-use Prim.Native.Nat.{ℕ, _+_, _≤_, _<_}
+use mathlib.Core.Bool.{Bool, true, false}
+use mathlib.Core.List.{List, [], _∷_}
+use Prim.Native.Nat.{ℕ, _≤_, _<_, min}
+use native.Mathlib.Nat.{min-eq-left}
 use native.Mathlib.Omega.{arith}
-use lib.Dec.{ltb, eqb}
+use lib.Dec.{eqb}
 use lib.ListN.{getD}
-use borrow.Author.Tests.{lt-ltb, le-ltb, eqb-true, eqb-false}
+use borrow.Author.Tests.{lt-ltb}
 use Rattle.lists.specs.Lists.{if_then_else_, tab, mapFrom}
-use Rattle.lists.proofs.Bools.{ltb-same}
+use Rattle.lists.specs.Adding.{most16}
 use Rattle.lists.proofs.Places.{getD-tab, tab-ext, mapFrom-tab}
+use Rattle.auction.specs.Price.{priceLimit}
+use Rattle.auction.specs.Limits.{unitLimit}
 use Rattle.machine.specs.Roll as M
 use Rattle.machine.specs.State as S
-use Rattle.machine.specs.Calls.{wonIn, wonGiven, bidsAfter}
+use Rattle.machine.specs.Calls.{reserve, wonIn, wonGiven, bidsAfter}
 use Rattle.accounts.specs.declared.bids.Bids.{Bids}
-use Rattle.accounts.specs.Bids.{inAuctionAt, unitsIn, winsOf, withWins, bidAt, viewBids}
+use Rattle.accounts.specs.Bids.{winsOf, inRoundAt, withWins, bidAt, viewBids}
+use Rattle.accounts.proofs.ViewBids.{BidsLong}
+use Rattle.accounts.proofs.Winning.{wins-in, wins-le}
 
--- the bids x with other units won
-abbrev pub withWonRun : Bids → List ℕ → Bids
-withWonRun x won =
-    record { kept = x .kept; round = x .round; pool = x .pool; member = x .member; units = x .units; price = x .price; won = won }
+-- ---- runs of units won
 
--- y is x where the bids of a round in the pools below p have the wins of their pools
-pub record WinsTaken (round : ℕ) (wins : ℕ → List ℕ) (p : ℕ) (x y : Bids) : Type 0 where
-  pub same : y ≡ withWonRun x (y .won)
-  pub won : (i : ℕ) → i < x .kept
-      → getD (y .won) i 0
-      ≡ (if eqb (getD (x .round) i 0) round && ltb (getD (x .pool) i 0) p then getD (wins (getD (x .pool) i 0)) i 0 else getD (x .won) i 0)
-
--- the pool p, and then the pools below it
-pool-more : (b : Bool) (q p : ℕ) (f : ℕ → ℕ) (v : ℕ)
-    → (if b && eqb q p then f p else (if b && ltb q p then f q else v)) ≡ (if b && ltb q (p + 1) then f q else v)
-pool-more true q p f v = go (eqb q p) refl
+-- a run of units won for each pool, taken, gives what the machine gives the bids, where each bid has at its place in the run of its pool what the
+-- machine has there
+view-taken : (x : Bids) (round pools : ℕ) (runs : List (List ℕ)) (wins : ℕ → List ℕ) → x .kept ≤ 256
+    → ((i : ℕ) → i < x .kept → getD (x .pool) i 0 < pools)
+    → ((i : ℕ) → i < x .kept → min (getD (getD runs (getD (x .pool) i 0) []) i 0) most16 ≡ getD (wins (getD (x .pool) i 0)) i 0)
+    → viewBids (withWins x round runs) ≡ mapFrom 0 (wonGiven round (tab pools wins)) (viewBids x)
+unfolding withWins inRoundAt wonGiven
+view-taken x round pools runs wins few within agree =
+    tab-ext (x .kept) (bidAt (withWins x round runs)) (λ i. wonGiven round (tab pools wins) i (bidAt x i)) (λ i l. given i l (eqb (getD (x .round) i 0) round) refl)
+    ∙ sym (mapFrom-tab (x .kept) (wonGiven round (tab pools wins)) (bidAt x))
   where
-    go : (t : Bool) → eqb q p ≡ t → (if t then f p else (if ltb q p then f q else v)) ≡ (if ltb q (p + 1) then f q else v)
-    go true e =
-        let same : q ≡ p = eqb-true q p e in
-        rw (lt-ltb q (p + 1) (omega arith)) (ap f (sym same))
-    go false e =
-        let apart = eqb-false q p e in
-        rw (ltb-same q (p + 1) q p (λ h. omega arith) (λ h. omega arith))
-pool-more false q p f v = refl
+    new : ℕ → ℕ
+    new i = if inRoundAt x round i then min (getD (getD runs (getD (x .pool) i 0) []) i 0) most16 else getD (x .won) i 0
 
-module _ (round : ℕ) (wins : ℕ → List ℕ) (x : Bids) where
-  -- no pool yet
-  pub taken-none : WinsTaken round wins 0 x x
-  taken-none = record { same = refl; won = λ i l. rw (le-ltb (getD (x .pool) i 0) 0 (omega arith), and-false (eqb (getD (x .round) i 0) round)) }
+    at : (i : ℕ) → i < x .kept → getD (tab 256 new) i 0 ≡ (if eqb (getD (x .round) i 0) round then getD (wins (getD (x .pool) i 0)) i 0 else getD (x .won) i 0)
+    at i l = getD-tab 256 new i 0 (omega arith) ∙ rw (lt-ltb i (x .kept) l, agree i l)
 
-  -- one pool more
-  pub taken-next : (p : ℕ) (y : Bids) (run : List ℕ) → x .kept ≤ 256 → WinsTaken round wins p x y → ((i : ℕ) → i < x .kept → getD run i 0 ≡ getD (wins p) i 0)
-      → WinsTaken round wins (p + 1) x (withWins y round p run)
-  unfolding withWins inAuctionAt
-  taken-next p y run few t agree = record {
-    same = ap (λ (z : Bids). withWonRun z (withWins y round p run .won)) (t .same);
-    won = λ i l.
-        getD-tab 256 (λ i. if inAuctionAt y round p i then getD run i 0 else getD (y .won) i 0) i 0 (omega arith)
-        ∙ rw (
-          ap (λ (z : Bids). z .kept) (t .same),
-          ap (λ (z : Bids). z .round) (t .same),
-          ap (λ (z : Bids). z .pool) (t .same),
-          lt-ltb i (x .kept) l,
-          t .won i l,
-          agree i l,
-        )
-        (pool-more (eqb (getD (x .round) i 0) round) (getD (x .pool) i 0) p (λ q. getD (wins q) i 0) (getD (x .won) i 0));
-  }
+    given : (i : ℕ) → i < x .kept → (b : Bool) → eqb (getD (x .round) i 0) round ≡ b → bidAt (withWins x round runs) i ≡ wonGiven round (tab pools wins) i (bidAt x i)
+    given i l true e =
+        rw e
+        (ap (M.withWon (bidAt x i))
+        (at i l ∙ rw e (ap (λ (r : List ℕ). getD r i 0) (sym (getD-tab pools wins (getD (x .pool) i 0) [] (within i l))))))
+    given i l false e = rw e (ap (M.withWon (bidAt x i)) (at i l ∙ rw e))
 
-  -- a pool that no bid is in
-  pub taken-skip : (pools p : ℕ) (y : Bids) → pools ≤ p → ((i : ℕ) → i < x .kept → getD (x .pool) i 0 < pools)
-      → WinsTaken round wins p x y → WinsTaken round wins (p + 1) x y
-  taken-skip pools p y past within t = record {
-    same = t .same;
-    won = λ i l.
-        let below : getD (x .pool) i 0 < p = omega (arith, within i l) in
-        t .won i l ∙ rw (lt-ltb (getD (x .pool) i 0) p below, lt-ltb (getD (x .pool) i 0) (p + 1) (omega arith));
-  }
+-- ---- CLOSE
 
-  -- all pools: what the machine gives the bids at CLOSE
-  pub taken-all : (pools p : ℕ) (y : Bids) → pools ≤ p → ((i : ℕ) → i < x .kept → getD (x .pool) i 0 < pools) → WinsTaken round wins p x y
-      → viewBids y ≡ mapFrom 0 (wonGiven round (tab pools wins)) (viewBids x)
-  unfolding wonGiven
-  taken-all pools p y past within t =
-      ap viewBids (t .same)
-      ∙ tab-ext (x .kept) (bidAt (withWonRun x (y .won))) (λ i. wonGiven round (tab pools wins) i (bidAt x i)) (λ i l. given i l (eqb (getD (x .round) i 0) round) refl)
-      ∙ sym (mapFrom-tab (x .kept) (wonGiven round (tab pools wins)) (bidAt x))
-    where
-      below : (i : ℕ) → i < x .kept → getD (x .pool) i 0 < p
-      below i l = omega (arith, within i l)
+-- a case c with the bids x, and the open units and the reserves of its pools in a round
+pub record Closing (c : S.Case) (x : Bids) (round : ℕ) (units reserves : ℕ → ℕ) : Type 0 where
+  pub shown : c .bids ≡ viewBids x
+  pub long : BidsLong x
+  pub pools-most : c .head .pools ≤ 4
+  pub inside : (i : ℕ) → i < x .kept → getD (x .pool) i 0 < c .head .pools
+  pub units-shown : (p : ℕ) → p < c .head .pools → units p ≡ M.openUnits (c .roll) p
+  pub units-small : (p : ℕ) → p < c .head .pools → units p ≤ unitLimit
+  pub reserves-shown : (p : ℕ) → p < c .head .pools → reserves p ≡ reserve (c .rounds) round p
+  pub reserves-low : (p : ℕ) → p < c .head .pools → reserves p ≤ priceLimit
 
-      given : (i : ℕ) → i < x .kept → (b : Bool) → eqb (getD (x .round) i 0) round ≡ b → bidAt (withWonRun x (y .won)) i ≡ wonGiven round (tab pools wins) i (bidAt x i)
-      given i l true e =
-          rw e
-          (ap (M.withWon (bidAt x i))
-          (t .won i l
-          ∙ rw (e, lt-ltb (getD (x .pool) i 0) p (below i l))
-          (ap (λ (r : List ℕ). getD r i 0) (sym (getD-tab pools wins (getD (x .pool) i 0) [] (within i l))))))
-      given i l false e = rw e (ap (M.withWon (bidAt x i)) (t .won i l ∙ rw e))
+module _ (c : S.Case) (x : Bids) (round : ℕ) (units reserves : ℕ → ℕ) (h : Closing c x round units reserves) where
+  -- what a bid wins in a pool of the case
+  pub wins-closed : (p : ℕ) → p < c .head .pools → (i : ℕ) → i < x .kept → getD (winsOf x round p (units p) (reserves p)) i 0 ≡ getD (wonIn c round p) i 0
+  wins-closed p l =
+      wins-in c x round p (units p) (reserves p) (h .shown) (h .long) (h .units-shown p l) (h .reserves-shown p l) (h .units-small p l) (h .reserves-low p l)
 
-  -- what a pool's bids win is not changed by taking the wins of others
-  pub taken-wins : (p : ℕ) (y : Bids) → WinsTaken round wins p x y → (r pool n reserve : ℕ) → winsOf y r pool n reserve ≡ winsOf x r pool n reserve
-  unfolding winsOf unitsIn inAuctionAt
-  taken-wins p y t r pool n reserve = ap (λ (z : Bids). winsOf z r pool n reserve) (t .same)
+  abbrev runs : List (List ℕ)
+  runs =
+      winsOf x round 0 (units 0) (reserves 0)
+      ∷ winsOf x round 1 (units 1) (reserves 1)
+      ∷ winsOf x round 2 (units 2) (reserves 2)
+      ∷ winsOf x round 3 (units 3) (reserves 3)
+      ∷ []
 
--- the bids of a case c after CLOSE
-pub bids-after : (c : S.Case) (x y : Bids) (round p : ℕ) → c .bids ≡ viewBids x → c .head .pools ≤ p
-    → ((i : ℕ) → i < x .kept → getD (x .pool) i 0 < c .head .pools) → WinsTaken round (wonIn c round) p x y → viewBids y ≡ bidsAfter c round
-unfolding bidsAfter
-bids-after c x y round p shown past within t = taken-all round (wonIn c round) x (c .head .pools) p y past within t ∙ rw (← shown)
+  run-at : (p : ℕ) → p < 4 → getD runs p [] ≡ winsOf x round p (units p) (reserves p)
+  unfolding tab
+  run-at p l = getD-tab 4 (λ p. winsOf x round p (units p) (reserves p)) p [] l
+
+  -- the bids after CLOSE; what a run has for a pool that the case lacks does not matter
+  pub view-closed : viewBids (withWins x round (winsOf x round 0 (units 0) (reserves 0) ∷ winsOf x round 1 (units 1) (reserves 1)
+      ∷ winsOf x round 2 (units 2) (reserves 2) ∷ winsOf x round 3 (units 3) (reserves 3) ∷ [])) ≡ bidsAfter c round
+  unfolding bidsAfter
+  view-closed =
+      view-taken x round (c .head .pools) runs (wonIn c round) (h .long .few) (h .inside)
+      (λ i l.
+      let p : ℕ = getD (x .pool) i 0 in
+      let low = h .inside i l in
+      let won : ℕ = getD (winsOf x round p (units p) (reserves p)) i 0 in
+      let few : won ≤ most16 =
+      omega (arith, wins-le x round p (units p) (reserves p) (h .long) (h .units-small p low) (h .reserves-low p low) i, h .long .unit-limit i) in
+      rw (run-at p (omega (arith, h .pools-most))) (min-eq-left few ∙ wins-closed p low i l))
+      ∙ rw (← h .shown)

@@ -1,22 +1,24 @@
 -- The bids kept, as the machine has them: `new` shows none, `put` one more at the end, and the arrays agree with what is shown. Assumes nothing.
-use mathlib.Core.Path.{_≡_, refl, sym, ap}
+use mathlib.Core.Path.{_≡_, refl, sym, ap, _∙_}
+use mathlib.Core.Logic.{⊎-elim}
 use mathlib.Core.List.{List, [], _∷_, _++_}
-use Prim.Native.Nat.{ℕ, _≤_, _<_}
+use Prim.Native.Nat.{ℕ, _≤_, _<_, min}
 use native.Mathlib.Omega.{arith}
 use lib.Dec.{ltb}
 use lib.ListN.{length, getD, set, length-set}
 use lib.Seq.{getD-set-same, getD-set-other}
-use borrow.Author.Tests.{lt-ltb, ltb-true}
+use borrow.Author.Tests.{lt-ltb, le-ltb, ltb-true}
 use Rattle.lists.proofs.Each.{set-cases}
-use Rattle.lists.specs.Lists.{tab}
-use Rattle.lists.proofs.Bools.{by-test}
-use Rattle.lists.proofs.Places.{tab-more, getD-tab, length-tab, getD-same}
+use Rattle.lists.specs.Lists.{if_then_else_, tab}
+use Rattle.lists.specs.Adding.{most16}
+use Rattle.lists.proofs.Bools.{by-test, lt-or-le}
+use Rattle.lists.proofs.Places.{tab-more, getD-tab, getD-tab-past, length-tab, getD-same}
 use Rattle.auction.specs.Price.{priceLimit}
 use Rattle.auction.specs.Limits.{unitLimit}
 use Rattle.machine.specs.Roll as M
 use Rattle.machine.specs.Calls.{newBid}
 use Rattle.accounts.specs.declared.bids.Bids.{Bids}
-use Rattle.accounts.specs.Bids.{noBids, putBid, withWins, bidAt, viewBids}
+use Rattle.accounts.specs.Bids.{noBids, putBid, inRoundAt, withWins, bidAt, viewBids}
 
 -- ---- what holds of every value that a program reaches
 
@@ -30,6 +32,8 @@ pub record BidsLong (x : Bids) : Type 0 where
   pub won : length (x .won) ≡ 256
   pub unit-limit : (k : ℕ) → getD (x .units) k 0 ≤ unitLimit
   pub price-limit : (k : ℕ) → getD (x .price) k 0 ≤ priceLimit
+  -- the places behind the bids have won nothing
+  pub unused : (k : ℕ) → x .kept ≤ k → getD (x .won) k 0 ≡ 0
 
 pub new-long : BidsLong noBids
 unfolding noBids
@@ -43,6 +47,7 @@ new-long = record {
   won = refl;
   unit-limit = λ k. rw (getD-same {A = ℕ} 256 k 0) (omega arith);
   price-limit = λ k. rw (getD-same {A = ℕ} 256 k 0) (omega arith);
+  unused = λ k l. getD-same 256 k 0;
 }
 
 pub put-long : (x : Bids) (round pool m units price : ℕ) → BidsLong x → units ≤ unitLimit → price ≤ priceLimit → BidsLong (putBid x round pool m units price)
@@ -60,22 +65,31 @@ put-long x round pool m units price w few low =
       won = simp length-set (w .won);
       unit-limit = λ k. set-cases (λ (v : ℕ). v ≤ unitLimit) (x .units) (x .kept) units 0 k (λ e. few) (w .unit-limit k);
       price-limit = λ k. set-cases (λ (v : ℕ). v ≤ priceLimit) (x .price) (x .kept) price 0 k (λ e. low) (w .price-limit k);
+      unused = λ k l. getD-set-other (x .won) (x .kept) k 0 0 (omega arith) ∙ w .unused k (omega arith);
     })
     (λ t. w)
 
-pub take-long : (x : Bids) (round pool : ℕ) (wins : List ℕ) → BidsLong x → BidsLong (withWins x round pool wins)
-unfolding withWins
-take-long x round pool wins w = record {
+pub take-long : (x : Bids) (round : ℕ) (wins : List (List ℕ)) → BidsLong x → BidsLong (withWins x round wins)
+unfolding withWins inRoundAt
+take-long x round wins w = record {
   few = w .few;
   round = w .round;
   pool = w .pool;
   member = w .member;
   units = w .units;
   price = w .price;
-  won = length-tab 256 _;
+  won = length-tab 256 new;
   unit-limit = w .unit-limit;
   price-limit = w .price-limit;
+  unused = λ k h.
+      ⊎-elim
+      (λ l. getD-tab 256 new k 0 l ∙ rw (le-ltb k (x .kept) h) (w .unused k h))
+      (λ g. getD-tab-past 256 new k g)
+      (lt-or-le k 256);
 }
+  where
+    new : ℕ → ℕ
+    new i = if inRoundAt x round i then min (getD (getD wins (getD (x .pool) i 0) []) i 0) most16 else getD (x .won) i 0
 
 -- ---- what is shown
 

@@ -4,18 +4,18 @@ use mathlib.Core.Bool.{true, false}
 use mathlib.Core.Logic.{⊎-elim}
 use mathlib.Core.List.{List, [], _∷_}
 use Prim.Native.Nat.{ℕ, _+_, _*_, _^_, _≤_, _<_}
-use native.Mathlib.Nat.{zero-div}
 use native.Mathlib.Omega.{arith}
 use lib.Dec.{ltb}
 use lib.ListN.{length, getD, set, replicate, length-set, List·getD-eq-default}
 use lib.Seq.{getD-set-same, getD-set-other}
 use borrow.Author.Tests.{lt-ltb, ltb-true, eq-eqb, ne-eqb}
 use Rattle.lists.specs.Lists.{mapFrom}
+use Rattle.lists.specs.Adding.{most16, most32}
 use Rattle.lists.proofs.Bools.{by-test, lt-or-le}
 use Rattle.lists.proofs.Places.{tab-ext, tab-same, getD-tab, length-tab, getD-same, tab-set, mapFrom-tab}
 use Rattle.lists.proofs.Adding.{added, length-added}
-use Rattle.sets.specs.Set.{member, withMember}
-use Rattle.sets.proofs.Members.{with-is, member-insert, insert-fits}
+use Rattle.sets.specs.Set.{member, members, withMember}
+use Rattle.sets.proofs.Members.{member-listed, member-none, members-ascend, with-is, member-insert, insert-fits}
 use Rattle.machine.specs.State as M
 use Rattle.machine.specs.Calls.{newMember, alsoAllocated}
 use Rattle.machine.specs.Requirement.{owes}
@@ -81,16 +81,16 @@ put-long x m contribution a b c d w =
     })
     (λ t. w)
 
-pub allocate-long : (x : Members) (pool : ℕ) (shares : List ℕ) → MembersLong x → MembersLong (withShares x pool shares)
+pub allocate-long : (x : Members) (set pool : ℕ) (shares : List ℕ) → MembersLong x → MembersLong (withShares x set pool shares)
 unfolding withShares
-allocate-long x pool shares w = record {
+allocate-long x set pool shares w = record {
   given = w .given;
   moved = w .moved;
   contribution = w .contribution;
   called = w .called;
   paid = w .paid;
   expected = w .expected;
-  allocated = by-test (λ (l : List ℕ). length l ≡ 128) (ltb pool 4) (λ t. length-shares pool shares (x .allocated) (ltb-true pool 4 t) 32 ∙ w .allocated) (λ t. w .allocated);
+  allocated = by-test (λ (l : List ℕ). length l ≡ 128) (ltb pool 4) (λ t. length-shares pool shares (ltb-true pool 4 t) (members set) (x .allocated) ∙ w .allocated) (λ t. w .allocated);
   won = w .won;
 }
 
@@ -112,7 +112,7 @@ pay-long x m amount w = record {
   moved = w .moved;
   contribution = w .contribution;
   called = w .called;
-  paid = length-added (x .paid) m amount ∙ w .paid;
+  paid = length-added most32 (x .paid) m _ ∙ w .paid;
   expected = w .expected;
   allocated = w .allocated;
   won = w .won;
@@ -169,23 +169,19 @@ pub member-past : (x : Members) (m : ℕ) → 32 ≤ m → M.memberAt (viewMembe
 unfolding M.memberAt
 member-past x m h = List·getD-eq-default (viewMembers x) M.noMember {n = m} (omega (arith, length-view x))
 
-none-in : (m : ℕ) → member 0 m ≡ false
-unfolding member
-none-in m = rw (zero-div (2 ^ m))
-
 pub view-new : viewMembers noMembers ≡ replicate 32 M.noMember
 unfolding noMembers
 view-new =
     tab-ext 32 (memberOf noMembers) (λ m. M.noMember)
     (λ m l.
     member-ext (memberOf noMembers m) M.noMember
-    (none-in m)
+    (member-none m)
     (getD-same 32 m 0)
     (tab-ext 4 _ (λ p. 0) (λ p h. getD-same 128 (4 * m + p) 0) ∙ tab-same 4 0)
     (tab-ext 4 _ (λ p. 0) (λ p h. getD-same 128 (4 * m + p) 0) ∙ tab-same 4 0)
     (getD-same 32 m 0)
     (getD-same 32 m 0)
-    (none-in m))
+    (member-none m))
     ∙ tab-same 32 M.noMember
 
 -- MEMBER, of a member that was not given
@@ -214,20 +210,24 @@ view-put x m contribution a b c d w inside new =
     (ap (λ (y : M.Member). y .paid) new)
     (ap (λ (y : M.Member). y .moved) new)))
 
--- ALLOCATE
-pub view-allocate : (x : Members) (pool : ℕ) (shares : List ℕ) → MembersLong x → pool < 4
-    → ((m : ℕ) → m < 32 → getD (x .allocated) (4 * m + pool) 0 + getD shares m 0 < 2 ^ 64)
-    → viewMembers (withShares x pool shares) ≡ mapFrom 0 (λ m y. alsoAllocated pool (getD shares m 0) y) (viewMembers x)
+-- ALLOCATE, where who is not in the set has no share, and each sum fits 16 bits
+pub view-allocate : (x : Members) (set pool : ℕ) (shares : List ℕ) → MembersLong x → pool < 4
+    → ((m : ℕ) → m < 32 → member set m ≡ false → getD shares m 0 ≡ 0)
+    → ((m : ℕ) → m < 32 → getD (x .allocated) (4 * m + pool) 0 + getD shares m 0 ≤ most16)
+    → viewMembers (withShares x set pool shares) ≡ mapFrom 0 (λ m y. alsoAllocated pool (getD shares m 0) y) (viewMembers x)
 unfolding withShares alsoAllocated
-view-allocate x pool shares w inside fits =
+view-allocate x set pool shares w inside outside fits =
     let old : ℕ → ℕ → ℕ = λ m p. getD (x .allocated) (4 * m + p) 0 in
     rw (lt-ltb pool 4 inside)
     (tab-ext 32 _ _
     (λ m l.
     member-ext _ (alsoAllocated pool (getD shares m 0) (memberOf x m)) refl refl refl
     (tab-set 4 (old m) _ pool _
-    (λ p h apart. shares-other pool shares (x .allocated) inside 32 m p h apart)
-    (λ h. shares-at pool shares (x .allocated) inside 32 m (omega (arith, w .allocated)) l (fits m l) ∙ ap (λ (v : ℕ). v + getD shares m 0) (sym (getD-tab 4 (old m) pool 0 inside))))
+    (λ p h apart. shares-other pool shares inside m p h apart (members set) (x .allocated))
+    (λ h.
+    shares-at pool shares inside m (members set) (members-ascend set) (λ none. outside m l (sym (member-listed set m l) ∙ none)) (x .allocated)
+    (omega (arith, w .allocated)) (fits m l)
+    ∙ ap (λ (v : ℕ). v + getD shares m 0) (sym (getD-tab 4 (old m) pool 0 inside))))
     refl refl refl)
     ∙ sym (mapFrom-tab 32 (λ m y. alsoAllocated pool (getD shares m 0) y) (memberOf x)))
 
@@ -235,12 +235,12 @@ view-allocate x pool shares w inside fits =
 pub view-call : (x : Members) (calls : List ℕ) → viewMembers (withCalls x calls) ≡ mapFrom 0 (λ m y. M.withCalled y (getD calls m 0)) (viewMembers x)
 view-call x calls = sym (mapFrom-tab 32 (λ m y. M.withCalled y (getD calls m 0)) (memberOf x))
 
--- PAY
-pub view-pay : (x : Members) (m amount : ℕ) → MembersLong x → m < 32 → getD (x .paid) m 0 + amount < 2 ^ 64
+-- PAY, where the sum fits 32 bits
+pub view-pay : (x : Members) (m amount : ℕ) → MembersLong x → m < 32 → getD (x .paid) m 0 + amount ≤ most32
     → viewMembers (withPayment x m amount)
     ≡ set (viewMembers x) m (M.withPaid (M.memberAt (viewMembers x) m) (M.memberAt (viewMembers x) m .paid + amount))
 view-pay x m amount w inside fits =
-    rw (member-shown x m inside, added (x .paid) m amount (omega (arith, w .paid)) fits)
+    rw (member-shown x m inside, added most32 (x .paid) m amount fits)
     (tab-set 32 (memberOf x) _ m _
     (λ k l apart.
     member-ext _ (memberOf x k) refl refl refl refl refl (getD-set-other (x .paid) m k (getD (x .paid) m 0 + amount) 0 apart) refl)
@@ -255,10 +255,6 @@ view-move x m inside =
     (tab-set 32 (memberOf x) (memberOf (withMove x m)) m _
     (λ k l apart. member-ext _ (memberOf x k) refl refl refl refl refl refl (with-other (x .moved) m k apart))
     (λ l. member-ext _ (M.withMoved (memberOf x m)) refl refl refl refl refl refl (with-same (x .moved) m inside)))
-
--- CLOSE: the units won are no part of what is shown
-pub view-win : (x : Members) (won : List ℕ) → viewMembers (withWon x won) ≡ viewMembers x
-view-win x won = refl
 
 -- ---- what a member owes
 

@@ -128,10 +128,9 @@ module _ (x : Bids) (round pool n reserve : ℕ) (w : BidsLong x) (small : n ≤
   pub wins-past : (i : ℕ) → x .kept ≤ i → getD (winsOf x round pool n reserve) i 0 ≡ 0
   wins-past i h = omega (arith, ap (λ (r : List ℕ). getD r i 0) won-is, allot-le n reserve (unitsIn x round pool) (x .price) i, units-past i h)
 
--- the same in a case that has the bids x
-pub wins-in : (c : S.Case) (x : Bids) (round pool : ℕ) → c .bids ≡ viewBids x → BidsLong x
-    → M.openUnits (c .roll) pool ≤ unitLimit → reserve (c .rounds) round pool ≤ priceLimit
-    → (i : ℕ) → i < x .kept → getD (winsOf x round pool (M.openUnits (c .roll) pool) (reserve (c .rounds) round pool)) i 0 ≡ getD (wonIn c round pool) i 0
+-- the same in a case that has the bids x, these open units and this reserve
+pub wins-in : (c : S.Case) (x : Bids) (round pool n low : ℕ) → c .bids ≡ viewBids x → BidsLong x
+    → n ≡ M.openUnits (c .roll) pool → low ≡ reserve (c .rounds) round pool → n ≤ unitLimit → low ≤ priceLimit
+    → (i : ℕ) → i < x .kept → getD (winsOf x round pool n low) i 0 ≡ getD (wonIn c round pool) i 0
 unfolding wonIn
-wins-in c x round pool shown w small low i l =
-    wins-at x round pool (M.openUnits (c .roll) pool) (reserve (c .rounds) round pool) w small low i l ∙ rw shown
+wins-in c x round pool n low shown w units reserved few cheap i l = wins-at x round pool n low w few cheap i l ∙ rw (shown, units, reserved)

@@ -1,12 +1,12 @@
 -- The bids kept, over the program's struct, and as the machine has them.
 use mathlib.Core.Bool.{Bool, _&&_}
-use mathlib.Core.List.{List}
+use mathlib.Core.List.{List, []}
 use Prim.Native.Nat.{ℕ, _+_, _-_, _*_, min}
 use lib.Dec.{ltb, eqb}
 use lib.ListN.{getD, set, replicate}
 use Rattle.lists.specs.Lists.{if_then_else_, tab, places, sumByKey}
-use Rattle.auction.specs.Price.{priceLimit}
-use Rattle.auction.specs.Limits.{unitLimit, placeLimit, allotInto}
+use Rattle.lists.specs.Adding.{most16, most64, heldTo}
+use Rattle.auction.specs.Limits.{placeLimit, allotInto}
 use Rattle.machine.specs.Roll as M
 use Rattle.accounts.specs.declared.bids.Bids.{Bids}
 
@@ -49,9 +49,13 @@ unitsIn x round pool = tab 256 (λ i. if inAuctionAt x round pool i then getD (x
 unfoldable pub winsOf : Bids → ℕ → ℕ → ℕ → ℕ → List ℕ
 winsOf x round pool n reserve = allotInto 0 placeLimit n reserve (unitsIn x round pool) (x .price) (replicate 256 0) .1
 
--- the bids of a round in a pool with the units that they won
-unfoldable pub withWins : Bids → ℕ → ℕ → List ℕ → Bids
-withWins x round pool wins =
+-- whether the bid at place i is kept and of the round
+unfoldable pub inRoundAt : Bids → ℕ → ℕ → Bool
+inRoundAt x round i = ltb i (x .kept) && eqb (getD (x .round) i 0) round
+
+-- the bids of a round with the units that they won; `wins` has a list of units won for each pool
+unfoldable pub withWins : Bids → ℕ → List (List ℕ) → Bids
+withWins x round wins =
     record {
       kept = x .kept;
       round = x .round;
@@ -59,20 +63,21 @@ withWins x round pool wins =
       member = x .member;
       units = x .units;
       price = x .price;
-      won = tab 256 (λ i. if inAuctionAt x round pool i then getD wins i 0 else getD (x .won) i 0);
+      won = tab 256 (λ i. if inRoundAt x round i then min (getD (getD wins (getD (x .pool) i 0) []) i 0) most16 else getD (x .won) i 0);
     }
 
--- the units won by member and pool, those of member m in pool p at place 4 × m + p
+-- the units won by member and pool, those of member m in pool p at place 4 × m + p, each sum held to 16 bits
 unfoldable pub wonTable : Bids → List ℕ
-wonTable x = sumByKey 128 (λ i. 4 * getD (x .member) i 0 + getD (x .pool) i 0) (λ i. min (getD (x .won) i 0) unitLimit) (places (min (x .kept) 256))
+wonTable x =
+    heldTo most16 (sumByKey 128 (λ i. 4 * getD (x .member) i 0 + getD (x .pool) i 0) (λ i. getD (x .won) i 0) (places (min (x .kept) 256)))
 
--- "units won × (price − worst reserve)" of one bid, each number held to its limit
+-- "units won × (price − worst reserve)" of one bid
 unfoldable pub gainAt : Bids → List ℕ → ℕ → ℕ
-gainAt x worsts i = min (getD (x .won) i 0) unitLimit * min (getD (x .price) i 0 - getD worsts (getD (x .pool) i 0) 0) priceLimit
+gainAt x worsts i = getD (x .won) i 0 * (getD (x .price) i 0 - getD worsts (getD (x .pool) i 0) 0)
 
--- D by member
+-- D by member, each sum held to 64 bits
 unfoldable pub gainTable : Bids → List ℕ → List ℕ
-gainTable x worsts = sumByKey 32 (λ i. getD (x .member) i 0) (gainAt x worsts) (places (min (x .kept) 256))
+gainTable x worsts = heldTo most64 (sumByKey 32 (λ i. getD (x .member) i 0) (gainAt x worsts) (places (min (x .kept) 256)))
 
 -- as the machine has them
 abbrev pub bidAt : Bids → ℕ → M.Bid

@@ -1,13 +1,12 @@
 -- The members, over the program's struct, and as the machine has them. What belongs to member m in pool p stands at place 4 × m + p.
 use mathlib.Core.Bool.{Bool}
-use mathlib.Core.List.{List}
-use Prim.Native.Nat.{ℕ, zero, suc, _+_, _-_, _*_, min}
+use mathlib.Core.List.{List, [], _∷_}
+use Prim.Native.Nat.{ℕ, _+_, _-_, _*_}
 use lib.Dec.{ltb}
 use lib.ListN.{getD, set, replicate}
-use Rattle.lists.specs.Lists.{if_then_else_, sumTo, tab, any, places}
-use Rattle.lists.specs.Adding.{addAt}
-use Rattle.sets.specs.Set.{member, withMember}
-use Rattle.auction.specs.Limits.{unitLimit}
+use Rattle.lists.specs.Lists.{if_then_else_, sumTo, tab, any}
+use Rattle.lists.specs.Adding.{most16, most32, addAt}
+use Rattle.sets.specs.Set.{member, members, withMember, ofMembers}
 use Rattle.machine.specs.State as M
 use Rattle.accounts.specs.Fours.{putFour}
 use Rattle.accounts.specs.declared.members.Members.{Members}
@@ -31,37 +30,22 @@ noMembers =
 unfoldable pub owesOf : Members → ℕ → ℕ
 owesOf x m = if member (x .moved) m then 0 else getD (x .called) m 0 - getD (x .paid) m 0
 
-unfoldable pub someoneOwesIn : Members → Bool
-someoneOwesIn x = any (λ m. ltb 0 (owesOf x m)) (places 32)
+unfoldable pub someoneOwesIn : Members → ℕ → Bool
+someoneOwesIn x set = any (λ m. ltb 0 (owesOf x m)) (members set)
 
--- "a fund or contribution to 5×10^8"
-abbrev pub contributionLimit : ℕ
-contributionLimit = 500_000_000
+-- "expected units less units won less units ever allocated to it by this call, all in that pool, at least 0"
+unfoldable pub shortfallAt : List ℕ → List ℕ → List ℕ → ℕ → ℕ → ℕ
+shortfallAt expected won allocated pool m =
+    getD expected (4 * m + pool) 0 - getD won (4 * m + pool) 0 - getD allocated (4 * m + pool) 0
 
--- the sum of 32 amounts, each held to a contribution's limit
-unfoldable pub amountsOf : List ℕ → ℕ
-amountsOf xs = sumTo 32 (λ m. min (getD xs m 0) contributionLimit)
+-- the shortfalls of a set's members in a pool, 0 at the other places and in a pool that no case has
+unfoldable pub shortfallsOf : ℕ → List ℕ → List ℕ → List ℕ → ℕ → List ℕ
+shortfallsOf set expected won allocated pool =
+    ofMembers set (λ m. if ltb pool 4 then shortfallAt expected won allocated pool m else 0)
 
--- a member's shortfall in a pool, held to a pool's units
-unfoldable pub shortfallAt : Members → ℕ → ℕ → ℕ
-shortfallAt x pool m =
-    min (getD (x .expected) (4 * m + pool) 0 - getD (x .won) (4 * m + pool) 0 - getD (x .allocated) (4 * m + pool) 0) unitLimit
-
--- the shortfalls in a pool, and 0 in a pool that no case has
-unfoldable pub shortfallsOf : Members → ℕ → List ℕ
-shortfallsOf x pool = tab 32 (λ m. if ltb pool 4 then shortfallAt x pool m else 0)
-
--- the same from the units expected, won and allocated alone
-unfoldable pub shortfallFrom : List ℕ → List ℕ → List ℕ → ℕ → ℕ → ℕ
-shortfallFrom expected won allocated pool m =
-    min (getD expected (4 * m + pool) 0 - getD won (4 * m + pool) 0 - getD allocated (4 * m + pool) 0) unitLimit
-
-unfoldable pub shortfallsFrom : List ℕ → List ℕ → List ℕ → ℕ → List ℕ
-shortfallsFrom expected won allocated pool = tab 32 (λ m. if ltb pool 4 then shortfallFrom expected won allocated pool m else 0)
-
--- over the four pools, each held to a pool's units
+-- over the four pools
 unfoldable pub overPoolsAt : List ℕ → ℕ → ℕ
-overPoolsAt xs m = sumTo 4 (λ p. min (getD xs (4 * m + p) 0) unitLimit)
+overPoolsAt xs m = sumTo 4 (λ p. getD xs (4 * m + p) 0)
 
 unfoldable pub overPools : List ℕ → List ℕ
 overPools xs = tab 32 (overPoolsAt xs)
@@ -84,14 +68,14 @@ putMember x m contribution a b c d =
     }
     else x
 
--- the shares of the first n members added in a pool
-unfoldable pub addShares : ℕ → ℕ → List ℕ → List ℕ → List ℕ
-addShares zero pool shares xs = xs
-addShares (suc n) pool shares xs = addAt (addShares n pool shares xs) (4 * n + pool) (getD shares n 0)
+-- the shares of members added in a pool, each sum held to 16 bits
+unfoldable pub addShares : ℕ → List ℕ → List ℕ → List ℕ → List ℕ
+addShares pool shares [] xs = xs
+addShares pool shares (m ∷ ms) xs = addShares pool shares ms (addAt most16 xs (4 * m + pool) (getD shares m 0))
 
 -- ALLOCATE
-unfoldable pub withShares : Members → ℕ → List ℕ → Members
-withShares x pool shares =
+unfoldable pub withShares : Members → ℕ → ℕ → List ℕ → Members
+withShares x set pool shares =
     record {
       given = x .given;
       moved = x .moved;
@@ -99,7 +83,7 @@ withShares x pool shares =
       called = x .called;
       paid = x .paid;
       expected = x .expected;
-      allocated = if ltb pool 4 then addShares 32 pool shares (x .allocated) else x .allocated;
+      allocated = if ltb pool 4 then addShares pool shares (members set) (x .allocated) else x .allocated;
       won = x .won;
     }
 
@@ -125,7 +109,7 @@ withPayment x m amount =
       moved = x .moved;
       contribution = x .contribution;
       called = x .called;
-      paid = addAt (x .paid) m amount;
+      paid = addAt most32 (x .paid) m amount;
       expected = x .expected;
       allocated = x .allocated;
       won = x .won;

@@ -1,10 +1,9 @@
 // The bids kept, in flat arrays: "A case keeps at most 256 bids, numbered from 0 as accepted."
 ghost use mathlib.Core.Path.{_≡_};
 ghost use mathlib.Core.Bool.{_&&_, cond};
+ghost use mathlib.Core.List.{[], _∷_};
 ghost use Prim.Native.Nat.{_+_, _-_, _*_, min};
 ghost use lib.ListN.{getD};
-ghost use Rattle.auction.specs.Price.{priceLimit};
-ghost use Rattle.auction.specs.Limits.{unitLimit};
 ghost use Rattle.accounts.specs.Bids.{noBids, putBid, unitsIn, winsOf, withWins, wonTable, gainTable};
 
 pub struct Bids {
@@ -12,9 +11,9 @@ pub struct Bids {
     pub round: [u8; 256],
     pub pool: [u8; 256],
     pub member: [u8; 256],
-    pub units: [u64; 256],
+    pub units: [u16; 256],
     pub price: [u32; 256],
-    pub won: [u64; 256],
+    pub won: [u16; 256],
 }
 
 // The places that bids have, of 256.
@@ -22,13 +21,6 @@ fn used(kept: usize) -> usize
     ensures { λ r. ⌜ r ≡ min kept 256 ⌝ }
 {
     if kept < 256 { kept } else { 256 }
-}
-
-// A member's number as a place.
-fn wide(member: u8) -> usize
-    ensures { λ r. ⌜ r ≡ member ⌝ }
-{
-    member as usize
 }
 
 // The place of what belongs to a member in a pool.
@@ -46,10 +38,23 @@ fn is_in(kept: bool, round: bool, pool: bool) -> bool
 }
 
 // The one number where the test holds, and the other where it does not.
-fn chosen(test: bool, a: u64, b: u64) -> u64
+fn chosen(test: bool, a: u16, b: u16) -> u16
     ensures { λ r. ⌜ r ≡ cond test a b ⌝ }
 {
     if test { a } else { b }
+}
+
+// What stands for a pool among four numbers, and 0 for a pool that no case has.
+fn of_pool(pool: u8, a: u64, b: u64, c: u64, d: u64) -> u64
+    ensures { λ r. ⌜ r ≡ getD (a ∷ b ∷ c ∷ d ∷ []) pool 0 ⌝ }
+{
+    match pool {
+        0 => a,
+        1 => b,
+        2 => c,
+        3 => d,
+        _ => 0,
+    }
 }
 
 // A pool's worst reserve, and 0 of a pool that no case has.
@@ -59,16 +64,16 @@ fn worst_at(worsts: [u32; 4], pool: u8) -> u32
     if pool < 4 { worsts[pool as usize] } else { 0 }
 }
 
-// "units won × (price − worst reserve)" of one bid, each number held to its limit.
-fn gain(won: u64, price: u32, worst: u32) -> u64
-    ensures { λ r. ⌜ r ≡ min won unitLimit * min (price - worst) priceLimit ⌝ }
+// "units won × (price − worst reserve)" of one bid.
+fn gain(won: u16, price: u32, worst: u32) -> u64
+    ensures { λ r. ⌜ r ≡ won * (price - worst) ⌝ }
 {
     let above = lists::less(price as u64, worst as u64);
-    lists::smaller(won, auction::UNIT_LIMIT) * lists::smaller(above, auction::PRICE_LIMIT as u64)
+    lists::wide16(won) * above
 }
 
 impl Bids {
-    // The most bids of a case.
+    // "at most 256 bids"
     pub const MOST: usize = 256;
 
     // No bid.
@@ -80,14 +85,14 @@ impl Bids {
             round: [0u8; 256],
             pool: [0u8; 256],
             member: [0u8; 256],
-            units: [0u64; 256],
+            units: [0u16; 256],
             price: [0u32; 256],
-            won: [0u64; 256],
+            won: [0u16; 256],
         }
     }
 
     // One bid more, which has won nothing; unchanged where 256 are kept.
-    pub fn put(self, round: u8, pool: u8, member: u8, units: u64, price: u32) -> Bids
+    pub fn put(self, round: u8, pool: u8, member: u8, units: u16, price: u32) -> Bids
         ensures { λ r. ⌜ r ≡ putBid self round pool member units price ⌝ }
     {
         let n = self.kept;
@@ -113,32 +118,40 @@ impl Bids {
         let mut i: usize = 0;
         while i < 256 {
             let here = is_in(i < self.kept, self.round[i] == round, self.pool[i] == pool);
-            out[i] = lists::number_if(here, self.units[i]);
+            out[i] = lists::number_if(here, lists::wide16(self.units[i]));
             i += 1;
         }
         out
     }
 
-    // What the bids of a round win of a pool's open units, each at its place.
-    pub fn wins(self, round: u8, pool: u8, open_units: u64, reserve: u32) -> [u64; 256]
+    // What the bids of a round win of a pool's open units, each at its place, and 0 for the others.
+    pub fn wins(self, round: u8, pool: u8, open_units: u16, reserve: u32) -> [u64; 256]
         ensures { λ r. ⌜ r ≡ winsOf self round pool open_units reserve ⌝ }
     {
         let units = self.units_in(round, pool);
         let prices = self.price;
         let mut won = [0u64; 256];
-        auction::allot(open_units, reserve, &units, &prices, &mut won);
+        auction::allot(open_units as u64, reserve, &units, &prices, &mut won);
         won
     }
 
-    // The bids of a round in a pool with the units that they won.
-    pub fn take_wins(self, round: u8, pool: u8, wins: [u64; 256]) -> Bids
-        ensures { λ r. ⌜ r ≡ withWins self round pool wins ⌝ }
+    // The bids of a round with the units that they won, from what is won in pools 0 to 3.
+    pub fn take_wins(
+        self,
+        round: u8,
+        a: [u64; 256],
+        b: [u64; 256],
+        c: [u64; 256],
+        d: [u64; 256],
+    ) -> Bids
+        ensures { λ r. ⌜ r ≡ withWins self round (a ∷ b ∷ c ∷ d ∷ []) ⌝ }
     {
         let mut won = self.won;
         let mut i: usize = 0;
         while i < 256 {
-            let here = is_in(i < self.kept, self.round[i] == round, self.pool[i] == pool);
-            won[i] = chosen(here, wins[i], won[i]);
+            let here = lists::both(i < self.kept, self.round[i] == round);
+            let win = of_pool(self.pool[i], a[i], b[i], c[i], d[i]);
+            won[i] = chosen(here, lists::narrow16(win), won[i]);
             i += 1;
         }
         let mut out = self;
@@ -147,19 +160,15 @@ impl Bids {
     }
 
     // The units won by member and pool.
-    pub fn won_table(self) -> [u64; 128]
+    pub fn won_table(self) -> [u16; 128]
         ensures { λ r. ⌜ r ≡ wonTable self ⌝ }
     {
-        let mut out = [0u64; 128];
+        let mut out = [0u16; 128];
         let n = used(self.kept);
         let mut i: usize = 0;
         while i < n {
             let at = place_of(self.member[i], self.pool[i]);
-            lists::add_at(
-                &mut out,
-                at,
-                lists::smaller(self.won[i], auction::UNIT_LIMIT),
-            );
+            lists::add_at16(&mut out, at, self.won[i]);
             i += 1;
         }
         out
@@ -176,7 +185,7 @@ impl Bids {
             let worst = worst_at(worsts, self.pool[i]);
             lists::add_at(
                 &mut out,
-                wide(self.member[i]),
+                lists::place(self.member[i]),
                 gain(self.won[i], self.price[i], worst),
             );
             i += 1;

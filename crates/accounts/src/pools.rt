@@ -5,7 +5,7 @@ ghost use Rattle.accounts.specs.Pools.{noPools, putPool};
 
 pub struct Pools {
     pub given: u8,
-    pub units: [u64; 4],
+    pub units: [u16; 4],
     pub marks: [u8; 4],
 }
 
@@ -19,13 +19,13 @@ impl Pools {
     {
         Pools {
             given: 0,
-            units: [0u64; 4],
+            units: [0u16; 4],
             marks: [0u8; 4],
         }
     }
 
     // The next pool, or unchanged where four are given.
-    pub fn put(self, units: u64, mark: u8) -> Pools
+    pub fn put(self, units: u16, mark: u8) -> Pools
         ensures { λ r. ⌜ r ≡ putPool self units mark ⌝ }
     {
         let n = self.given;

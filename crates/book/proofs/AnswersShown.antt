@@ -1,4 +1,4 @@
--- Each answer that is read off a book is the machine's refusal in the case that the book and the roll show. Assumes nothing.
+-- Each answer that is read off a stage and a book is the machine's refusal in the case that the stage, the book and the roll show. Assumes nothing.
 use mathlib.Core.Path.{_≡_, refl, sym, ap, _∙_}
 use mathlib.Core.Bool.{Bool, true, false, not, false≢true}
 use mathlib.Core.Logic.{⊎-elim}
@@ -21,17 +21,18 @@ use Rattle.sets.specs.Set.{member, members}
 use Rattle.sets.proofs.Bits.{member-high}
 use Rattle.sets.proofs.Members.{members-each, ext}
 use Rattle.machine.specs.Wire.{HEAD, POOL, MEMBER, ROUND, BID, CLOSE, ALLOCATE, TEAR, CALL, PAY, MOVE, MISS, FINISH}
+use Rattle.machine.specs.Roll.{Entry}
 use Rattle.machine.specs.State.{Member, Case, memberAt, letter, letterOf}
 use Rattle.machine.specs.Refusals.{notInCase, notInSet, noneOpen, marked, notGiven, tests, refusal}
 use Rattle.machine.proofs.Invariant.{CaseOk}
 use Rattle.machine.proofs.Stages.{letter-some}
 use Rattle.wire.specs.declared.Head.{Head}
 use Rattle.wire.specs.Asked.{headOf}
-use Rattle.roll.specs.declared.Roll.{Roll}
 use Rattle.accounts.specs.Members.{viewMembers}
 use Rattle.accounts.proofs.ViewMembers.{member-shown, member-past}
 use Rattle.accounts.proofs.ViewPools as VP
 use Rattle.accounts.proofs.ViewBids as VB
+use Rattle.book.specs.declared.Stage.{Stage}
 use Rattle.book.specs.declared.Book.{Book}
 use Rattle.book.specs.Answers.{headAnswer, poolAnswer, memberAnswer, roundAnswer, bidAnswer, closeAnswer, allocateAnswer, tearAnswer, callAnswer, payAnswer, moveAnswer, missAnswer, finishAnswer}
 use Rattle.book.specs.View.{viewOf}
@@ -52,9 +53,9 @@ reserves-are (a ∷ b ∷ c ∷ []) l = refl
 reserves-are (a ∷ b ∷ c ∷ d ∷ []) l = refl
 reserves-are (a ∷ b ∷ c ∷ d ∷ e ∷ rs) l = absurd (omega arith)
 
-module _ (b : Book) (r : Roll) (w : Sound b r) (ok : CaseOk (viewOf b r)) where
+module _ (stage : Stage) (b : Book) (roll : List Entry) (w : Sound stage b roll) (ok : CaseOk (viewOf stage b roll)) where
   abbrev c : Case
-  c = viewOf b r
+  c = viewOf stage b roll
 
   -- ---- pools and members that are given
 
@@ -104,7 +105,7 @@ module _ (b : Book) (r : Roll) (w : Sound b r) (ok : CaseOk (viewOf b r)) where
 
   -- ---- the calls of stage S
 
-  pub pool-answer : (pool units mark : ℕ) → poolAnswer b pool units mark ≡ refusal (some (viewOf b r)) (POOL pool units mark)
+  pub pool-answer : (pool units mark : ℕ) → poolAnswer stage b pool units mark ≡ refusal (some (viewOf stage b roll)) (POOL pool units mark)
   unfolding poolAnswer refusal tests notInCase letterOf
   pool-answer pool units mark =
       same 2 _ _ refl
@@ -113,7 +114,7 @@ module _ (b : Book) (r : Roll) (w : Sound b r) (ok : CaseOk (viewOf b r)) where
       (λ e. refl)))
 
   pub member-answer : (m contribution p q s t : ℕ)
-      → memberAnswer b m contribution p q s t ≡ refusal (some (viewOf b r)) (MEMBER m contribution (p ∷ q ∷ s ∷ t ∷ []))
+      → memberAnswer stage b m contribution p q s t ≡ refusal (some (viewOf stage b roll)) (MEMBER m contribution (p ∷ q ∷ s ∷ t ∷ []))
   unfolding memberAnswer refusal tests notInSet letterOf
   member-answer m contribution p q s t =
       same 2 _ _ refl
@@ -122,26 +123,26 @@ module _ (b : Book) (r : Roll) (w : Sound b r) (ok : CaseOk (viewOf b r)) where
       (λ e. refl)))
 
   -- ROUND, by its number of reserves
-  pub reserves-answer : (n p q s t : ℕ) → n ≤ 4 → roundAnswer b n p q s t ≡ refusal (some (viewOf b r)) (ROUND (take n (p ∷ q ∷ s ∷ t ∷ [])))
+  pub reserves-answer : (n p q s t : ℕ) → n ≤ 4 → roundAnswer stage b n p q s t ≡ refusal (some (viewOf stage b roll)) (ROUND (take n (p ∷ q ∷ s ∷ t ∷ [])))
   unfolding roundAnswer refusal tests notGiven letterOf
   reserves-answer n p q s t few =
       let long : length (take n (p ∷ q ∷ s ∷ t ∷ [])) ≡ n = length-take n (p ∷ q ∷ s ∷ t ∷ []) ∙ min-eq-left few in
       same 1 _ _ (rw (long, letter-some (c .stage)))
       (λ e. same 2 _ _ refl
       (λ e. same 5 _ _ refl
-      (λ e. same 8 _ _ (rw (any-open-shown b r w ok))
+      (λ e. same 8 _ _ (rw (any-open-shown stage b roll w ok))
       (λ e. same 10 _ _ (rw (VP.length-view (b .pools), all-given-shown))
       (λ e. refl)))))
 
   pub round-answer : (rs : List ℕ) → length rs ≤ 4
-      → roundAnswer b (length rs) (getD rs 0 0) (getD rs 1 0) (getD rs 2 0) (getD rs 3 0) ≡ refusal (some (viewOf b r)) (ROUND rs)
+      → roundAnswer stage b (length rs) (getD rs 0 0) (getD rs 1 0) (getD rs 2 0) (getD rs 3 0) ≡ refusal (some (viewOf stage b roll)) (ROUND rs)
   round-answer rs few =
       reserves-answer (length rs) (getD rs 0 0) (getD rs 1 0) (getD rs 2 0) (getD rs 3 0) few
-      ∙ ap (λ (l : List ℕ). refusal (some (viewOf b r)) (ROUND l)) (reserves-are rs few)
+      ∙ ap (λ (l : List ℕ). refusal (some (viewOf stage b roll)) (ROUND l)) (reserves-are rs few)
 
   -- ---- the calls of stages B and A
 
-  pub bid-answer : (pool m units price : ℕ) → bidAnswer b pool m units price ≡ refusal (some (viewOf b r)) (BID pool m units price)
+  pub bid-answer : (pool m units price : ℕ) → bidAnswer stage b pool m units price ≡ refusal (some (viewOf stage b roll)) (BID pool m units price)
   unfolding bidAnswer refusal tests notInCase notInSet noneOpen letterOf
   bid-answer pool m units price =
       same 2 _ _ refl
@@ -150,83 +151,83 @@ module _ (b : Book) (r : Roll) (w : Sound b r) (ok : CaseOk (viewOf b r)) where
       (λ e. same 5 _ _ refl
       (λ e. same 6 _ _ refl
       (λ e. same 7 _ _ (rw (VB.length-view (b .bids)))
-      (λ e. same 8 _ _ (rw (open-shown b r w ok pool))
+      (λ e. same 8 _ _ (rw (open-shown stage b roll w ok pool))
       (λ e. refl)))))))
 
-  pub close-answer : closeAnswer b ≡ refusal (some (viewOf b r)) CLOSE
+  pub close-answer : closeAnswer stage ≡ refusal (some (viewOf stage b roll)) CLOSE
   unfolding closeAnswer refusal tests letterOf
   close-answer = refl
 
   -- the mark of a pool of the case, all of whose pools are given
   mark-in : (pool : ℕ) → not (eqb (letter (c .stage)) 3) ≡ false → leb (b .head .pools) pool ≡ false → eqb (getD (b .pools .marks) pool 0) 1 ≡ marked (c .pools) pool
   unfolding marked
-  mark-in pool stage inside =
-      let third = eqb-true (letter (c .stage)) 3 (not-false _ stage) in
+  mark-in pool after inside =
+      let third = eqb-true (letter (c .stage)) 3 (not-false _ after) in
       let below = leb-false (b .head .pools) pool inside in
       let many = ok .pools .complete (omega arith) in
       ap (λ (n : ℕ). eqb n 1) (VP.mark-shown (b .pools) pool (omega (arith, VP.length-view (b .pools))))
 
-  pub allocate-answer : (pool price : ℕ) → allocateAnswer b pool price ≡ refusal (some (viewOf b r)) (ALLOCATE pool price)
+  pub allocate-answer : (pool price : ℕ) → allocateAnswer stage b pool price ≡ refusal (some (viewOf stage b roll)) (ALLOCATE pool price)
   unfolding allocateAnswer refusal tests notInCase noneOpen letterOf
   allocate-answer pool price =
       same 2 _ _ refl
-      (λ stage. same 3 _ _ refl
+      (λ after. same 3 _ _ refl
       (λ inside. same 5 _ _ refl
-      (λ e. same 8 _ _ (rw (open-shown b r w ok pool))
-      (λ e. same 9 _ _ (mark-in pool stage inside)
-      (λ e. same 10 _ _ (rw (short-shown b r w ok pool (omega (arith, leb-false (b .head .pools) pool inside, ok .head .pools-most))))
+      (λ e. same 8 _ _ (rw (open-shown stage b roll w ok pool))
+      (λ e. same 9 _ _ (mark-in pool after inside)
+      (λ e. same 10 _ _ (rw (short-shown stage b roll w ok pool (omega (arith, leb-false (b .head .pools) pool inside, ok .head .pools-most))))
       (λ e. refl))))))
 
-  pub tear-answer : (pool price : ℕ) → tearAnswer b pool price ≡ refusal (some (viewOf b r)) (TEAR pool price)
+  pub tear-answer : (pool price : ℕ) → tearAnswer stage b pool price ≡ refusal (some (viewOf stage b roll)) (TEAR pool price)
   unfolding tearAnswer refusal tests notInCase noneOpen letterOf
   tear-answer pool price =
       same 2 _ _ refl
       (λ e. same 3 _ _ refl
       (λ e. same 5 _ _ refl
-      (λ e. same 8 _ _ (rw (open-shown b r w ok pool))
+      (λ e. same 8 _ _ (rw (open-shown stage b roll w ok pool))
       (λ e. refl))))
 
-  pub call-answer : callAnswer b ≡ refusal (some (viewOf b r)) CALL
+  pub call-answer : callAnswer stage b ≡ refusal (some (viewOf stage b roll)) CALL
   unfolding callAnswer refusal tests letterOf
   call-answer =
       same 2 _ _ refl
-      (λ e. same 11 _ _ (any-open-shown b r w ok)
-      (λ e. same 12 _ _ (rw (requirement-shown b r w ok, prefunded-shown b r w ok))
+      (λ e. same 11 _ _ (any-open-shown stage b roll w ok)
+      (λ e. same 12 _ _ (rw (requirement-shown stage b roll w ok, prefunded-shown stage b roll w ok))
       (λ e. refl)))
 
   -- ---- the calls of stage C
 
-  pub pay-answer : (m amount : ℕ) → payAnswer b m amount ≡ refusal (some (viewOf b r)) (PAY m amount)
+  pub pay-answer : (m amount : ℕ) → payAnswer stage b m amount ≡ refusal (some (viewOf stage b roll)) (PAY m amount)
   unfolding payAnswer refusal tests notInSet letterOf
   pay-answer m amount =
       same 2 _ _ refl
       (λ e. same 4 _ _ refl
       (λ e. same 5 _ _ refl
-      (λ e. same 14 _ _ (rw (debt-shown b r w ok m))
+      (λ e. same 14 _ _ (rw (debt-shown stage b roll w ok m))
       (λ e. refl))))
 
-  pub move-answer : (m : ℕ) → moveAnswer b m ≡ refusal (some (viewOf b r)) (MOVE m)
+  pub move-answer : (m : ℕ) → moveAnswer stage b m ≡ refusal (some (viewOf stage b roll)) (MOVE m)
   unfolding moveAnswer refusal tests notInSet letterOf
   move-answer m =
       same 2 _ _ refl
       (λ e. same 4 _ _ refl
-      (λ e. same 14 _ _ (rw (debt-shown b r w ok m))
+      (λ e. same 14 _ _ (rw (debt-shown stage b roll w ok m))
       (λ e. refl)))
 
-  pub miss-answer : (m price : ℕ) → missAnswer b m price ≡ refusal (some (viewOf b r)) (MISS m price)
+  pub miss-answer : (m price : ℕ) → missAnswer stage b m price ≡ refusal (some (viewOf stage b roll)) (MISS m price)
   unfolding missAnswer refusal tests notInSet letterOf
   miss-answer m price =
       same 2 _ _ refl
       (λ e. same 4 _ _ refl
-      (λ inside. same 5 _ _ refl
-      (λ e. same 16 _ _ (passed-shown b r w ok m (not-false _ inside))
+      (λ e. same 5 _ _ refl
+      (λ e. same 16 _ _ (passed-shown stage b roll w ok m)
       (λ e. refl))))
 
-  pub finish-answer : finishAnswer b ≡ refusal (some (viewOf b r)) FINISH
+  pub finish-answer : finishAnswer stage b ≡ refusal (some (viewOf stage b roll)) FINISH
   unfolding finishAnswer refusal tests letterOf
   finish-answer =
       same 2 _ _ refl
-      (λ e. same 11 _ _ (any-open-shown b r w ok)
-      (λ e. same 13 _ _ (rw (requirement-shown b r w ok, prefunded-shown b r w ok))
-      (λ e. same 15 _ _ (someone-owes-shown b r w ok)
+      (λ e. same 11 _ _ (any-open-shown stage b roll w ok)
+      (λ e. same 13 _ _ (rw (requirement-shown stage b roll w ok, prefunded-shown stage b roll w ok))
+      (λ e. same 15 _ _ (someone-owes-shown stage b roll w ok)
       (λ e. refl))))

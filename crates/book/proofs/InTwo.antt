@@ -6,11 +6,12 @@ use mathlib.Core.List.{List, [], _∷_, _++_}
 use Prim.Native.Nat.{ℕ}
 use lib.Dec.{leb, ltb, eqb}
 use lib.ListN.{getD}
-use Rattle.lists.specs.Lists.{if_then_else_, sum}
+use Rattle.lists.specs.Lists.{if_then_else_}
 use Rattle.lists.specs.Tests.{Test, firstOf}
 use Rattle.lists.proofs.Passed.{Passed, numbered, passed}
 use Rattle.auction.specs.Price.{priceOk}
-use Rattle.accounts.specs.Members.{someoneOwesIn, shortfallAt, shortfallsOf, shortfallFrom, shortfallsFrom}
+use Rattle.accounts.specs.Members.{someoneOwesIn}
+use Rattle.book.specs.declared.Stage.{Stage}
 use Rattle.book.specs.declared.Book.{Book}
 use Rattle.book.specs.Books.{openIn, anyOpenIn, requirementIn, prefundedIn, shortIn}
 use Rattle.book.specs.Answers.{isIn, allocateAnswer, callAnswer, finishAnswer}
@@ -43,56 +44,51 @@ module _ (ts us : List Test) (m : ℕ) (asked : m ≡ firstOf ts) where
 
 -- ---- ALLOCATE
 
--- the total shortfall from the units expected, won and allocated
-pub short-from : (b : Book) (pool : ℕ) → sum (shortfallsFrom (b .members .expected) (b .members .won) (b .members .allocated) pool) ≡ shortIn b pool
-unfolding shortIn shortfallsOf shortfallAt shortfallsFrom shortfallFrom
-short-from b pool = refl
-
-module _ (b : Book) (pool price : ℕ) (m : ℕ) where
+module _ (stage : Stage) (b : Book) (pool price : ℕ) (m : ℕ) where
   abbrev pub allocateFirst : List Test
   allocateFirst =
-      (2, not (isIn b 3))
+      (2, not (isIn stage 3))
       ∷ (3, leb (b .head .pools) pool)
       ∷ (5, not (priceOk price))
       ∷ (8, eqb (openIn b pool) 0)
       ∷ (9, eqb (getD (b .pools .marks) pool 0) 1)
       ∷ []
 
-  pub allocate-declined : m ≡ firstOf allocateFirst → (m ≡ 0 → ⊥) → m ≡ allocateAnswer b pool price
+  pub allocate-declined : m ≡ firstOf allocateFirst → (m ≡ 0 → ⊥) → m ≡ allocateAnswer stage b pool price
   unfolding allocateAnswer
   allocate-declined e g = declined allocateFirst ((10, eqb (shortIn b pool) 0) ∷ []) m e g
 
-  pub allocate-let-pass : m ≡ firstOf allocateFirst → m ≡ 0 → (n : ℕ) → n ≡ (if eqb (shortIn b pool) 0 then 10 else 0) → n ≡ allocateAnswer b pool price
+  pub allocate-let-pass : m ≡ firstOf allocateFirst → m ≡ 0 → (n : ℕ) → n ≡ (if eqb (shortIn b pool) 0 then 10 else 0) → n ≡ allocateAnswer stage b pool price
   unfolding allocateAnswer firstOf
   allocate-let-pass e z n f = let-pass allocateFirst ((10, eqb (shortIn b pool) 0) ∷ []) m e refl z n f
 
 -- ---- CALL
 
-module _ (b : Book) (m : ℕ) where
+module _ (stage : Stage) (b : Book) (m : ℕ) where
   abbrev pub callFirst : List Test
-  callFirst = (2, not (isIn b 3)) ∷ (11, anyOpenIn b) ∷ []
+  callFirst = (2, not (isIn stage 3)) ∷ (11, anyOpenIn b) ∷ []
 
-  pub call-declined : m ≡ firstOf callFirst → (m ≡ 0 → ⊥) → m ≡ callAnswer b
+  pub call-declined : m ≡ firstOf callFirst → (m ≡ 0 → ⊥) → m ≡ callAnswer stage b
   unfolding callAnswer
   call-declined e g = declined callFirst ((12, leb (requirementIn b) (prefundedIn b)) ∷ []) m e g
 
-  pub call-let-pass : m ≡ firstOf callFirst → m ≡ 0 → (n : ℕ) → n ≡ (if leb (requirementIn b) (prefundedIn b) then 12 else 0) → n ≡ callAnswer b
+  pub call-let-pass : m ≡ firstOf callFirst → m ≡ 0 → (n : ℕ) → n ≡ (if leb (requirementIn b) (prefundedIn b) then 12 else 0) → n ≡ callAnswer stage b
   unfolding callAnswer firstOf
   call-let-pass e z n f = let-pass callFirst ((12, leb (requirementIn b) (prefundedIn b)) ∷ []) m e refl z n f
 
 -- ---- FINISH
 
-module _ (b : Book) (m : ℕ) where
+module _ (stage : Stage) (b : Book) (m : ℕ) where
   abbrev pub finishFirst : List Test
-  finishFirst = (2, not (isIn b 3 || isIn b 4)) ∷ (11, anyOpenIn b) ∷ []
+  finishFirst = (2, not (isIn stage 3 || isIn stage 4)) ∷ (11, anyOpenIn b) ∷ []
 
   abbrev pub finishLast : List Test
-  finishLast = (13, isIn b 3 && ltb (prefundedIn b) (requirementIn b)) ∷ (15, someoneOwesIn (b .members)) ∷ []
+  finishLast = (13, isIn stage 3 && ltb (prefundedIn b) (requirementIn b)) ∷ (15, someoneOwesIn (b .members) (b .head .set)) ∷ []
 
-  pub finish-declined : m ≡ firstOf finishFirst → (m ≡ 0 → ⊥) → m ≡ finishAnswer b
+  pub finish-declined : m ≡ firstOf finishFirst → (m ≡ 0 → ⊥) → m ≡ finishAnswer stage b
   unfolding finishAnswer
   finish-declined e g = declined finishFirst finishLast m e g
 
-  pub finish-let-pass : m ≡ firstOf finishFirst → m ≡ 0 → (n : ℕ) → n ≡ firstOf finishLast → n ≡ finishAnswer b
+  pub finish-let-pass : m ≡ firstOf finishFirst → m ≡ 0 → (n : ℕ) → n ≡ firstOf finishLast → n ≡ finishAnswer stage b
   unfolding finishAnswer
   finish-let-pass e z n f = let-pass finishFirst finishLast m e refl z n f

@@ -1,8 +1,7 @@
-pub mod Sound
-pub mod Bounds
-pub mod Finished
 pub mod InTwo
 pub mod Ranges
+pub mod Parts
+pub mod Sound
 pub mod Shown
 pub mod AnswersShown
 pub mod Outputs

@@ -1,37 +1,36 @@
 -- What ALLOCATE and CALL split among the members, read off a book, is what the machine splits. Assumes nothing.
-use mathlib.Core.Path.{_≡_, sym, ap, _∙_}
+use mathlib.Core.Path.{_≡_, refl, sym, ap, _∙_}
 use mathlib.Core.Bool.{false}
 use mathlib.Core.List.{List}
-use Prim.Native.Nat.{ℕ, _+_, _-_, _*_, _^_, _≤_, _<_, min}
+use Prim.Native.Nat.{ℕ, _+_, _-_, _*_, _≤_, _<_, min}
 use native.Mathlib.Omega.{arith}
 use lib.ListN.{length, getD, replicate}
-use Rattle.lists.specs.Lists.{sum}
-use Rattle.lists.proofs.Sums.{sum-bound, bound-past}
-use Rattle.lists.proofs.Places.{length-tab}
+use Rattle.lists.specs.Lists.{if_then_else_, sum, sumTo}
+use Rattle.lists.specs.Adding.{most16, most32, heldTo}
+use Rattle.lists.proofs.Bools.{either}
+use Rattle.lists.proofs.Sums.{sumTo-le, sum-places, sum-bound, bound-past}
+use Rattle.lists.proofs.Adding.{held-same}
 use Rattle.sets.specs.Set.{member}
+use Rattle.sets.proofs.Members.{sum-members}
 use Rattle.splitting.specs.Split.{split}
 use Rattle.splitting.specs.Limits.{Answer, splitInto, amountLimit, weightLimit}
 use Rattle.splitting.proofs.Answers.{accepted}
 use Rattle.splitting.proofs.Shares.{split-length, split-le-weight}
-use Rattle.splitting.proofs.Among.{share-off}
+use Rattle.machine.specs.Roll.{Entry}
 use Rattle.machine.specs.State as M
-use Rattle.machine.specs.Requirement.{contributionOf}
-use Rattle.machine.specs.Calls.{shortfall, allocation, calls}
+use Rattle.machine.specs.Calls.{allocation, calls}
 use Rattle.machine.proofs.Invariant.{CaseOk}
-use Rattle.machine.proofs.Bounds.{member-ok, bid-ok}
-use Rattle.roll.specs.declared.Roll.{Roll}
-use Rattle.accounts.specs.declared.members.Members.{Members}
-use Rattle.accounts.specs.Members.{contributionLimit, shortfallsOf}
+use Rattle.machine.proofs.Bounds.{member-ok, contributions-small}
+use Rattle.machine.proofs.Shares as Shares
 use Rattle.accounts.proofs.ViewMembers.{member-shown}
-use Rattle.accounts.proofs.ViewBids.{length-view, pool-shown}
-use Rattle.accounts.proofs.Shortfalls.{split-shown, expected-shown, allocated-shown}
+use Rattle.accounts.proofs.Shortfalls as S
 use Rattle.accounts.proofs.OverMembers.{split-contributions}
+use Rattle.book.specs.declared.Stage.{Stage}
 use Rattle.book.specs.declared.Book.{Book}
-use Rattle.book.specs.Books.{openIn, shortIn, requirementIn, contributionsIn, prefundedIn, allocationIn, callsIn}
+use Rattle.book.specs.Books.{openIn, shortfallsIn, shortIn, requirementIn, contributionsIn, prefundedIn, allocationIn, callsIn}
 use Rattle.book.specs.View.{viewOf}
 use Rattle.book.proofs.Sound.{Sound}
-use Rattle.book.proofs.Bounds.{shortfall-le, amounts-le}
-use Rattle.book.proofs.Shown.{open-shown, requirement-shown, outside-shown, contributions-shown, prefunded-shown, shorts, none-short, short-shown}
+use Rattle.book.proofs.Shown.{open-shown, requirement-shown, outside-shown, contributions-shown, prefunded-shown, shorts, short-shown}
 
 -- 32 shares within the limits of splitting hold the split
 pub shares-of : (q : ℕ) (ws : List ℕ) → length ws ≡ 32 → ((k : ℕ) → getD ws k 0 ≤ weightLimit) → q ≤ amountLimit
@@ -40,41 +39,24 @@ shares-of q ws long light small =
     ap (λ (a : Answer). a .1)
     (accepted q ws (replicate 32 0) (sym long) (record { weights = record { few = omega arith; light = light }; small = small }))
 
-shortfalls-long : (x : Members) (pool : ℕ) → length (shortfallsOf x pool) ≡ 32
-unfolding shortfallsOf
-shortfalls-long x pool = length-tab 32 _
-
-module _ (b : Book) (r : Roll) (s : Sound b r) (ok : CaseOk (viewOf b r)) where
+module _ (stage : Stage) (b : Book) (roll : List Entry) (s : Sound stage b roll) (ok : CaseOk (viewOf stage b roll)) where
   -- ---- the members
 
   pub contribution-outside : (m : ℕ) → m < 32 → member (b .head .set) m ≡ false → getD (b .members .contribution) m 0 ≡ 0
-  contribution-outside m l e = ap (λ (x : M.Member). x .contribution) (outside-shown b r s ok m l e)
+  contribution-outside m l e = ap (λ (x : M.Member). x .contribution) (outside-shown stage b roll s ok m l e)
 
   pub paid-outside : (m : ℕ) → m < 32 → member (b .head .set) m ≡ false → getD (b .members .paid) m 0 ≡ 0
-  paid-outside m l e = ap (λ (x : M.Member). x .paid) (outside-shown b r s ok m l e)
+  paid-outside m l e = ap (λ (x : M.Member). x .paid) (outside-shown stage b roll s ok m l e)
 
-  pub contribution-le : (m : ℕ) → m < 32 → getD (b .members .contribution) m 0 ≤ contributionLimit
+  contribution-le : (m : ℕ) → m < 32 → getD (b .members .contribution) m 0 ≤ 500_000_000
   contribution-le m l =
-      let o = member-ok (viewOf b r) ok m in
+      let o = member-ok (viewOf stage b roll) ok m in
       omega (arith, o .contribution-most, ap (λ (x : M.Member). x .contribution) (member-shown (b .members) m l))
 
-  pub paid-le : (m : ℕ) → m < 32 → getD (b .members .paid) m 0 ≤ contributionLimit
+  pub paid-le : (m : ℕ) → m < 32 → getD (b .members .paid) m 0 ≤ 500_000_000
   paid-le m l =
-      let o = member-ok (viewOf b r) ok m in
+      let o = member-ok (viewOf stage b roll) ok m in
       omega (arith, o .paid-most, o .called-most, o .contribution-most, ap (λ (x : M.Member). x .paid) (member-shown (b .members) m l))
-
-  pub expected-le : (m p : ℕ) → m < 32 → p < 4 → getD (b .members .expected) (4 * m + p) 0 ≤ 1000
-  expected-le m p l h =
-      let o = member-ok (viewOf b r) ok m in
-      omega (arith, o .expected-most p, expected-shown (b .members) m l p h)
-
-  -- ---- the bids
-
-  -- a bid is in a pool of the case
-  pub bid-pool : (i : ℕ) → i < b .bids .kept → getD (b .bids .pool) i 0 < b .head .pools
-  bid-pool i l =
-      let o = bid-ok (viewOf b r) ok i (omega (arith, length-view (b .bids))) in
-      omega (arith, pool-shown (b .bids) i l, o .pool)
 
   -- ---- ALLOCATE
 
@@ -82,70 +64,92 @@ module _ (b : Book) (r : Roll) (s : Sound b r) (ok : CaseOk (viewOf b r)) where
     below : pool < 4
     below = omega (arith, ok .head .pools-most)
 
-    -- the split by shortfall, of the smaller of open units and total shortfall
-    allocation-split : allocationIn b pool ≡ split (min (openIn b pool) (shortIn b pool)) (shortfallsOf (b .members) pool)
-    unfolding allocationIn shortIn
-    allocation-split =
-        let ws = shortfallsOf (b .members) pool in
-        shares-of (min (openIn b pool) (sum ws)) ws (shortfalls-long (b .members) pool)
-        (λ k. omega (arith, shortfall-le (b .members) pool k))
-        (omega (arith, sum-bound 1000 ws (shortfall-le (b .members) pool), shortfalls-long (b .members) pool))
+    abbrev ws : List ℕ
+    ws = shortfallsIn b pool
 
-    pub allocation-shown : allocationIn b pool ≡ allocation (viewOf b r) pool
+    shortfall-le : (k : ℕ) → getD ws k 0 ≤ 1000
+    shortfall-le =
+        S.shortfalls-le (b .head .set) (b .members .expected) (b .members .won) (b .members .allocated) pool 1000
+        (λ m l. omega (arith, S.expected-shown (b .members) m l pool below, member-ok (viewOf stage b roll) ok m .expected-most pool))
+
+    -- the split by shortfall, of the smaller of open units and total shortfall
+    abbrev q : ℕ
+    q = min (openIn b pool) (shortIn b pool)
+
+    long : length ws ≡ 32
+    long = S.shortfalls-long (b .head .set) (b .members .expected) (b .members .won) (b .members .allocated) pool
+
+    q-least : q ≤ sum ws
+    unfolding shortIn
+    q-least = omega arith
+
+    allocation-split : allocationIn b pool ≡ split q ws
+    unfolding allocationIn
+    allocation-split =
+        ap (heldTo most16) (shares-of q ws long (λ k. omega (arith, shortfall-le k)) (omega (arith, q-least, sum-bound 1000 ws shortfall-le, long)))
+        ∙ held-same most16 (split q ws) (λ k l. omega (arith, split-le-weight q ws q-least k, shortfall-le k))
+
+    pub allocation-shown : allocationIn b pool ≡ allocation (viewOf stage b roll) pool
     unfolding allocation
     allocation-shown =
         allocation-split
-        ∙ sym (split-shown (viewOf b r) (b .members) pool (shorts b r s ok pool below) (none-short b r s ok pool) (min (openIn b pool) (shortIn b pool)))
-        ∙ rw (open-shown b r s ok pool, short-shown b r s ok pool below)
+        ∙ sym (S.split-shown (viewOf stage b roll) (b .members) pool (shorts stage b roll s ok pool below) q)
+        ∙ rw (open-shown stage b roll s ok pool, short-shown stage b roll s ok pool below)
 
-    -- a share for each of the 32 places, and none for those who are no member
-    pub allocation-long : length (allocationIn b pool) ≡ 32
-    allocation-long = ap length allocation-split ∙ split-length _ (shortfallsOf (b .members) pool) ∙ shortfalls-long (b .members) pool
-
+    -- none for those who are no member
     pub allocation-outside : (m : ℕ) → member (b .head .set) m ≡ false → getD (allocationIn b pool) m 0 ≡ 0
-    unfolding allocation
-    allocation-outside m e =
-        ap (λ (l : List ℕ). getD l m 0) allocation-shown
-        ∙ share-off 32 (M.inSet (viewOf b r .head)) _ (shortfall (viewOf b r) pool) m e
+    allocation-outside m e = ap (λ (l : List ℕ). getD l m 0) allocation-shown ∙ Shares.allocation-outside (viewOf stage b roll) pool m e
 
-    -- no share is above a pool's units, and what is allocated fits 64 bits with it
-    pub allocation-le : (m : ℕ) → getD (allocationIn b pool) m 0 ≤ 1000
-    unfolding shortIn
-    allocation-le m =
-        let ws = shortfallsOf (b .members) pool in
-        let q = min (openIn b pool) (sum ws) in
-        omega (arith, ap (λ (l : List ℕ). getD l m 0) allocation-split, split-le-weight q ws (omega arith) m, shortfall-le (b .members) pool m)
-
-    pub allocation-fits : (m : ℕ) → m < 32 → getD (b .members .allocated) (4 * m + pool) 0 + getD (allocationIn b pool) m 0 < 2 ^ 64
+    -- what is ever allocated to a member fits 16 bits
+    pub allocation-fits : (m : ℕ) → m < 32 → getD (b .members .allocated) (4 * m + pool) 0 + getD (allocationIn b pool) m 0 ≤ most16
     allocation-fits m l =
-        let o = member-ok (viewOf b r) ok m in
-        omega (arith, allocation-le m, o .allocated-most pool, o .expected-most pool, allocated-shown (b .members) m l pool below)
+        let o = member-ok (viewOf stage b roll) ok m in
+        omega (
+          arith,
+          ap (λ (l : List ℕ). getD l m 0) allocation-split,
+          split-le-weight q ws q-least m,
+          shortfall-le m,
+          o .allocated-most pool,
+          o .expected-most pool,
+          S.allocated-shown (b .members) m l pool below,
+        )
 
   -- ---- CALL
 
-  contribution-light : (k : ℕ) → getD (b .members .contribution) k 0 ≤ weightLimit
+  contribution-light : (k : ℕ) → getD (b .members .contribution) k 0 ≤ 500_000_000
   contribution-light =
-      bound-past weightLimit (b .members .contribution)
-      (λ k l. omega (arith, s .members .contribution, contribution-le k (omega (arith, s .members .contribution))))
+      bound-past 500_000_000 (b .members .contribution) (λ k l. contribution-le k (omega (arith, s .members .contribution)))
 
   -- the split by contribution, of what is short of the requirement
-  calls-split : callsIn b ≡ split (min (requirementIn b - prefundedIn b) (contributionsIn b)) (b .members .contribution)
-  unfolding callsIn contributionsIn
-  calls-split =
-      shares-of _ (b .members .contribution) (s .members .contribution) contribution-light
-      (omega (arith, amounts-le (b .members .contribution)))
+  abbrev short : ℕ
+  short = min (requirementIn b - prefundedIn b) (contributionsIn b)
 
-  pub calls-shown : callsIn b ≡ calls (viewOf b r)
+  short-least : short ≤ sum (b .members .contribution)
+  unfolding contributionsIn
+  short-least =
+      let xs = b .members .contribution in
+      omega (
+        arith,
+        sum-members (b .head .set) (λ m. getD xs m 0),
+        sumTo-le 32 (λ m. if member (b .head .set) m then getD xs m 0 else 0) (λ m. getD xs m 0) (λ m l. either (λ (x : ℕ). x ≤ getD xs m 0) (member (b .head .set) m) (omega arith) (omega arith)),
+        sum-places xs,
+        ap (λ (n : ℕ). sumTo n (λ m. getD xs m 0)) (s .members .contribution),
+      )
+
+  calls-split : callsIn b ≡ split short (b .members .contribution)
+  unfolding callsIn
+  calls-split =
+      ap (heldTo most32)
+      (shares-of short (b .members .contribution) (s .members .contribution) (λ k. omega (arith, contribution-light k))
+      (omega (arith, contributions-shown stage b roll s ok, contributions-small (viewOf stage b roll) ok)))
+      ∙ held-same most32 (split short (b .members .contribution)) (λ k l. omega (arith, split-le-weight short (b .members .contribution) short-least k, contribution-light k))
+
+  pub calls-shown : callsIn b ≡ calls (viewOf stage b roll)
   unfolding calls
   calls-shown =
       calls-split
-      ∙ sym (split-contributions (b .members) (b .head .set) (s .members) contribution-outside _)
-      ∙ rw (requirement-shown b r s ok, prefunded-shown b r s ok, contributions-shown b r s ok)
+      ∙ sym (split-contributions (viewOf stage b roll) (b .members) refl (s .members .contribution) contribution-outside short)
+      ∙ rw (requirement-shown stage b roll s ok, prefunded-shown stage b roll s ok, contributions-shown stage b roll s ok)
 
   pub calls-long : length (callsIn b) ≡ 32
-  calls-long = ap length calls-split ∙ split-length _ (b .members .contribution) ∙ s .members .contribution
-
-  pub calls-outside : (m : ℕ) → member (b .head .set) m ≡ false → getD (callsIn b) m 0 ≡ 0
-  unfolding calls
-  calls-outside m e =
-      ap (λ (l : List ℕ). getD l m 0) calls-shown ∙ share-off 32 (M.inSet (viewOf b r .head)) _ (contributionOf (viewOf b r)) m e
+  calls-long = ap length calls-split ∙ split-length short (b .members .contribution) ∙ s .members .contribution

@@ -1,4 +1,4 @@
--- Why a call is declined, read off the program's book: the same tests in the same order as the machine's (`Refusals`). Each list stands in the order of
+-- Why a call is declined, read off the program's stage and book: the same tests in the same order as the machine's (`Refusals`). Each list stands in the order of
 -- the numbers, and the answer is the first that applies.
 use mathlib.Core.Bool.{Bool, true, false, _&&_, _||_, not}
 use mathlib.Core.List.{[], _∷_}
@@ -13,53 +13,54 @@ use Rattle.machine.specs.Refusals.{headOk, poolOk, memberOk, bidOk, paymentOk}
 use Rattle.wire.specs.declared.Head.{Head}
 use Rattle.wire.specs.Asked.{headOf}
 use Rattle.accounts.specs.Members.{owesOf, someoneOwesIn}
+use Rattle.book.specs.declared.Stage.{Stage}
 use Rattle.book.specs.declared.Book.{Book}
 use Rattle.book.specs.Stages.{letterOf, roundOf}
-use Rattle.book.specs.Books.{openIn, anyOpenIn, requirementIn, prefundedIn, shortIn}
+use Rattle.book.specs.Books.{openIn, anyOpenIn, passedIn, requirementIn, prefundedIn, shortIn}
 
 -- "expected units to 1,000, and 0 for a pool the case lacks": whether the case has the pool, and the units
 abbrev pub expectedOk : Bool → ℕ → Bool
 expectedOk true n = leb n 1000
 expectedOk false n = eqb n 0
 
--- the stage of a book
-abbrev pub isIn : Book → ℕ → Bool
-isIn b letter = eqb (letterOf (b .phase .stage)) letter
+-- whether a stage has a letter
+abbrev pub isIn : Stage → ℕ → Bool
+isIn stage letter = eqb (letterOf stage) letter
 
 -- HEAD, where there is no case
 unfoldable pub headAnswer : Head → ℕ
 headAnswer h = firstOf ((5, not (headOk (headOf h))) ∷ [])
 
-unfoldable pub poolAnswer : Book → ℕ → ℕ → ℕ → ℕ
-poolAnswer b pool units mark =
+unfoldable pub poolAnswer : Stage → Book → ℕ → ℕ → ℕ → ℕ
+poolAnswer stage b pool units mark =
     firstOf
-    ((2, not (isIn b 1))
+    ((2, not (isIn stage 1))
     ∷ (3, leb (b .head .pools) pool || not (eqb pool (b .pools .given)))
     ∷ (5, not (poolOk units mark))
     ∷ [])
 
-unfoldable pub memberAnswer : Book → ℕ → ℕ → ℕ → ℕ → ℕ → ℕ → ℕ
-memberAnswer b m contribution p q r s =
+unfoldable pub memberAnswer : Stage → Book → ℕ → ℕ → ℕ → ℕ → ℕ → ℕ → ℕ
+memberAnswer stage b m contribution p q r s =
     firstOf
-    ((2, not (isIn b 1))
+    ((2, not (isIn stage 1))
     ∷ (4, not (member (b .head .set) m) || member (b .members .given) m)
     ∷ (5, not (memberOk (b .head .pools) contribution (p ∷ q ∷ r ∷ s ∷ [])))
     ∷ [])
 
-unfoldable pub roundAnswer : Book → ℕ → ℕ → ℕ → ℕ → ℕ → ℕ
-roundAnswer b n p q r s =
+unfoldable pub roundAnswer : Stage → Book → ℕ → ℕ → ℕ → ℕ → ℕ → ℕ
+roundAnswer stage b n p q r s =
     firstOf
     ((1, not (eqb n (b .head .pools)))
-    ∷ (2, not (isIn b 1 || (isIn b 3 && eqb (roundOf (b .phase .stage)) 1)))
+    ∷ (2, not (isIn stage 1 || (isIn stage 3 && eqb (roundOf stage) 1)))
     ∷ (5, not (all priceOk (take n (p ∷ q ∷ r ∷ s ∷ []))))
-    ∷ (8, isIn b 3 && not (anyOpenIn b))
+    ∷ (8, isIn stage 3 && not (anyOpenIn b))
     ∷ (10, ltb (b .pools .given) (b .head .pools) || not (eqb (b .members .given) (b .head .set)))
     ∷ [])
 
-unfoldable pub bidAnswer : Book → ℕ → ℕ → ℕ → ℕ → ℕ
-bidAnswer b pool m units price =
+unfoldable pub bidAnswer : Stage → Book → ℕ → ℕ → ℕ → ℕ → ℕ
+bidAnswer stage b pool m units price =
     firstOf
-    ((2, not (isIn b 2))
+    ((2, not (isIn stage 2))
     ∷ (3, leb (b .head .pools) pool)
     ∷ (4, not (member (b .head .set) m))
     ∷ (5, not (bidOk units price))
@@ -68,13 +69,13 @@ bidAnswer b pool m units price =
     ∷ (8, eqb (openIn b pool) 0)
     ∷ [])
 
-unfoldable pub closeAnswer : Book → ℕ
-closeAnswer b = firstOf ((2, not (isIn b 2)) ∷ [])
+unfoldable pub closeAnswer : Stage → ℕ
+closeAnswer stage = firstOf ((2, not (isIn stage 2)) ∷ [])
 
-unfoldable pub allocateAnswer : Book → ℕ → ℕ → ℕ
-allocateAnswer b pool price =
+unfoldable pub allocateAnswer : Stage → Book → ℕ → ℕ → ℕ
+allocateAnswer stage b pool price =
     firstOf
-    ((2, not (isIn b 3))
+    ((2, not (isIn stage 3))
     ∷ (3, leb (b .head .pools) pool)
     ∷ (5, not (priceOk price))
     ∷ (8, eqb (openIn b pool) 0)
@@ -82,54 +83,54 @@ allocateAnswer b pool price =
     ∷ (10, eqb (shortIn b pool) 0)
     ∷ [])
 
-unfoldable pub tearAnswer : Book → ℕ → ℕ → ℕ
-tearAnswer b pool price =
+unfoldable pub tearAnswer : Stage → Book → ℕ → ℕ → ℕ
+tearAnswer stage b pool price =
     firstOf
-    ((2, not (isIn b 3))
+    ((2, not (isIn stage 3))
     ∷ (3, leb (b .head .pools) pool)
     ∷ (5, not (priceOk price))
     ∷ (8, eqb (openIn b pool) 0)
     ∷ [])
 
-unfoldable pub callAnswer : Book → ℕ
-callAnswer b =
+unfoldable pub callAnswer : Stage → Book → ℕ
+callAnswer stage b =
     firstOf
-    ((2, not (isIn b 3))
+    ((2, not (isIn stage 3))
     ∷ (11, anyOpenIn b)
     ∷ (12, leb (requirementIn b) (prefundedIn b))
     ∷ [])
 
-unfoldable pub payAnswer : Book → ℕ → ℕ → ℕ
-payAnswer b m amount =
+unfoldable pub payAnswer : Stage → Book → ℕ → ℕ → ℕ
+payAnswer stage b m amount =
     firstOf
-    ((2, not (isIn b 4))
+    ((2, not (isIn stage 4))
     ∷ (4, not (member (b .head .set) m))
     ∷ (5, not (paymentOk amount))
     ∷ (14, ltb (owesOf (b .members) m) amount)
     ∷ [])
 
-unfoldable pub moveAnswer : Book → ℕ → ℕ
-moveAnswer b m =
+unfoldable pub moveAnswer : Stage → Book → ℕ → ℕ
+moveAnswer stage b m =
     firstOf
-    ((2, not (isIn b 4))
+    ((2, not (isIn stage 4))
     ∷ (4, not (member (b .head .set) m))
     ∷ (14, eqb (owesOf (b .members) m) 0)
     ∷ [])
 
-unfoldable pub missAnswer : Book → ℕ → ℕ → ℕ
-missAnswer b m price =
+unfoldable pub missAnswer : Stage → Book → ℕ → ℕ → ℕ
+missAnswer stage b m price =
     firstOf
-    ((2, not (isIn b 3 || isIn b 4))
+    ((2, not (isIn stage 3 || isIn stage 4))
     ∷ (4, not (member (b .head .set) m))
     ∷ (5, not (priceOk price))
-    ∷ (16, eqb (getD (b .tally .passed) m 0) 0)
+    ∷ (16, eqb (passedIn b m) 0)
     ∷ [])
 
-unfoldable pub finishAnswer : Book → ℕ
-finishAnswer b =
+unfoldable pub finishAnswer : Stage → Book → ℕ
+finishAnswer stage b =
     firstOf
-    ((2, not (isIn b 3 || isIn b 4))
+    ((2, not (isIn stage 3 || isIn stage 4))
     ∷ (11, anyOpenIn b)
-    ∷ (13, isIn b 3 && ltb (prefundedIn b) (requirementIn b))
-    ∷ (15, someoneOwesIn (b .members))
+    ∷ (13, isIn stage 3 && ltb (prefundedIn b) (requirementIn b))
+    ∷ (15, someoneOwesIn (b .members) (b .head .set))
     ∷ [])

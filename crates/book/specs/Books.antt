@@ -1,135 +1,161 @@
--- The program's book: what is read of it, and how the calls change it. The parts of a book are those of `accounts`, and the tally of the roll.
+-- The program's book: what is read of it, and how each call changes it. Its parts are those of `accounts` and the units, counted.
 use mathlib.Core.Bool.{Bool}
-use mathlib.Core.List.{List, [], _∷_}
-use Prim.Native.Nat.{ℕ, _+_, _-_, _*_, min}
+use mathlib.Core.List.{List, [], _∷_, map}
+use Prim.Native.Nat.{ℕ, _+_, _-_, min}
 use lib.Dec.{ltb}
 use lib.ListN.{getD, replicate}
-use Rattle.lists.specs.Lists.{sum, sumTo, any, places}
+use Rattle.lists.specs.Lists.{sum, any, places}
+use Rattle.lists.specs.Adding.{most16, most32, heldTo}
+use Rattle.sets.specs.Set.{members}
 use Rattle.splitting.specs.Limits.{splitInto}
-use Rattle.auction.specs.Price.{zeroPrice}
 use Rattle.wire.specs.declared.Head.{Head}
-use Rattle.roll.specs.declared.Tally.{Tally}
+use Rattle.units.specs.declared.Units.{Units}
+use Rattle.units.specs.Steps.{noUnits, putUpUnits, sellUnits, allocateUnits, tearUnits, missUnits}
+use Rattle.units.specs.Groups.{moveUnits}
+use Rattle.units.specs.Shown.{openOf, passedOf, zeroPrices, pricesOf}
 use Rattle.accounts.specs.declared.pools.Pools.{Pools}
 use Rattle.accounts.specs.declared.members.Members.{Members}
 use Rattle.accounts.specs.declared.rounds.Rounds.{Rounds}
 use Rattle.accounts.specs.declared.bids.Bids.{Bids}
-use Rattle.accounts.specs.Pools.{noPools}
-use Rattle.accounts.specs.Members.{noMembers, amountsOf, shortfallsOf, putMember, withCalls, withPayment}
-use Rattle.accounts.specs.Rounds.{noRounds, putRound}
-use Rattle.accounts.specs.Bids.{noBids, putBid}
-use Rattle.book.specs.declared.Stage.{Stage}
-use Rattle.book.specs.declared.Stage.the-variants.{Setup, Bidding, CallsOut, Finished}
+use Rattle.accounts.specs.Pools.{noPools, putPool}
+use Rattle.accounts.specs.Members.{noMembers, owesOf, shortfallsOf, putMember, withShares, withCalls, withPayment, withMove, withWon}
+use Rattle.accounts.specs.Rounds.{noRounds, putRound, reserveOf}
+use Rattle.accounts.specs.Bids.{noBids, putBid, winsOf, withWins, wonTable}
 use Rattle.book.specs.declared.Book.{Book}
-use Rattle.book.specs.Stages.{roundOf}
 
 -- ---- a book with one part changed
 
-abbrev pub withStage : Book → Stage → Book
-withStage b v = record { phase = record { stage = v }; head = b .head; pools = b .pools; members = b .members; rounds = b .rounds; bids = b .bids; tally = b .tally }
-
 abbrev pub withPools : Book → Pools → Book
-withPools b v = record { phase = b .phase; head = b .head; pools = v; members = b .members; rounds = b .rounds; bids = b .bids; tally = b .tally }
+withPools b v = record { head = b .head; pools = v; members = b .members; rounds = b .rounds; bids = b .bids; units = b .units }
 
 abbrev pub withMembers : Book → Members → Book
-withMembers b v = record { phase = b .phase; head = b .head; pools = b .pools; members = v; rounds = b .rounds; bids = b .bids; tally = b .tally }
+withMembers b v = record { head = b .head; pools = b .pools; members = v; rounds = b .rounds; bids = b .bids; units = b .units }
 
 abbrev pub withRounds : Book → Rounds → Book
-withRounds b v = record { phase = b .phase; head = b .head; pools = b .pools; members = b .members; rounds = v; bids = b .bids; tally = b .tally }
+withRounds b v = record { head = b .head; pools = b .pools; members = b .members; rounds = v; bids = b .bids; units = b .units }
 
 abbrev pub withBids : Book → Bids → Book
-withBids b v = record { phase = b .phase; head = b .head; pools = b .pools; members = b .members; rounds = b .rounds; bids = v; tally = b .tally }
+withBids b v = record { head = b .head; pools = b .pools; members = b .members; rounds = b .rounds; bids = v; units = b .units }
 
-abbrev pub withTally : Book → Tally → Book
-withTally b v = record { phase = b .phase; head = b .head; pools = b .pools; members = b .members; rounds = b .rounds; bids = b .bids; tally = v }
+abbrev pub withUnits : Book → Units → Book
+withUnits b v = record { head = b .head; pools = b .pools; members = b .members; rounds = b .rounds; bids = b .bids; units = v }
 
 -- ---- what is read of it
 
 -- the open units of a pool
-unfoldable pub openIn : Book → ℕ → ℕ
-openIn b pool = getD (b .tally .«open_units») pool 0
+abbrev pub openIn : Book → ℕ → ℕ
+openIn b pool = openOf (b .units) pool
 
 -- whether any unit is open
 unfoldable pub anyOpenIn : Book → Bool
 anyOpenIn b = any (λ p. ltb 0 (openIn b p)) (places 4)
 
--- the sum of four numbers, each held to a limit
-unfoldable pub fourHeld : List ℕ → ℕ → ℕ
-fourHeld xs most = sumTo 4 (λ p. min (getD xs p 0) most)
+-- the units allocated or moved to a member
+abbrev pub passedIn : Book → ℕ → ℕ
+passedIn b m = passedOf (b .units) m
 
--- the units that are not open, and the sum of their prices, each held to what a roll can have
-abbrev pub pricedIn : Book → ℕ
-pricedIn b = fourHeld (b .tally .priced) 4_000
-
+-- the sum of the prices of all units not open, held above 0 by `zeroPrices`
 abbrev pub pricesIn : Book → ℕ
-pricesIn b = fourHeld (b .tally .prices) 8_000_000_000
+pricesIn b = pricesOf (b .units)
 
 -- "hedge loss + other loss − the prices of all units not open, at least 0"
 unfoldable pub requirementIn : Book → ℕ
-requirementIn b = b .head .hedge + b .head .other + zeroPrice * pricedIn b - pricesIn b
+requirementIn b = b .head .hedge + b .head .other + zeroPrices - pricesIn b
+
+-- what the members of the set have at their places, added up
+abbrev pub overMembers : Book → List ℕ → ℕ
+overMembers b xs = sum (map (λ m. getD xs m 0) (members (b .head .set)))
 
 -- "all contributions"
 unfoldable pub contributionsIn : Book → ℕ
-contributionsIn b = amountsOf (b .members .contribution)
+contributionsIn b = overMembers b (b .members .contribution)
 
 -- "margin, defaulter's fund, house money and all contributions added"
 unfoldable pub prefundedIn : Book → ℕ
 prefundedIn b = b .head .margin + b .head .fund + b .head .house + contributionsIn b
 
+-- the members' shortfalls in a pool
+abbrev pub shortfallsIn : Book → ℕ → List ℕ
+shortfallsIn b pool = shortfallsOf (b .head .set) (b .members .expected) (b .members .won) (b .members .allocated) pool
+
 -- "total shortfall" of a pool
 unfoldable pub shortIn : Book → ℕ → ℕ
-shortIn b pool = sum (shortfallsOf (b .members) pool)
+shortIn b pool = sum (shortfallsIn b pool)
 
 -- "The smaller of open units and total shortfall is split by shortfall, in member order"
 unfoldable pub allocationIn : Book → ℕ → List ℕ
-allocationIn b pool = splitInto (min (openIn b pool) (shortIn b pool)) (shortfallsOf (b .members) pool) (replicate 32 0) .1
+allocationIn b pool = heldTo most16 (splitInto (min (openIn b pool) (shortIn b pool)) (shortfallsIn b pool) (replicate 32 0) .1)
 
 -- "the smaller of (requirement − prefunded) and all contributions is split by contribution, in member order"
 unfoldable pub callsIn : Book → List ℕ
-callsIn b = splitInto (min (requirementIn b - prefundedIn b) (contributionsIn b)) (b .members .contribution) (replicate 32 0) .1
+callsIn b = heldTo most32 (splitInto (min (requirementIn b - prefundedIn b) (contributionsIn b)) (b .members .contribution) (replicate 32 0) .1)
 
--- ---- how the calls change it that touch no unit
+-- ---- how each call changes it; FINISH leaves it as it is
 
 -- HEAD
 unfoldable pub newBook : Head → Book
-newBook h =
-    record {
-      phase = record { stage = Setup };
-      head = h;
-      pools = noPools;
-      members = noMembers;
-      rounds = noRounds;
-      bids = noBids;
-      tally = record { «open_units» = replicate 4 0; priced = replicate 4 0; prices = replicate 4 0; passed = replicate 32 0 };
-    }
+newBook h = record { head = h; pools = noPools; members = noMembers; rounds = noRounds; bids = noBids; units = noUnits }
+
+-- POOL
+unfoldable pub poolBook : Book → ℕ → ℕ → ℕ → Book
+poolBook b pool units mark = withUnits (withPools b (putPool (b .pools) units mark)) (putUpUnits (b .units) pool units)
 
 -- MEMBER
 unfoldable pub memberBook : Book → ℕ → ℕ → ℕ → ℕ → ℕ → ℕ → Book
 memberBook b m contribution p q r s = withMembers b (putMember (b .members) m contribution p q r s)
 
--- the number of the next round
-unfoldable pub nextRound : ℕ → ℕ
-nextRound round = min (round + 1) 255
-
--- ROUND "makes B", of the next round
+-- ROUND
 unfoldable pub roundBook : Book → ℕ → ℕ → ℕ → ℕ → Book
 roundBook b p q r s =
-    withStage
-    (withRounds b
-    (putRound (b .rounds) (p ∷ q ∷ r ∷ s ∷ []) (ltb 0 (openIn b 0) ∷ ltb 0 (openIn b 1) ∷ ltb 0 (openIn b 2) ∷ ltb 0 (openIn b 3) ∷ [])))
-    (Bidding (nextRound (roundOf (b .phase .stage))))
+    withRounds b
+    (putRound (b .rounds) (p ∷ q ∷ r ∷ s ∷ []) (ltb 0 (openIn b 0) ∷ ltb 0 (openIn b 1) ∷ ltb 0 (openIn b 2) ∷ ltb 0 (openIn b 3) ∷ []))
 
--- BID
-unfoldable pub bidBook : Book → ℕ → ℕ → ℕ → ℕ → Book
-bidBook b pool m units price = withBids b (putBid (b .bids) (roundOf (b .phase .stage)) pool m units price)
+-- BID of a round
+unfoldable pub bidBook : Book → ℕ → ℕ → ℕ → ℕ → ℕ → Book
+bidBook b round pool m units price = withBids b (putBid (b .bids) round pool m units price)
 
--- CALL "makes C"
+-- CLOSE of a round: the bids win what the auction of their pool allots, and get it from its open units
+abbrev pub winsIn : Book → ℕ → ℕ → List ℕ
+winsIn b round pool = winsOf (b .bids) round pool (openIn b pool) (reserveOf (b .rounds) round pool)
+
+abbrev pub bidsClosed : Book → ℕ → Bids
+bidsClosed b round = withWins (b .bids) round (winsIn b round 0 ∷ winsIn b round 1 ∷ winsIn b round 2 ∷ winsIn b round 3 ∷ [])
+
+abbrev pub unitsSold : Units → ℕ → Bids → Units
+unitsSold u round x = sellUnits u (x .kept) round (x .round) (x .pool) (x .price) (x .won)
+
+unfoldable pub closeBook : Book → ℕ → Book
+closeBook b round =
+    let x = bidsClosed b round in
+    withUnits (withMembers (withBids b x) (withWon (b .members) (wonTable x))) (unitsSold (b .units) round x)
+
+-- ALLOCATE
+unfoldable pub allocateBook : Book → ℕ → ℕ → Book
+allocateBook b pool price =
+    let shares = allocationIn b pool in
+    withUnits
+    (withMembers b (withShares (b .members) (b .head .set) pool shares))
+    (allocateUnits (b .units) (b .head .set) pool price shares)
+
+-- TEAR
+unfoldable pub tearBook : Book → ℕ → ℕ → Book
+tearBook b pool price = withUnits b (tearUnits (b .units) pool price)
+
+-- CALL
 unfoldable pub callBook : Book → Book
-callBook b = withStage (withMembers b (withCalls (b .members) (callsIn b))) CallsOut
+callBook b = withMembers b (withCalls (b .members) (callsIn b))
 
 -- PAY
 unfoldable pub payBook : Book → ℕ → ℕ → Book
 payBook b m amount = withMembers b (withPayment (b .members) m amount)
 
--- FINISH "makes F"
-unfoldable pub finishBook : Book → Book
-finishBook b = withStage b Finished
+-- MOVE
+unfoldable pub moveBook : Book → ℕ → Book
+moveBook b m =
+    withUnits
+    (withMembers b (withMove (b .members) m))
+    (moveUnits (b .units) (b .bids .price) (b .bids .pool) m (owesOf (b .members) m))
+
+-- MISS
+unfoldable pub missBook : Book → ℕ → ℕ → Book
+missBook b m price = withUnits b (missUnits (b .units) m price)

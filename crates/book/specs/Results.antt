@@ -5,12 +5,12 @@ use lib.ListN.{getD, replicate}
 use Rattle.splitting.specs.Limits.{splitInto}
 use Rattle.waterfall.specs.Charging.{charged, uncovered}
 use Rattle.waterfall.specs.Limits.{ranksOf, chargesOf}
-use Rattle.accounts.specs.Members.{amountsOf, overPools}
+use Rattle.accounts.specs.Members.{overPools}
 use Rattle.accounts.specs.Rounds.{worstsOf}
 use Rattle.accounts.specs.Bids.{gainTable}
 use Rattle.book.specs.declared.Book.{Book}
 use Rattle.book.specs.declared.Result.{Result}
-use Rattle.book.specs.Books.{requirementIn, contributionsIn}
+use Rattle.book.specs.Books.{requirementIn, overMembers, contributionsIn}
 
 -- "First tranche = floor(3 × house money / 5), the second the rest."
 abbrev pub firstTrancheIn : Book → ℕ
@@ -24,7 +24,7 @@ limitsIn b =
     ∷ firstTrancheIn b
     ∷ contributionsIn b
     ∷ (b .head .house - firstTrancheIn b)
-    ∷ amountsOf (b .members .paid)
+    ∷ overMembers b (b .members .paid)
     ∷ []
 
 -- the rank of each of the 32 places

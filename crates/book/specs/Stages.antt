@@ -1,5 +1,5 @@
--- The stage of the program's book as the machine has it.
-use Prim.Native.Nat.{ℕ}
+-- The stage of the program's case as the machine has it.
+use Prim.Native.Nat.{ℕ, _+_, min}
 use Rattle.machine.specs.State as M
 use Rattle.book.specs.declared.Stage.{Stage}
 use Rattle.book.specs.declared.Stage.the-variants.{Setup, Bidding, After, CallsOut, Finished}
@@ -18,3 +18,7 @@ letterOf s = M.letter (viewStage s)
 -- the round of a stage; 0 outside the rounds
 abbrev pub roundOf : Stage → ℕ
 roundOf s = M.roundOf (viewStage s)
+
+-- the number of the next round
+unfoldable pub nextRound : ℕ → ℕ
+nextRound round = min (round + 1) 255

@@ -1,23 +1,25 @@
-// The book of a case (document 01): everything but the unit roll. It says why a call is declined, what is called and what is charged.
+// The book of a case (document 01): all but its stage. It says why a call is declined, how each call changes it, what is called and what is charged.
 ghost use mathlib.Core.Path.{_≡_};
 ghost use mathlib.Core.List.{[], _∷_};
 ghost use Prim.Native.Nat.{ℕ, _≤_};
 ghost use lib.ListN.{take, getD};
-ghost use Rattle.lists.specs.Lists.{sum, all};
+ghost use Rattle.lists.specs.Lists.{between, sum, all};
+ghost use Rattle.lists.specs.Adding.{most16};
 ghost use Rattle.auction.specs.Price.{priceOk};
 ghost use Rattle.machine.specs.Refusals.{headOk, poolOk, memberOk, bidOk, paymentOk};
 ghost use Rattle.wire.specs.Asked.{headOf};
-ghost use Rattle.accounts.specs.Members.{shortfallsFrom};
-ghost use Rattle.book.specs.Stages.{letterOf, roundOf};
-ghost use Rattle.book.specs.Books.{nextRound, fourHeld, pricedIn, pricesIn, openIn, anyOpenIn, requirementIn, contributionsIn, prefundedIn, shortIn, allocationIn, callsIn};
-ghost use Rattle.book.specs.Books.{newBook, memberBook, roundBook, bidBook, callBook, payBook, finishBook};
+ghost use Rattle.accounts.specs.Members.{shortfallsOf};
+ghost use Rattle.book.specs.Stages.{letterOf, roundOf, nextRound};
+ghost use Rattle.book.specs.Books.{openIn, anyOpenIn, passedIn, pricesIn, requirementIn, contributionsIn, prefundedIn, shortIn, allocationIn, callsIn};
+ghost use Rattle.book.specs.Books.{newBook, poolBook, memberBook, roundBook, bidBook, closeBook, allocateBook, tearBook, callBook, payBook, moveBook, missBook};
 ghost use Rattle.book.specs.Answers.{expectedOk, headAnswer, poolAnswer, memberAnswer, roundAnswer, bidAnswer, closeAnswer, allocateAnswer, tearAnswer, callAnswer, payAnswer, moveAnswer, missAnswer, finishAnswer};
 ghost use Rattle.book.specs.Results.{limitsIn, ranksIn, resultIn};
 use accounts::bids::Bids;
 use accounts::members::Members;
 use accounts::pools::Pools;
 use accounts::rounds::Rounds;
-use roll::Tally;
+use units::Units;
+use wire::Call;
 use wire::Head;
 
 // "S setup, B bidding, A after a round (B and A in round 1 or 2), C calls out, F finished"
@@ -29,19 +31,13 @@ pub enum Stage {
     Finished,
 }
 
-// The stage in a struct of its own: a field that is a struct can be stored to.
-pub struct Phase {
-    pub stage: Stage,
-}
-
 pub struct Book {
-    pub phase: Phase,
     pub head: Head,
     pub pools: Pools,
     pub members: Members,
     pub rounds: Rounds,
     pub bids: Bids,
-    pub tally: Tally,
+    pub units: Units,
 }
 
 // What FINISH gives: the loss, the six charges, the uncovered rest, and of each of the 32 places its rank and its charges.
@@ -57,11 +53,10 @@ pub struct Result {
 // ---- the stage
 
 // The letter of a stage: S 1, B 2, A 3, C 4, F 5.
-pub fn letter(phase: Phase) -> u8
-    ensures { λ r. ⌜ r ≡ letterOf (phase .stage) ⌝ }
+pub fn letter(stage: Stage) -> u8
+    ensures { λ r. ⌜ r ≡ letterOf stage ⌝ }
 {
-    let s = phase.stage;
-    match s {
+    match stage {
         Stage::Setup => 1,
         Stage::Bidding(_) => 2,
         Stage::After(_) => 3,
@@ -71,11 +66,10 @@ pub fn letter(phase: Phase) -> u8
 }
 
 // The round of a stage, and 0 outside the rounds.
-pub fn round_of(phase: Phase) -> u8
-    ensures { λ r. ⌜ r ≡ roundOf (phase .stage) ⌝ }
+pub fn round_of(stage: Stage) -> u8
+    ensures { λ r. ⌜ r ≡ roundOf stage ⌝ }
 {
-    let s = phase.stage;
-    match s {
+    match stage {
         Stage::Setup => 0,
         Stage::Bidding(round) => round,
         Stage::After(round) => round,
@@ -84,13 +78,20 @@ pub fn round_of(phase: Phase) -> u8
     }
 }
 
+// The number of the next round.
+pub fn next_round(round: u8) -> u8
+    ensures { λ r. ⌜ r ≡ nextRound round ⌝ }
+{
+    if round < 255 { round + 1 } else { 255 }
+}
+
 // ---- "5. A number is out of range."
 
 // Whether a price is in range.
 fn price_ok(price: u32) -> bool
     ensures { λ r. ⌜ r ≡ priceOk price ⌝ }
 {
-    price <= 2_000_000
+    price <= Call::MAX_PRICE
 }
 
 // Whether the numbers of HEAD are in range.
@@ -98,30 +99,53 @@ fn head_ok(h: Head) -> bool
     ensures { λ r. ⌜ r ≡ headOk (headOf h) ⌝ }
 {
     let money = lists::both(
-        h.fund <= 500_000_000,
-        lists::both(h.house <= 4_000_000_000, true),
+        h.fund <= Head::MAX_FUND,
+        lists::both(h.house <= Head::MAX_HOUSE_MONEY, true),
     );
     let losses = lists::both(
-        h.other <= 2_000_000_000,
-        lists::both(h.margin <= 4_000_000_000, money),
+        h.other <= Head::MAX_OTHER_LOSS,
+        lists::both(h.margin <= Head::MAX_MARGIN, money),
     );
-    let rest = lists::both(0 < h.set, lists::both(h.hedge <= 2_000_000_000, losses));
-    let least = lists::both(lists::both(1 <= h.least, h.least <= 1_000), rest);
-    lists::both(lists::both(1 <= h.pools, h.pools <= 4), least)
+    let rest = lists::both(
+        Head::NO_MEMBER < h.set,
+        lists::both(h.hedge <= Head::MAX_HEDGE_LOSS, losses),
+    );
+    let least = lists::both(
+        lists::both(
+            Head::MIN_LEAST_BID <= h.least,
+            h.least <= Head::MAX_LEAST_BID,
+        ),
+        rest,
+    );
+    lists::both(
+        lists::both(Head::MIN_POOLS <= h.pools, h.pools <= Head::MAX_POOLS),
+        least,
+    )
+}
+
+// Whether units put up or bid for are in range.
+fn units_ok(units: u16) -> bool
+    ensures { λ r. ⌜ r ≡ between 1 1000 units ⌝ }
+{
+    lists::both(Call::MIN_UNITS <= units, units <= Call::MAX_UNITS)
 }
 
 // Whether a pool's units and mark are in range.
 fn pool_ok(units: u16, mark: u8) -> bool
     ensures { λ r. ⌜ r ≡ poolOk units mark ⌝ }
 {
-    lists::both(lists::both(1 <= units, units <= 1_000), mark <= 1)
+    lists::both(units_ok(units), mark <= Call::MAX_MARK)
 }
 
 // Whether expected units are in range: "to 1,000, and 0 for a pool the case lacks".
 fn expected_ok(lies: bool, n: u16) -> bool
     ensures { λ r. ⌜ r ≡ expectedOk lies n ⌝ }
 {
-    if lies { n <= 1_000 } else { n == 0 }
+    if lies {
+        n <= Call::MAX_EXPECTED
+    } else {
+        n == 0
+    }
 }
 
 // Whether the numbers of MEMBER are in range.
@@ -130,7 +154,10 @@ fn member_ok(pools: u8, contribution: u32, p: u16, q: u16, r: u16, s: u16) -> bo
 {
     let first = lists::both(expected_ok(0 < pools, p), expected_ok(1 < pools, q));
     let last = lists::both(expected_ok(2 < pools, r), expected_ok(3 < pools, s));
-    lists::both(contribution <= 500_000_000, lists::both(first, last))
+    lists::both(
+        contribution <= Call::MAX_CONTRIBUTION,
+        lists::both(first, last),
+    )
 }
 
 // Whether the reserves of ROUND are in range.
@@ -152,38 +179,19 @@ fn reserves_ok(n: u8, p: u32, q: u32, r: u32, s: u32) -> bool
 fn bid_ok(units: u16, price: u32) -> bool
     ensures { λ r. ⌜ r ≡ bidOk units price ⌝ }
 {
-    lists::both(lists::both(1 <= units, units <= 1_000), price_ok(price))
+    lists::both(units_ok(units), price_ok(price))
 }
 
 // Whether a payment is in range.
 fn payment_ok(amount: u32) -> bool
     ensures { λ r. ⌜ r ≡ paymentOk amount ⌝ }
 {
-    lists::both(1 <= amount, amount <= 1_000_000_000)
+    lists::both(Call::MIN_PAYMENT <= amount, amount <= Call::MAX_PAYMENT)
 }
 
-// The number of the next round.
-fn next_round(round: u8) -> u8
-    ensures { λ r. ⌜ r ≡ nextRound round ⌝ }
-{
-    if round < 255 { round + 1 } else { 255 }
-}
-
-// ---- sums over the four pools and the 32 places
-
-// The sum of four numbers, each held to a limit.
-fn sum_of_four(xs: [u64; 4], most: u64) -> u64
-    requires { ⌜ most ≤ 8000000000 ⌝ }
-    ensures { λ r. ⌜ r ≡ fourHeld xs most ⌝ }
-{
-    let first = lists::smaller(xs[0], most) + lists::smaller(xs[1], most);
-    let last = lists::smaller(xs[2], most) + lists::smaller(xs[3], most);
-    first + last
-}
-
-// The sum of 32 shortfalls, each at most 1,000.
+// The sum of 32 shortfalls.
 fn sum_of_shortfalls(xs: [u64; 32]) -> u64
-    requires { ⌜ ((k : ℕ) → getD xs k 0 ≤ 1000) ⌝ }
+    requires { ⌜ ((k : ℕ) → getD xs k 0 ≤ most16) ⌝ }
     ensures { λ r. ⌜ r ≡ sum xs ⌝ }
 {
     let mut total: u64 = 0;
@@ -196,10 +204,16 @@ fn sum_of_shortfalls(xs: [u64; 32]) -> u64
 }
 
 // The total shortfall of a pool.
-fn total_shortfall(expected: [u64; 128], won: [u64; 128], allocated: [u64; 128], pool: u8) -> u64
-    ensures { λ r. ⌜ r ≡ sum (shortfallsFrom expected won allocated pool) ⌝ }
+fn total_shortfall(
+    set: u32,
+    expected: [u16; 128],
+    won: [u16; 128],
+    allocated: [u16; 128],
+    pool: u8,
+) -> u64
+    ensures { λ r. ⌜ r ≡ sum (shortfallsOf set expected won allocated pool) ⌝ }
 {
-    let xs = accounts::members::shortfalls_from(expected, won, allocated, pool);
+    let xs = accounts::members::shortfalls(set, expected, won, allocated, pool);
     sum_of_shortfalls(xs)
 }
 
@@ -211,70 +225,67 @@ pub fn head_answer(h: Head) -> u8
     lists::decline_if(!ok, 5, 0)
 }
 
+// Why CLOSE is declined, or 0.
+pub fn close_answer(stage: Stage) -> u8
+    ensures { λ r. ⌜ r ≡ closeAnswer stage ⌝ }
+{
+    let letter = letter(stage);
+    lists::decline_if(letter != 2, 2, 0)
+}
+
 impl Book {
     // HEAD: the book of a new case.
     pub fn new(head: Head) -> Book
         ensures { λ r. ⌜ r ≡ newBook head ⌝ }
     {
-        let s = Stage::Setup;
-        let phase = Phase { stage: s };
-        let tally = Tally {
-            open_units: [0u64; 4],
-            priced: [0u64; 4],
-            prices: [0u64; 4],
-            passed: [0u64; 32],
-        };
         Book {
-            phase,
             head,
             pools: Pools::new(),
             members: Members::new(),
             rounds: Rounds::new(),
             bids: Bids::new(),
-            tally,
+            units: Units::new(),
         }
     }
 
     // ---- what is read of it
 
     // The open units of a pool.
-    pub fn open_units(self, pool: u8) -> u64
+    pub fn open_units(self, pool: u8) -> u16
         ensures { λ r. ⌜ r ≡ openIn self pool ⌝ }
     {
-        if pool < 4 {
-            let at = pool as usize;
-            let tally = self.tally;
-            return tally.open_units[at];
-        }
-        0
+        let units = self.units;
+        units.open_units(pool)
     }
 
     // Whether any unit is open.
     pub fn any_open(self) -> bool
         ensures { λ r. ⌜ r ≡ anyOpenIn self ⌝ }
     {
-        let tally = self.tally;
-        let xs = tally.open_units;
-        let last = lists::either(0 < xs[2], lists::either(0 < xs[3], false));
-        lists::either(0 < xs[0], lists::either(0 < xs[1], last))
+        let last = lists::either(
+            0 < self.open_units(2),
+            lists::either(0 < self.open_units(3), false),
+        );
+        lists::either(
+            0 < self.open_units(0),
+            lists::either(0 < self.open_units(1), last),
+        )
     }
 
-    // The units that are not open.
-    pub fn priced(self) -> u64
-        ensures { λ r. ⌜ r ≡ pricedIn self ⌝ }
+    // The units allocated or moved to a member.
+    pub fn passed(self, m: u8) -> u64
+        ensures { λ r. ⌜ r ≡ passedIn self m ⌝ }
     {
-        let tally = self.tally;
-        let xs = tally.priced;
-        sum_of_four(xs, 4_000)
+        let units = self.units;
+        units.passed(m)
     }
 
-    // The sum of their prices.
+    // The sum of the prices of all units not open, as cents + 4,000,000,000.
     pub fn prices(self) -> u64
-        ensures { λ r. ⌜ r ≡ pricesIn self ⌝ }
+        ensures { λ r. ⌜ (r ≡ pricesIn self) × (r ≤ 17179869180) ⌝ }
     {
-        let tally = self.tally;
-        let xs = tally.prices;
-        sum_of_four(xs, 8_000_000_000)
+        let units = self.units;
+        units.prices()
     }
 
     // The requirement: "hedge loss + other loss − the prices of all units not open, at least 0".
@@ -282,15 +293,8 @@ impl Book {
         ensures { λ r. ⌜ r ≡ requirementIn self ⌝ }
     {
         let head = self.head;
-        let tally = self.tally;
         let losses = head.hedge as u64 + head.other as u64;
-        let priced = tally.priced;
-        let prices = tally.prices;
-        let units = sum_of_four(priced, 4_000);
-        lists::less(
-            losses + 1_000_000 * units,
-            sum_of_four(prices, 8_000_000_000),
-        )
+        lists::less(losses + Units::ZERO_PRICES, self.prices())
     }
 
     // "all contributions"
@@ -298,8 +302,9 @@ impl Book {
         ensures { λ r. ⌜ r ≡ contributionsIn self ⌝ }
     {
         let members = self.members;
+        let head = self.head;
         let xs = members.contribution;
-        accounts::members::amounts(xs)
+        accounts::members::amounts(head.set, xs)
     }
 
     // "margin, defaulter's fund, house money and all contributions added"
@@ -307,51 +312,60 @@ impl Book {
         ensures { λ r. ⌜ r ≡ prefundedIn self ⌝ }
     {
         let head = self.head;
-        head.margin as u64 + head.fund as u64 + head.house as u64 + self.contributions()
+        let members = self.members;
+        let xs = members.contribution;
+        let funds = accounts::members::amounts(head.set, xs);
+        head.margin as u64 + head.fund as u64 + head.house as u64 + funds
     }
 
     // The total shortfall of a pool.
     pub fn short(self, pool: u8) -> u64
         ensures { λ r. ⌜ r ≡ shortIn self pool ⌝ }
     {
+        let head = self.head;
         let members = self.members;
         let expected = members.expected;
         let won = members.won;
         let allocated = members.allocated;
-        total_shortfall(expected, won, allocated, pool)
+        total_shortfall(head.set, expected, won, allocated, pool)
     }
 
     // ALLOCATE: each member's share of the pool's open units.
-    pub fn allocation(self, pool: u8) -> [u64; 32]
+    pub fn allocation(self, pool: u8) -> [u16; 32]
         ensures { λ r. ⌜ r ≡ allocationIn self pool ⌝ }
     {
         let members = self.members;
-        let weights = members.shortfalls(pool);
-        let q = lists::smaller(self.open_units(pool), self.short(pool));
+        let head = self.head;
+        let expected = members.expected;
+        let won = members.won;
+        let allocated = members.allocated;
+        let weights = accounts::members::shortfalls(head.set, expected, won, allocated, pool);
+        let q = lists::smaller(self.open_units(pool) as u64, sum_of_shortfalls(weights));
         let mut shares = [0u64; 32];
         splitting::split(q, &weights, &mut shares);
-        shares
+        accounts::members::narrowed16(shares)
     }
 
     // CALL: each member's call.
-    pub fn calls(self) -> [u64; 32]
+    pub fn calls(self) -> [u32; 32]
         ensures { λ r. ⌜ r ≡ callsIn self ⌝ }
     {
         let members = self.members;
-        let weights = members.contribution;
+        let xs = members.contribution;
+        let weights = accounts::members::widened(xs);
         let lack = lists::less(self.requirement(), self.prefunded());
         let q = lists::smaller(lack, self.contributions());
         let mut shares = [0u64; 32];
         splitting::split(q, &weights, &mut shares);
-        shares
+        accounts::members::narrowed32(shares)
     }
 
     // ---- why a call is declined, or 0. Tests that sum over the members are asked after the others.
 
-    pub fn pool_answer(self, pool: u8, units: u16, mark: u8) -> u8
-        ensures { λ r. ⌜ r ≡ poolAnswer self pool units mark ⌝ }
+    pub fn pool_answer(self, stage: Stage, pool: u8, units: u16, mark: u8) -> u8
+        ensures { λ r. ⌜ r ≡ poolAnswer stage self pool units mark ⌝ }
     {
-        let stage = letter(self.phase);
+        let letter = letter(stage);
         let head = self.head;
         let pools = self.pools;
         let ok = pool_ok(units, mark);
@@ -361,13 +375,22 @@ impl Book {
             3,
             a5,
         );
-        lists::decline_if(stage != 1, 2, a3)
+        lists::decline_if(letter != 1, 2, a3)
     }
 
-    pub fn member_answer(self, m: u8, contribution: u32, p: u16, q: u16, r: u16, s: u16) -> u8
-        ensures { λ x. ⌜ x ≡ memberAnswer self m contribution p q r s ⌝ }
+    pub fn member_answer(
+        self,
+        stage: Stage,
+        m: u8,
+        contribution: u32,
+        p: u16,
+        q: u16,
+        r: u16,
+        s: u16,
+    ) -> u8
+        ensures { λ x. ⌜ x ≡ memberAnswer stage self m contribution p q r s ⌝ }
     {
-        let stage = letter(self.phase);
+        let letter = letter(stage);
         let head = self.head;
         let members = self.members;
         let in_set = sets::has(head.set, m);
@@ -375,14 +398,14 @@ impl Book {
         let ok = member_ok(head.pools, contribution, p, q, r, s);
         let a5 = lists::decline_if(!ok, 5, 0);
         let a4 = lists::decline_if(lists::either(!in_set, given), 4, a5);
-        lists::decline_if(stage != 1, 2, a4)
+        lists::decline_if(letter != 1, 2, a4)
     }
 
-    pub fn round_answer(self, n: u8, p: u32, q: u32, r: u32, s: u32) -> u8
-        ensures { λ x. ⌜ x ≡ roundAnswer self n p q r s ⌝ }
+    pub fn round_answer(self, stage: Stage, n: u8, p: u32, q: u32, r: u32, s: u32) -> u8
+        ensures { λ x. ⌜ x ≡ roundAnswer stage self n p q r s ⌝ }
     {
-        let stage = letter(self.phase);
-        let round = round_of(self.phase);
+        let letter = letter(stage);
+        let round = round_of(stage);
         let head = self.head;
         let pools = self.pools;
         let members = self.members;
@@ -393,17 +416,17 @@ impl Book {
             10,
             0,
         );
-        let a8 = lists::decline_if(lists::both(stage == 3, !any_open), 8, a10);
+        let a8 = lists::decline_if(lists::both(letter == 3, !any_open), 8, a10);
         let a5 = lists::decline_if(!ok, 5, a8);
-        let may = lists::either(stage == 1, lists::both(stage == 3, round == 1));
+        let may = lists::either(letter == 1, lists::both(letter == 3, round == 1));
         let a2 = lists::decline_if(!may, 2, a5);
         lists::decline_if(n != head.pools, 1, a2)
     }
 
-    pub fn bid_answer(self, pool: u8, m: u8, units: u16, price: u32) -> u8
-        ensures { λ r. ⌜ r ≡ bidAnswer self pool m units price ⌝ }
+    pub fn bid_answer(self, stage: Stage, pool: u8, m: u8, units: u16, price: u32) -> u8
+        ensures { λ r. ⌜ r ≡ bidAnswer stage self pool m units price ⌝ }
     {
-        let stage = letter(self.phase);
+        let letter = letter(stage);
         let head = self.head;
         let bids = self.bids;
         let in_set = sets::has(head.set, m);
@@ -415,20 +438,13 @@ impl Book {
         let a5 = lists::decline_if(!ok, 5, a6);
         let a4 = lists::decline_if(!in_set, 4, a5);
         let a3 = lists::decline_if(head.pools <= pool, 3, a4);
-        lists::decline_if(stage != 2, 2, a3)
+        lists::decline_if(letter != 2, 2, a3)
     }
 
-    pub fn close_answer(self) -> u8
-        ensures { λ r. ⌜ r ≡ closeAnswer self ⌝ }
+    pub fn allocate_answer(self, stage: Stage, pool: u8, price: u32) -> u8
+        ensures { λ r. ⌜ r ≡ allocateAnswer stage self pool price ⌝ }
     {
-        let stage = letter(self.phase);
-        lists::decline_if(stage != 2, 2, 0)
-    }
-
-    pub fn allocate_answer(self, pool: u8, price: u32) -> u8
-        ensures { λ r. ⌜ r ≡ allocateAnswer self pool price ⌝ }
-    {
-        let stage = letter(self.phase);
+        let letter = letter(stage);
         let head = self.head;
         let pools = self.pools;
         let mark = pools.mark(pool);
@@ -438,7 +454,7 @@ impl Book {
         let a8 = lists::decline_if(open == 0, 8, a9);
         let a5 = lists::decline_if(!ok, 5, a8);
         let a3 = lists::decline_if(head.pools <= pool, 3, a5);
-        let first = lists::decline_if(stage != 3, 2, a3);
+        let first = lists::decline_if(letter != 3, 2, a3);
         if first != 0 {
             return first;
         }
@@ -446,30 +462,30 @@ impl Book {
         let expected = members.expected;
         let won = members.won;
         let allocated = members.allocated;
-        let short = total_shortfall(expected, won, allocated, pool);
+        let short = total_shortfall(head.set, expected, won, allocated, pool);
         lists::decline_if(short == 0, 10, 0)
     }
 
-    pub fn tear_answer(self, pool: u8, price: u32) -> u8
-        ensures { λ r. ⌜ r ≡ tearAnswer self pool price ⌝ }
+    pub fn tear_answer(self, stage: Stage, pool: u8, price: u32) -> u8
+        ensures { λ r. ⌜ r ≡ tearAnswer stage self pool price ⌝ }
     {
-        let stage = letter(self.phase);
+        let letter = letter(stage);
         let head = self.head;
         let open = self.open_units(pool);
         let ok = price_ok(price);
         let a8 = lists::decline_if(open == 0, 8, 0);
         let a5 = lists::decline_if(!ok, 5, a8);
         let a3 = lists::decline_if(head.pools <= pool, 3, a5);
-        lists::decline_if(stage != 3, 2, a3)
+        lists::decline_if(letter != 3, 2, a3)
     }
 
-    pub fn call_answer(self) -> u8
-        ensures { λ r. ⌜ r ≡ callAnswer self ⌝ }
+    pub fn call_answer(self, stage: Stage) -> u8
+        ensures { λ r. ⌜ r ≡ callAnswer stage self ⌝ }
     {
-        let stage = letter(self.phase);
+        let letter = letter(stage);
         let any_open = self.any_open();
         let a11 = lists::decline_if(any_open, 11, 0);
-        let first = lists::decline_if(stage != 3, 2, a11);
+        let first = lists::decline_if(letter != 3, 2, a11);
         if first != 0 {
             return first;
         }
@@ -478,10 +494,10 @@ impl Book {
         lists::decline_if(required <= held, 12, 0)
     }
 
-    pub fn pay_answer(self, m: u8, amount: u32) -> u8
-        ensures { λ r. ⌜ r ≡ payAnswer self m amount ⌝ }
+    pub fn pay_answer(self, stage: Stage, m: u8, amount: u32) -> u8
+        ensures { λ r. ⌜ r ≡ payAnswer stage self m amount ⌝ }
     {
-        let stage = letter(self.phase);
+        let letter = letter(stage);
         let head = self.head;
         let members = self.members;
         let in_set = sets::has(head.set, m);
@@ -490,26 +506,26 @@ impl Book {
         let a14 = lists::decline_if(owed < amount as u64, 14, 0);
         let a5 = lists::decline_if(!ok, 5, a14);
         let a4 = lists::decline_if(!in_set, 4, a5);
-        lists::decline_if(stage != 4, 2, a4)
+        lists::decline_if(letter != 4, 2, a4)
     }
 
-    pub fn move_answer(self, m: u8) -> u8
-        ensures { λ r. ⌜ r ≡ moveAnswer self m ⌝ }
+    pub fn move_answer(self, stage: Stage, m: u8) -> u8
+        ensures { λ r. ⌜ r ≡ moveAnswer stage self m ⌝ }
     {
-        let stage = letter(self.phase);
+        let letter = letter(stage);
         let head = self.head;
         let members = self.members;
         let in_set = sets::has(head.set, m);
         let owed = members.owes(m);
         let a14 = lists::decline_if(owed == 0, 14, 0);
         let a4 = lists::decline_if(!in_set, 4, a14);
-        lists::decline_if(stage != 4, 2, a4)
+        lists::decline_if(letter != 4, 2, a4)
     }
 
-    pub fn miss_answer(self, m: u8, price: u32) -> u8
-        ensures { λ r. ⌜ r ≡ missAnswer self m price ⌝ }
+    pub fn miss_answer(self, stage: Stage, m: u8, price: u32) -> u8
+        ensures { λ r. ⌜ r ≡ missAnswer stage self m price ⌝ }
     {
-        let stage = letter(self.phase);
+        let letter = letter(stage);
         let head = self.head;
         let in_set = sets::has(head.set, m);
         let passed = self.passed(m);
@@ -517,17 +533,17 @@ impl Book {
         let a16 = lists::decline_if(passed == 0, 16, 0);
         let a5 = lists::decline_if(!ok, 5, a16);
         let a4 = lists::decline_if(!in_set, 4, a5);
-        let may = lists::either(stage == 3, stage == 4);
+        let may = lists::either(letter == 3, letter == 4);
         lists::decline_if(!may, 2, a4)
     }
 
-    pub fn finish_answer(self) -> u8
-        ensures { λ r. ⌜ r ≡ finishAnswer self ⌝ }
+    pub fn finish_answer(self, stage: Stage) -> u8
+        ensures { λ r. ⌜ r ≡ finishAnswer stage self ⌝ }
     {
-        let stage = letter(self.phase);
+        let letter = letter(stage);
         let any_open = self.any_open();
         let a11 = lists::decline_if(any_open, 11, 0);
-        let may = lists::either(stage == 3, stage == 4);
+        let may = lists::either(letter == 3, letter == 4);
         let first = lists::decline_if(!may, 2, a11);
         if first != 0 {
             return first;
@@ -535,38 +551,34 @@ impl Book {
         let required = self.requirement();
         let held = self.prefunded();
         let members = self.members;
-        let owing = members.someone_owes();
+        let head = self.head;
+        let owing = members.someone_owes(head.set);
         let a15 = lists::decline_if(owing, 15, 0);
-        lists::decline_if(lists::both(stage == 3, held < required), 13, a15)
+        lists::decline_if(lists::both(letter == 3, held < required), 13, a15)
     }
 
-    // The entries allocated or moved to a member.
-    pub fn passed(self, m: u8) -> u64
-        ensures { λ r. ⌜ r ≡ getD (self .tally .passed) m 0 ⌝ }
+    // ---- how each call changes it
+
+    // POOL
+    pub fn take_pool(self, pool: u8, units: u16, mark: u8) -> Book
+        ensures { λ r. ⌜ r ≡ poolBook self pool units mark ⌝ }
     {
-        if m < 32 {
-            let at = m as usize;
-            let tally = self.tally;
-            return tally.passed[at];
-        }
-        0
+        let pools = self.pools;
+        let old = self.units;
+        let given = pools.put(units, mark);
+        let more = old.put_up(pool, units);
+        let mut next = self;
+        next.pools = given;
+        next.units = more;
+        next
     }
-
-    // ---- how the calls change it that touch no unit
 
     // MEMBER
     pub fn take_member(self, m: u8, contribution: u32, p: u16, q: u16, r: u16, s: u16) -> Book
         ensures { λ x. ⌜ x ≡ memberBook self m contribution p q r s ⌝ }
     {
         let members = self.members;
-        let more = members.put(
-            m,
-            contribution as u64,
-            p as u64,
-            q as u64,
-            r as u64,
-            s as u64,
-        );
+        let more = members.put(m, contribution, p, q, r, s);
         let mut next = self;
         next.members = more;
         next
@@ -584,24 +596,72 @@ impl Book {
             0 < self.open_units(3),
         ];
         let more = rounds.put([p, q, r, s], opened);
-        let round = next_round(round_of(self.phase));
-        let stage = Stage::Bidding(round);
-        let phase = Phase { stage };
         let mut next = self;
         next.rounds = more;
-        next.phase = phase;
         next
     }
 
     // BID
-    pub fn take_bid(self, pool: u8, m: u8, units: u16, price: u32) -> Book
-        ensures { λ r. ⌜ r ≡ bidBook self pool m units price ⌝ }
+    pub fn take_bid(self, round: u8, pool: u8, m: u8, units: u16, price: u32) -> Book
+        ensures { λ r. ⌜ r ≡ bidBook self round pool m units price ⌝ }
     {
         let bids = self.bids;
-        let round = round_of(self.phase);
-        let more = bids.put(round, pool, m, units as u64, price);
+        let more = bids.put(round, pool, m, units, price);
         let mut next = self;
         next.bids = more;
+        next
+    }
+
+    // CLOSE
+    pub fn take_close(self, round: u8) -> Book
+        ensures { λ r. ⌜ r ≡ closeBook self round ⌝ }
+    {
+        let bids = self.bids;
+        let rounds = self.rounds;
+        let members = self.members;
+        let units = self.units;
+        let a = bids.wins(round, 0, self.open_units(0), rounds.reserve(round, 0));
+        let b = bids.wins(round, 1, self.open_units(1), rounds.reserve(round, 1));
+        let c = bids.wins(round, 2, self.open_units(2), rounds.reserve(round, 2));
+        let d = bids.wins(round, 3, self.open_units(3), rounds.reserve(round, 3));
+        let won = bids.take_wins(round, a, b, c, d);
+        let round_of_bid = won.round;
+        let pools = won.pool;
+        let prices = won.price;
+        let wins = won.won;
+        let sold = units.sell(won.kept, round, &round_of_bid, &pools, &prices, &wins);
+        let table = members.win(won.won_table());
+        let mut next = self;
+        next.bids = won;
+        next.members = table;
+        next.units = sold;
+        next
+    }
+
+    // ALLOCATE
+    pub fn take_allocate(self, pool: u8, price: u32) -> Book
+        ensures { λ r. ⌜ r ≡ allocateBook self pool price ⌝ }
+    {
+        let head = self.head;
+        let shares = self.allocation(pool);
+        let members = self.members;
+        let units = self.units;
+        let ever = members.allocate(head.set, pool, shares);
+        let given = units.allocate(head.set, pool, price, &shares);
+        let mut next = self;
+        next.members = ever;
+        next.units = given;
+        next
+    }
+
+    // TEAR
+    pub fn take_tear(self, pool: u8, price: u32) -> Book
+        ensures { λ r. ⌜ r ≡ tearBook self pool price ⌝ }
+    {
+        let units = self.units;
+        let torn = units.tear(pool, price);
+        let mut next = self;
+        next.units = torn;
         next
     }
 
@@ -611,11 +671,8 @@ impl Book {
     {
         let members = self.members;
         let called = members.call(self.calls());
-        let stage = Stage::CallsOut;
-        let phase = Phase { stage };
         let mut next = self;
         next.members = called;
-        next.phase = phase;
         next
     }
 
@@ -624,27 +681,45 @@ impl Book {
         ensures { λ r. ⌜ r ≡ payBook self m amount ⌝ }
     {
         let members = self.members;
-        let paid = members.pay(m, amount as u64);
+        let paid = members.pay(m, amount);
         let mut next = self;
         next.members = paid;
         next
     }
 
-    // FINISH
-    pub fn take_finish(self) -> Book
-        ensures { λ r. ⌜ r ≡ finishBook self ⌝ }
+    // MOVE
+    pub fn take_move(self, m: u8) -> Book
+        ensures { λ r. ⌜ r ≡ moveBook self m ⌝ }
     {
-        let stage = Stage::Finished;
-        let phase = Phase { stage };
+        let members = self.members;
+        let bids = self.bids;
+        let units = self.units;
+        let owed = members.owes(m);
+        let out = members.move_out(m);
+        let prices = bids.price;
+        let pools = bids.pool;
+        let passed = units.move_to(m, owed, &prices, &pools);
         let mut next = self;
-        next.phase = phase;
+        next.members = out;
+        next.units = passed;
+        next
+    }
+
+    // MISS
+    pub fn take_miss(self, m: u8, price: u32) -> Book
+        ensures { λ r. ⌜ r ≡ missBook self m price ⌝ }
+    {
+        let units = self.units;
+        let torn = units.miss(m, price);
+        let mut next = self;
+        next.units = torn;
         next
     }
 
     // ---- what FINISH charges
 
-    // The six limits.
-    fn limits(self) -> [u64; 6]
+    // The six limits, in the order in which they are charged.
+    pub fn limits(self) -> [u64; 6]
         ensures { λ r. ⌜ r ≡ limitsIn self ⌝ }
     {
         let head = self.head;
@@ -653,7 +728,7 @@ impl Book {
         let first = 3 * house / 5;
         let funds = self.contributions();
         let xs = members.paid;
-        let paid = accounts::members::amounts(xs);
+        let paid = accounts::members::amounts(head.set, xs);
         [
             head.margin as u64,
             head.fund as u64,
@@ -690,9 +765,11 @@ impl Book {
         let charged = waterfall::charge_layers(loss, self.limits());
         let charges = charged.charges;
         let ranks = self.ranks();
-        let funds = members.contribution;
+        let xs = members.contribution;
+        let funds = accounts::members::widened(xs);
         let contributions = waterfall::charge_by_rank(charges[3], ranks, funds, head.set);
-        let weights = members.paid;
+        let ys = members.paid;
+        let weights = accounts::members::widened(ys);
         let mut payments = [0u64; 32];
         splitting::split(charges[5], &weights, &mut payments);
         Result {

@@ -1,96 +1,126 @@
--- BID, accepted: the program's case shows the machine's. Assumes nothing.
-use mathlib.Core.Path.{_≡_, refl, sym, ap, _∙_}
-use mathlib.Core.Bool.{true, _&&_, not}
-use mathlib.Core.List.{List}
+-- BID and CLOSE, accepted: the program's case shows the machine's. Assumes nothing.
+use mathlib.Core.Path.{_≡_, refl, sym, ap, subst, _∙_}
+use mathlib.Core.Bool.{true, _&&_}
+use mathlib.Core.List.{List, [], _∷_}
 use mathlib.Core.Option.{some}
-use Prim.Native.Nat.{ℕ, _<_}
+use Prim.Native.Nat.{ℕ, _≤_, _<_}
 use native.Mathlib.Omega.{arith}
-use lib.Dec.{leb, eqb}
-use lib.ListN.{length, set}
-use lib.Seq.{getD-set-other}
-use borrow.Author.Tests.{leb-true, leb-false, lt-ltb, not-false}
-use Rattle.lists.specs.Lists.{if_then_else_, between, sum, sumByKey}
+use lib.Dec.{leb}
+use lib.ListN.{length, getD}
+use borrow.Author.Tests.{leb-true, leb-false, not-false}
+use Rattle.lists.specs.Lists.{between}
 use Rattle.lists.proofs.Bools.{and-left, and-right}
-use Rattle.lists.proofs.Places.{tab-ext}
-use Rattle.lists.proofs.Each.{Each, each-more, each-both, map-ext}
 use Rattle.lists.proofs.Passed.{Passed}
 use Rattle.auction.specs.Price.{priceOk, priceLimit}
+use Rattle.auction.specs.Limits.{unitLimit}
 use Rattle.machine.specs.Wire as Wire
-use Rattle.machine.specs.Roll.{Entry, isOpen}
+use Rattle.machine.specs.Roll.{Entry, Bid, noBid, openUnits}
 use Rattle.machine.specs.State as M
-use Rattle.machine.specs.Calls.{afterBid, accepted}
+use Rattle.machine.specs.State.{letterOf}
+use Rattle.machine.specs.Calls.{reserve, bidsAfter, afterBid, afterClose, accepted}
 use Rattle.machine.specs.Refusals.{tests, bidOk}
-use Rattle.machine.proofs.Invariant.{EntryOk, CaseOk}
-use Rattle.roll.specs.declared.Roll.{Roll}
-use Rattle.roll.specs.Entries.{entryOf, priceIn}
-use Rattle.roll.specs.Rolls.{counted}
-use Rattle.roll.specs.Tally.{tallyOf}
-use Rattle.roll.specs.View.{viewRoll}
-use Rattle.roll.proofs.Agree.{SoldBelow, prices-agree}
+use Rattle.machine.proofs.Invariant.{CaseOk}
+use Rattle.machine.proofs.Bounds.{won-le-units, pool-ok, reserve-ok}
+use Rattle.machine.proofs.Stages.{letter-is, bidding-stage}
+use Rattle.units.specs.declared.Units.{Units}
+use Rattle.units.specs.Steps.{sellUnits}
+use Rattle.units.proofs.Kept.{Lent}
+use Rattle.units.proofs.Right.{Right, bid-right, close-right}
 use Rattle.accounts.specs.declared.bids.Bids.{Bids}
-use Rattle.accounts.specs.Bids.{putBid, viewBids}
-use Rattle.accounts.proofs.ViewBids.{length-view, price-shown, put-long, view-put}
-use Rattle.accounts.proofs.Tables.{won-table-put}
+use Rattle.accounts.specs.Bids.{putBid, withWins, wonTable, viewBids}
+use Rattle.accounts.specs.Rounds.{reserveOf}
+use Rattle.accounts.proofs.ViewMembers.{win-long}
+use Rattle.accounts.proofs.ViewRounds as Y
+use Rattle.accounts.proofs.ViewBids as Z
+use Rattle.accounts.proofs.Tables.{won-table-put, won-table-long}
+use Rattle.accounts.proofs.Taking.{Closing, view-closed}
+use Rattle.book.specs.declared.Stage.the-variants.{After}
 use Rattle.book.specs.Stages.{roundOf}
-use Rattle.book.specs.Books.{bidBook}
+use Rattle.book.specs.Books.{openIn, bidBook, bidsClosed, closeBook}
 use Rattle.book.proofs.Sound.{Sound}
-use Rattle.book.proofs.Shown.{prices-lent}
+use Rattle.book.proofs.Shown.{open-shown, bid-pool}
 use Rattle.case.specs.declared.Case.{Case}
 use Rattle.case.specs.Cases.{caseAfter}
 use Rattle.case.specs.View.{view}
-use Rattle.case.proofs.Showing.{Shown, case-ext}
+use Rattle.case.proofs.Showing.{Shown, shown-by, case-ext}
 
--- the tally is the same with other prices of bids that no entry is sold to
-tally-same : (r : Roll) (old new : List ℕ) → Each (λ e. priceIn old (e .state) ≡ priceIn new (e .state)) (counted r) → tallyOf r old ≡ tallyOf r new
-unfolding tallyOf sumByKey
-tally-same r old new same =
-    λ j. record {
-      «open_units» = tallyOf r old .«open_units»;
-      priced = tallyOf r old .priced;
-      prices = tab-ext 4 _ _
-          (λ k l. ap sum (map-ext _ _ (counted r)
-          (each-more _ _ (λ e h. ap (λ (v : ℕ). if eqb (e .pool) k then (if not (isOpen (entryOf e)) then v else 0) else 0) h) (counted r) same))) j;
-      passed = tallyOf r old .passed;
+-- the arrays of bids are those of the machine's bids
+lent-of : (x : Bids) (bids : List Bid) → viewBids x ≡ bids → Lent bids (x .round) (x .pool) (x .price) (x .won)
+lent-of x bids same =
+    let kept : length bids ≡ x .kept = sym (ap length same) ∙ Z.length-view x in
+    record {
+      round = λ b l. Z.round-shown x b (omega arith) ∙ ap (λ (bs : List Bid). getD bs b noBid .round) same;
+      pool = λ b l. Z.pool-shown x b (omega arith) ∙ ap (λ (bs : List Bid). getD bs b noBid .pool) same;
+      price = λ b l. Z.price-shown x b (omega arith) ∙ ap (λ (bs : List Bid). getD bs b noBid .price) same;
+      won = λ b l. Z.won-shown x b (omega arith) ∙ ap (λ (bs : List Bid). getD bs b noBid .won) same;
     }
 
--- a new bid stands behind the others
-put-price : (x : Bids) (round pool m units price : ℕ) → x .kept < 256 → putBid x round pool m units price .price ≡ set (x .price) (x .kept) price
-unfolding putBid
-put-price x round pool m units price room = rw (lt-ltb (x .kept) 256 room)
+-- CLOSE keeps as many bids
+kept-closed : (x : Bids) (round : ℕ) (wins : List (List ℕ)) → withWins x round wins .kept ≡ x .kept
+unfolding withWins
+kept-closed x round wins = refl
 
--- an entry that is sold is sold to a bid that is kept
-sold-kept : (c : M.Case) (e : Entry) → EntryOk (c .head) (c .bids) (e .pool) (e .state) → SoldBelow (length (c .bids)) e
-sold-kept c e o b same = (rw same at o) .0
-
-module _ (c : Case) (s : Sound (c .book) (c .roll)) (ok : CaseOk (view c)) where
-  pub bid-shown : (pool m units price : ℕ) → Passed (tests (some (view c)) (view c) (Wire.BID pool m units price)) → Shown c (Wire.BID pool m units price)
+module _ (c : Case) (roll : List Entry) (s : Sound (c .stage) (c .book) roll) (ok : CaseOk (view c roll)) where
+  pub bid-shown : (pool m units price : ℕ) → Passed (tests (some (view c roll)) (view c roll) (Wire.BID pool m units price)) → Shown c roll (Wire.BID pool m units price)
   unfolding tests bidOk caseAfter accepted bidBook afterBid
   bid-shown pool m units price t =
       let b = c .book in
-      let r = c .roll in
       let x = b .bids in
-      let round = roundOf (b .phase .stage) in
-      let y = putBid x round pool m units price in
-      let room : x .kept < 256 = omega (arith, length-view x, leb-false 256 (length (viewBids x)) (t .1 .1 .1 .1 .1 .0)) in
+      let room : x .kept < 256 = omega (arith, Z.length-view x, leb-false 256 (length (viewBids x)) (t .1 .1 .1 .1 .1 .0)) in
       let range : (between 1 1000 units && priceOk price) ≡ true = not-false _ (t .1 .1 .1 .0) in
       let few = leb-true units 1000 (and-right (leb 1 units) _ (and-left _ (priceOk price) range)) in
       let low = leb-true price priceLimit (and-right (between 1 1000 units) _ range) in
-      let kept = each-more _ _ (sold-kept (view c)) (viewRoll r) (ok .roll .each) in
-      let first = prices-lent b r s ok in
-      let second = prices-agree r (viewBids x) kept (y .price)
-      (λ k l.
-      rw (put-price x round pool m units price room)
-      (getD-set-other (x .price) (x .kept) k price 0 (omega (arith, length-view x)) ∙ price-shown x k (omega (arith, length-view x)))) in
+      shown-by c roll (Wire.BID pool m units price)
+      (case-ext _ _ refl refl refl refl refl (Z.view-put x (roundOf (c .stage)) pool m units price (s .bids) room) refl)
+      (record {
+        set = s .set;
+        pools = s .pools;
+        members = s .members;
+        rounds = s .rounds;
+        bids = Z.put-long x (roundOf (c .stage)) pool m units price (s .bids) few low;
+        won = s .won ∙ sym (won-table-put x (roundOf (c .stage)) pool m units price (s .bids));
+      })
+      (bid-right (view c roll) ok pool m units price t (b .units) (s .units))
+
+  -- ---- CLOSE
+
+  abbrev round : ℕ
+  round = roundOf (c .stage)
+
+  closing : M.letter (view c roll .stage) ≡ 2 → Closing (view c roll) (c .book .bids) round (openIn (c .book)) (reserveOf (c .book .rounds) round)
+  closing bidding =
+      let b = c .book in
+      let d = view c roll in
+      let at = bidding-stage (d .stage) (length (d .rounds)) (ok .stage) bidding in
+      let low : (p : ℕ) → p < b .head .pools → reserveOf (b .rounds) round p ≡ reserve (d .rounds) round p =
+      λ p l. Y.reserve-shown (b .head .pools) (b .rounds) round p (ok .head .pools-most) l (at .1) (omega (arith, at .0, Y.length-view (b .head .pools) (b .rounds))) (s .rounds .few) in
       record {
-        view = case-ext _ _ refl refl refl refl refl (view-put x round pool m units price (s .bids) room) refl;
-        sound = record {
-          set = s .set;
-          pools = s .pools;
-          members = s .members;
-          rounds = s .rounds;
-          bids = put-long x round pool m units price (s .bids) few low;
-          roll = s .roll;
-          tally = s .tally ∙ tally-same r (x .price) (y .price) (each-more _ _ (λ e h. h .0 ∙ sym (h .1)) (counted r) (each-both _ _ (counted r) first second));
-          won = s .won ∙ sym (won-table-put x round pool m units price (s .bids));
-        };
+        shown = refl;
+        long = s .bids;
+        pools-most = ok .head .pools-most;
+        inside = bid-pool (c .stage) b roll s ok;
+        units-shown = λ p l. open-shown (c .stage) b roll s ok p;
+        units-small = λ p l. omega (arith, open-shown (c .stage) b roll s ok p, won-le-units d ok p, pool-ok d ok p .0);
+        reserves-shown = low;
+        reserves-low = λ p l. omega (arith, low p l, reserve-ok d ok round p);
       }
+
+  pub close-shown : Passed (tests (some (view c roll)) (view c roll) Wire.CLOSE) → Shown c roll Wire.CLOSE
+  unfolding tests letterOf caseAfter accepted closeBook afterClose
+  close-shown t =
+      let b = c .book in
+      let d = view c roll in
+      let x = bidsClosed b round in
+      let same : viewBids x ≡ bidsAfter d round = view-closed d (b .bids) round (openIn b) (reserveOf (b .rounds) round) (closing (letter-is (d .stage) 2 (t .0))) in
+      let kept : length (d .bids) ≡ x .kept = Z.length-view (b .bids) ∙ sym (kept-closed (b .bids) round _) in
+      shown-by c roll Wire.CLOSE
+      (case-ext _ _ refl refl refl refl refl same refl)
+      (record {
+        set = s .set;
+        pools = s .pools;
+        members = win-long (b .members) (wonTable x) (won-table-long x) (s .members);
+        rounds = s .rounds;
+        bids = Z.take-long (b .bids) round _ (s .bids);
+        won = refl;
+      })
+      (rw kept at (close-right d ok t (b .units) (s .units) (x .round) (x .pool) (x .price) (x .won) (lent-of x (bidsAfter d round) same)))

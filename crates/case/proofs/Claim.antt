@@ -28,40 +28,41 @@ use Rattle.case.specs.declared.Case.{Case}
 use Rattle.case.specs.declared.Held.{Held}
 use Rattle.case.specs.declared.Ran.{Ran}
 use Rattle.case.specs.View.{view}
-use Rattle.case.specs.Cases.{caseAfter, bookAnswerTo, firstAnswerTo, answerTo, afterAsked, takeAsked, applied, noHeld}
+use Rattle.case.specs.Cases.{caseAfter, caseAnswerTo, firstAnswerTo, answerTo, afterAsked, takeAsked, applied, noHeld}
 use Rattle.case.specs.Readings.{seen}
 use Rattle.case.specs.Claim.{Bytes, Agrees, ledgerFrom}
 use Rattle.case.specs.Input.{Runs, ledgerAfter, ledgerAnswers}
 use Rattle.case.proofs.Steps.{next-shown, head-shown}
 use Rattle.case.proofs.Decoded.{Read, AllRead, drop-bytes, read-fits, decoded-read, answer-shown, first-shown}
+use Rattle.case.proofs.Strings.{take-bytes}
 use Rattle.case.proofs.Observations.{case-observed, none-observed}
 
 -- ---- what is held, and the machine's state
 
--- a case is held that shows the machine's case
+-- a case is held that with the machine's roll shows the machine's case; its units are those of the roll (`Sound`)
 pub record Holds (h : Held) (c : M.Case) : Type 0 where
   pub present : h .present ≡ true
-  pub shows : view (h .case) ≡ c
-  pub sound : Sound (h .case .book) (h .case .roll)
-  pub ok : CaseOk (view (h .case))
+  pub shows : view (h .case) (c .roll) ≡ c
+  pub sound : Sound (h .case .stage) (h .case .book) (c .roll)
+  pub ok : CaseOk (view (h .case) (c .roll))
 
 abbrev pub Tied : Held → M.State → Type 0
 Tied h none = h .present ≡ false
 Tied h (some c) = Holds h c
 
 -- where a claim about the case that is shown holds, it holds of the machine's case
-with-case : (h : Held) (P : M.State → Type 0) → ((c : M.Case) → Holds h c → P (some (view (h .case)))) → (c : M.Case) → Holds h c → P (some c)
+with-case : (h : Held) (P : M.State → Type 0) → ((c : M.Case) → Holds h c → P (some (view (h .case) (c .roll)))) → (c : M.Case) → Holds h c → P (some c)
 with-case h P claim c t = subst (λ (x : M.Case). P (some x)) (t .shows) (claim c t)
 
 -- ---- one call
 
 -- the answers are the same
-same-answer : (h : Held) (s : M.State) → Tied h s → (call : Call) → Read call → answerTo (h .present) (h .case .book) (some call) ≡ refusal s call
-unfolding answerTo bookAnswerTo firstAnswerTo
+same-answer : (h : Held) (s : M.State) → Tied h s → (call : Call) → Read call → answerTo (h .present) (h .case) (some call) ≡ refusal s call
+unfolding answerTo caseAnswerTo firstAnswerTo
 same-answer h none t call r = rw t (first-shown call)
 same-answer h (some c) t call r =
     rw (t .present)
-    (with-case h (λ s. bookAnswerTo (h .case .book) (some call) ≡ refusal s call) (λ x u. answer-shown (h .case) (u .sound) (u .ok) call r) c t)
+    (with-case h (λ s. caseAnswerTo (h .case) (some call) ≡ refusal s call) (λ x u. answer-shown (h .case) (x .roll) (u .sound) (u .ok) call r) c t)
 
 -- HEAD, where no case is held
 head-tied : (h : Held) (head : Head) → Read (HEAD head) → Passed (tests none (M.theCase none) (HEAD head))
@@ -85,12 +86,12 @@ new-tied h none t call r p =
 new-tied h (some c) t call r p =
     with-case h (λ s. Passed (tests s (M.theCase s) call) → Holds (record { present = true; case = caseAfter (h .case) call }) (accepted (M.theCase s) call))
     (λ x u q.
-    let shown = next-shown (h .case) (u .sound) (u .ok) call (read-fits call r) q in
+    let shown = next-shown (h .case) (x .roll) (u .sound) (u .ok) call (read-fits call r) q in
     record {
       present = refl;
-      shows = shown .view;
+      shows = shown .shows;
       sound = shown .sound;
-      ok = subst CaseOk (sym (shown .view)) (next-ok (view (h .case)) (u .ok) call (read-fits call r) q);
+      ok = subst CaseOk (sym (shown .shows)) (next-ok (view (h .case) (x .roll)) (u .ok) call (read-fits call r) q);
     })
     c t p
 
@@ -99,7 +100,7 @@ pub record Taken (h : Held) (s : M.State) (asked : Option Call) : Type 0 where
   pub tied : Tied (takeAsked h asked .held) (answered s asked .state)
 
 taken : (h : Held) (s : M.State) → Tied h s → (asked : Option Call) → AllRead asked → Taken h s asked
-unfolding takeAsked answered answerTo bookAnswerTo firstAnswerTo afterAsked
+unfolding takeAsked answered answerTo caseAnswerTo firstAnswerTo afterAsked
 taken h s t none r =
     let one = same-choice {A = ℕ} (h .present) 1 in
     record { answer = one; tied = rw one t }
@@ -135,7 +136,7 @@ takes h s t bytes b =
 pub seen-observed : (n : ℕ) (h : Held) (s : M.State) → Tied h s → seen n h ≡ observed n s
 seen-observed n h none t = none-observed n h t
 seen-observed n h (some c) t =
-    with-case h (λ s. seen n h ≡ observed n s) (λ x u. case-observed (h .case) (u .sound) (u .ok) n h (u .present) refl) c t
+    with-case h (λ s. seen n h ≡ observed n s) (λ x u. case-observed (h .case) (x .roll) (u .sound) (u .ok) n h (u .present) refl) c t
 
 -- ---- every list of calls
 
@@ -187,11 +188,6 @@ module _ (calls : List (List ℕ)) (bytes : Each Bytes calls) where
   ledger-shows n = seen-observed n (ledgerAfter noHeld calls) (runFrom none calls) ledger-tied
 
 -- ---- the fields of bytes are bytes
-
-take-bytes : (n : ℕ) (xs : List ℕ) → Bytes xs → Bytes (take n xs)
-take-bytes zero xs b = tt
-take-bytes (suc n) [] b = tt
-take-bytes (suc n) (x ∷ xs) b = (b .0, take-bytes n xs (b .1))
 
 pub fields-bytes : (k : ℕ) (input : List ℕ) → Bytes input → Each Bytes (fieldsIn k input)
 unfolding fieldsIn

@@ -13,6 +13,7 @@ use Rattle.lists.specs.Tests.{firstOf}
 use Rattle.lists.proofs.Bools.{either, by-test, and-left, and-right}
 use Rattle.lists.proofs.Places.{length-tab, tab-self}
 use Rattle.machine.specs.Wire.{Head, Call, HEAD, POOL, MEMBER, ROUND, BID, CLOSE, ALLOCATE, TEAR, CALL, PAY, MOVE, MISS, FINISH, bigEndian, number, price, rightLength, callOf, decode}
+use Rattle.machine.specs.Roll.{Entry}
 use Rattle.machine.specs.State as M
 use Rattle.machine.specs.Refusals.{tests, refusal}
 use Rattle.machine.proofs.Stages.{letter-some}
@@ -22,7 +23,7 @@ use Rattle.book.proofs.Sound.{Sound}
 use Rattle.case.specs.declared.Case.{Case}
 use Rattle.case.specs.View.{view}
 use Rattle.case.specs.Claim.{Bytes}
-use Rattle.case.specs.Cases.{headFrom, bookAnswer, firstAnswer}
+use Rattle.case.specs.Cases.{headFrom, caseAnswer, firstAnswer}
 use Rattle.book.proofs.AnswersShown.{head-answer, pool-answer, member-answer, round-answer, bid-answer, close-answer, allocate-answer, tear-answer, call-answer, pay-answer, move-answer, miss-answer, finish-answer}
 
 -- ---- the bytes
@@ -123,23 +124,23 @@ unfolding refusal tests firstOf M.letterOf
 head-again c h = rw (letter-some (c .stage))
 
 -- where a case is held
-pub answer-shown : (c : Case) → Sound (c .book) (c .roll) → CaseOk (view c) → (call : Call) → Read call → bookAnswer (c .book) call ≡ refusal (some (view c)) call
-unfolding bookAnswer
-answer-shown c sound ok (HEAD h) r = sym (head-again (view c) h)
-answer-shown c sound ok (POOL pool units mark) r = pool-answer (c .book) (c .roll) sound ok pool units mark
-answer-shown c sound ok (MEMBER m contribution es) r =
-    member-answer (c .book) (c .roll) sound ok m contribution (getD es 0 0) (getD es 1 0) (getD es 2 0) (getD es 3 0)
-    ∙ ap (λ (l : List ℕ). refusal (some (view c)) (MEMBER m contribution l)) (four es r)
-answer-shown c sound ok (ROUND rs) r = round-answer (c .book) (c .roll) sound ok rs r
-answer-shown c sound ok (BID pool m units price) r = bid-answer (c .book) (c .roll) sound ok pool m units price
-answer-shown c sound ok CLOSE r = close-answer (c .book) (c .roll) sound ok
-answer-shown c sound ok (ALLOCATE pool price) r = allocate-answer (c .book) (c .roll) sound ok pool price
-answer-shown c sound ok (TEAR pool price) r = tear-answer (c .book) (c .roll) sound ok pool price
-answer-shown c sound ok CALL r = call-answer (c .book) (c .roll) sound ok
-answer-shown c sound ok (PAY m amount) r = pay-answer (c .book) (c .roll) sound ok m amount
-answer-shown c sound ok (MOVE m) r = move-answer (c .book) (c .roll) sound ok m
-answer-shown c sound ok (MISS m price) r = miss-answer (c .book) (c .roll) sound ok m price
-answer-shown c sound ok FINISH r = finish-answer (c .book) (c .roll) sound ok
+pub answer-shown : (c : Case) (roll : List Entry) → Sound (c .stage) (c .book) roll → CaseOk (view c roll) → (call : Call) → Read call → caseAnswer c call ≡ refusal (some (view c roll)) call
+unfolding caseAnswer
+answer-shown c roll sound ok (HEAD h) r = sym (head-again (view c roll) h)
+answer-shown c roll sound ok (POOL pool units mark) r = pool-answer (c .stage) (c .book) roll sound ok pool units mark
+answer-shown c roll sound ok (MEMBER m contribution es) r =
+    member-answer (c .stage) (c .book) roll sound ok m contribution (getD es 0 0) (getD es 1 0) (getD es 2 0) (getD es 3 0)
+    ∙ ap (λ (l : List ℕ). refusal (some (view c roll)) (MEMBER m contribution l)) (four es r)
+answer-shown c roll sound ok (ROUND rs) r = round-answer (c .stage) (c .book) roll sound ok rs r
+answer-shown c roll sound ok (BID pool m units price) r = bid-answer (c .stage) (c .book) roll sound ok pool m units price
+answer-shown c roll sound ok CLOSE r = close-answer (c .stage) (c .book) roll sound ok
+answer-shown c roll sound ok (ALLOCATE pool price) r = allocate-answer (c .stage) (c .book) roll sound ok pool price
+answer-shown c roll sound ok (TEAR pool price) r = tear-answer (c .stage) (c .book) roll sound ok pool price
+answer-shown c roll sound ok CALL r = call-answer (c .stage) (c .book) roll sound ok
+answer-shown c roll sound ok (PAY m amount) r = pay-answer (c .stage) (c .book) roll sound ok m amount
+answer-shown c roll sound ok (MOVE m) r = move-answer (c .stage) (c .book) roll sound ok m
+answer-shown c roll sound ok (MISS m price) r = miss-answer (c .stage) (c .book) roll sound ok m price
+answer-shown c roll sound ok FINISH r = finish-answer (c .stage) (c .book) roll sound ok
 
 -- where none is held
 pub first-shown : (call : Call) → firstAnswer call ≡ refusal none call

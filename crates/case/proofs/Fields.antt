@@ -1,16 +1,18 @@
 -- The first field of an input: the bytes that it takes, and what is left. Assumes nothing.
 use mathlib.Core.Path.{_≡_, refl, sym, _∙_}
+use mathlib.Core.Bool.{Bool}
 use mathlib.Core.List.{List, [], _∷_}
 use Prim.Native.Nat.{ℕ, zero, suc, _+_, _*_, _≤_, _<_, min}
 use native.Mathlib.Omega.{arith}
 use mathlib.Core.Logic.{⊎-elim}
 use lib.ListN.{length, getD, take, drop, drop-of-length-le}
 use lib.Seq.{take-length, take-all, drop-length}
-use borrow.Author.Tests.{lt-ltb, le-ltb}
+use borrow.Author.Tests.{lt-ltb, le-ltb, lt-leb, le-leb}
+use Rattle.lists.specs.Lists.{if_then_else_}
 use Rattle.lists.proofs.Bools.{lt-or-le}
 use Rattle.machine.specs.Printed.{fieldsIn}
 use Rattle.wire.proofs.Numbers.{number-two}
-use Rattle.case.specs.Input.{fieldSize}
+use Rattle.case.specs.Input.{fieldSize, frontSize}
 
 -- the bytes of the first field that are there
 unfoldable pub first-size : List ℕ → ℕ
@@ -55,3 +57,22 @@ fields-more n (tag ∷ high ∷ low ∷ rest) h =
     let s : List ℕ = tag ∷ high ∷ low ∷ rest in
     let e : fieldSize s ≡ suc (suc (suc (high * 256 + low))) = omega (arith, size-whole s (omega arith)) in
     rw (take-there (fieldSize s) s, drop-there (fieldSize s) s, e)
+
+-- ---- the bytes of the first field at an input's front
+
+module _ (last : Bool) (s : List ℕ) where
+  pub front-short : length s < 3 → (if last then length s else 0) ≡ frontSize last s
+  unfolding frontSize
+  front-short h = rw (lt-leb 3 (length s) h)
+
+  module _ (h : 3 ≤ length s) (size : ℕ) (is : size ≡ 3 + (getD s 1 0 * 256 + getD s 2 0)) where
+    its : fieldSize s ≡ size
+    its = size-whole s h ∙ sym is
+
+    pub front-cut : length s < size → (if last then length s else 0) ≡ frontSize last s
+    unfolding frontSize
+    front-cut more = rw (le-leb 3 (length s) h, its, lt-leb size (length s) more)
+
+    pub front-whole : size ≤ length s → size ≡ frontSize last s
+    unfolding frontSize
+    front-whole all = rw (le-leb 3 (length s) h, its, le-leb size (length s) all)

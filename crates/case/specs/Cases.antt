@@ -5,96 +5,25 @@ use mathlib.Core.Option.{Option, none, some}
 use Prim.Native.Nat.{ℕ}
 use lib.Dec.{ltb, eqb}
 use lib.ListN.{length, getD}
-use Rattle.lists.specs.Lists.{if_then_else_}
+use Rattle.lists.specs.Lists.{if_then_else_, between}
 use Rattle.machine.specs.Wire as Wire
 use Rattle.wire.specs.declared.Head.{Head}
-use Rattle.roll.specs.declared.Roll.{Roll}
-use Rattle.roll.specs.declared.Grant.the-variants.{Sale, Allocation}
-use Rattle.roll.specs.Rolls.{emptyRoll, putUpOf, giveOf, tearOf, missOf}
-use Rattle.roll.specs.Moves.{moveOf}
-use Rattle.roll.specs.Tally.{tallyOf}
-use Rattle.accounts.specs.Pools.{putPool}
-use Rattle.accounts.specs.Members.{owesOf, withShares, withMove, withWon}
-use Rattle.accounts.specs.Rounds.{reserveOf}
-use Rattle.accounts.specs.Bids.{winsOf, withWins, wonTable}
 use Rattle.book.specs.declared.Book.{Book}
-use Rattle.book.specs.declared.Stage.the-variants.{After}
-use Rattle.book.specs.Stages.{roundOf}
-use Rattle.book.specs.Books.{withStage, withPools, withMembers, withBids, withTally, openIn, allocationIn}
-use Rattle.book.specs.Books.{newBook, memberBook, roundBook, bidBook, callBook, payBook, finishBook}
+use Rattle.book.specs.declared.Stage.{Stage}
+use Rattle.book.specs.declared.Stage.the-variants.{Setup, Bidding, After, CallsOut, Finished}
+use Rattle.book.specs.Stages.{roundOf, nextRound}
+use Rattle.book.specs.Books.{newBook, poolBook, memberBook, roundBook, bidBook, closeBook, allocateBook, tearBook, callBook, payBook, moveBook, missBook}
 use Rattle.book.specs.Answers.{headAnswer, poolAnswer, memberAnswer, roundAnswer, bidAnswer, closeAnswer, allocateAnswer, tearAnswer, callAnswer, payAnswer, moveAnswer, missAnswer, finishAnswer}
 use Rattle.case.specs.declared.Case.{Case}
 use Rattle.case.specs.declared.Outcome.{Outcome}
 use Rattle.case.specs.declared.Held.{Held}
 use Rattle.case.specs.declared.Applied.{Applied}
 
--- ---- a case with a part changed
+-- a stage and a book
+abbrev pub caseOf : Stage → Book → Case
+caseOf stage b = record { stage = stage; book = b }
 
-abbrev pub withBook : Case → Book → Case
-withBook c b = record { book = b; roll = c .roll }
-
--- a book and a roll, with the roll's tally in the book
-unfoldable pub tallied : Book → Roll → Case
-tallied b r = record { book = withTally b (tallyOf r (b .bids .price)); roll = r }
-
--- an answer of 0 goes with the new case, any other with the unchanged one
-abbrev pub outcome : ℕ → Case → Case → Outcome
-outcome n old new = record { answer = n; case = if eqb n 0 then new else old }
-
--- ---- the case after each accepted call
-
--- HEAD
-unfoldable pub newCase : Head → Case
-newCase h = record { book = newBook h; roll = emptyRoll }
-
--- POOL
-unfoldable pub poolCase : Case → ℕ → ℕ → ℕ → Case
-poolCase c pool units mark =
-    tallied (withPools (c .book) (putPool (c .book .pools) units mark)) (putUpOf (c .roll) pool units)
-
--- CLOSE in one pool: the bids of this round win what the auction allots, and the roll gives it to them
-unfoldable pub closePool : Case → ℕ → Case
-closePool c pool =
-    let b = c .book in
-    let round = roundOf (b .phase .stage) in
-    let wins = winsOf (b .bids) round pool (openIn b pool) (reserveOf (b .rounds) round pool) in
-    if ltb pool (b .head .pools) then
-    record { book = withBids b (withWins (b .bids) round pool wins); roll = giveOf (c .roll) pool Sale wins }
-    else c
-
--- CLOSE "makes A"
-unfoldable pub closeCase : Case → Case
-closeCase c =
-    let d = closePool (closePool (closePool (closePool c 0) 1) 2) 3 in
-    let b = withMembers (d .book) (withWon (d .book .members) (wonTable (d .book .bids))) in
-    tallied (withStage b (After (roundOf (c .book .phase .stage)))) (d .roll)
-
--- ALLOCATE
-unfoldable pub allocateCase : Case → ℕ → ℕ → Case
-allocateCase c pool price =
-    let shares = allocationIn (c .book) pool in
-    tallied (withMembers (c .book) (withShares (c .book .members) pool shares)) (giveOf (c .roll) pool (Allocation price) shares)
-
--- TEAR
-unfoldable pub tearCase : Case → ℕ → ℕ → Case
-tearCase c pool price = tallied (c .book) (tearOf (c .roll) pool price)
-
--- MOVE
-unfoldable pub moveCase : Case → ℕ → Case
-moveCase c m =
-    tallied
-    (withMembers (c .book) (withMove (c .book .members) m))
-    (moveOf (c .roll) (c .book .bids .price) m (owesOf (c .book .members) m))
-
--- MISS
-unfoldable pub missCase : Case → ℕ → ℕ → Case
-missCase c m price = tallied (c .book) (missOf (c .roll) m price)
-
--- ---- any call
-
--- reserve i of n, and 0 behind the last
-abbrev pub reserveIf : ℕ → ℕ → ℕ → ℕ
-reserveIf n i x = if ltb i n then x else 0
+-- ---- the answer to a call
 
 -- the numbers of HEAD as the program holds them
 abbrev pub headFrom : Wire.Head → Head
@@ -111,20 +40,20 @@ headFrom h =
     }
 
 -- the answer to a call, where a case is held
-unfoldable pub bookAnswer : Book → Wire.Call → ℕ
-bookAnswer b (Wire.HEAD h) = 2
-bookAnswer b (Wire.POOL pool units mark) = poolAnswer b pool units mark
-bookAnswer b (Wire.MEMBER m contribution es) = memberAnswer b m contribution (getD es 0 0) (getD es 1 0) (getD es 2 0) (getD es 3 0)
-bookAnswer b (Wire.ROUND rs) = roundAnswer b (length rs) (getD rs 0 0) (getD rs 1 0) (getD rs 2 0) (getD rs 3 0)
-bookAnswer b (Wire.BID pool m units price) = bidAnswer b pool m units price
-bookAnswer b Wire.CLOSE = closeAnswer b
-bookAnswer b (Wire.ALLOCATE pool price) = allocateAnswer b pool price
-bookAnswer b (Wire.TEAR pool price) = tearAnswer b pool price
-bookAnswer b Wire.CALL = callAnswer b
-bookAnswer b (Wire.PAY m amount) = payAnswer b m amount
-bookAnswer b (Wire.MOVE m) = moveAnswer b m
-bookAnswer b (Wire.MISS m price) = missAnswer b m price
-bookAnswer b Wire.FINISH = finishAnswer b
+unfoldable pub caseAnswer : Case → Wire.Call → ℕ
+caseAnswer c (Wire.HEAD h) = 2
+caseAnswer c (Wire.POOL pool units mark) = poolAnswer (c .stage) (c .book) pool units mark
+caseAnswer c (Wire.MEMBER m contribution es) = memberAnswer (c .stage) (c .book) m contribution (getD es 0 0) (getD es 1 0) (getD es 2 0) (getD es 3 0)
+caseAnswer c (Wire.ROUND rs) = roundAnswer (c .stage) (c .book) (length rs) (getD rs 0 0) (getD rs 1 0) (getD rs 2 0) (getD rs 3 0)
+caseAnswer c (Wire.BID pool m units price) = bidAnswer (c .stage) (c .book) pool m units price
+caseAnswer c Wire.CLOSE = closeAnswer (c .stage)
+caseAnswer c (Wire.ALLOCATE pool price) = allocateAnswer (c .stage) (c .book) pool price
+caseAnswer c (Wire.TEAR pool price) = tearAnswer (c .stage) (c .book) pool price
+caseAnswer c Wire.CALL = callAnswer (c .stage) (c .book)
+caseAnswer c (Wire.PAY m amount) = payAnswer (c .stage) (c .book) m amount
+caseAnswer c (Wire.MOVE m) = moveAnswer (c .stage) (c .book) m
+caseAnswer c (Wire.MISS m price) = missAnswer (c .stage) (c .book) m price
+caseAnswer c Wire.FINISH = finishAnswer (c .stage) (c .book)
 
 -- the answer to a call, where none is held: only HEAD has a stage
 unfoldable pub firstAnswer : Wire.Call → ℕ
@@ -143,98 +72,78 @@ firstAnswer (Wire.MISS m price) = 2
 firstAnswer Wire.FINISH = 2
 
 -- the answer to what is asked; bytes that are no call are answered 1
-unfoldable pub bookAnswerTo : Book → Option Wire.Call → ℕ
-bookAnswerTo b none = 1
-bookAnswerTo b (some call) = bookAnswer b call
+unfoldable pub caseAnswerTo : Case → Option Wire.Call → ℕ
+caseAnswerTo c none = 1
+caseAnswerTo c (some call) = caseAnswer c call
 
 unfoldable pub firstAnswerTo : Option Wire.Call → ℕ
 firstAnswerTo none = 1
 firstAnswerTo (some call) = firstAnswer call
 
-unfoldable pub answerTo : Bool → Book → Option Wire.Call → ℕ
-answerTo present b asked = if present then bookAnswerTo b asked else firstAnswerTo asked
+unfoldable pub answerTo : Bool → Case → Option Wire.Call → ℕ
+answerTo present c asked = if present then caseAnswerTo c asked else firstAnswerTo asked
 
--- the case after an accepted call
+-- reserve i of n, and 0 behind the last
+abbrev pub reserveIf : ℕ → ℕ → ℕ → ℕ
+reserveIf n i x = if ltb i n then x else 0
+
+-- the answer to ROUND with n reserves; it has one to four of them
+unfoldable pub reservesAnswer : Case → ℕ → ℕ → ℕ → ℕ → ℕ → ℕ
+reservesAnswer c n p q r s =
+    if between 1 4 n then roundAnswer (c .stage) (c .book) n (reserveIf n 0 p) (reserveIf n 1 q) (reserveIf n 2 r) (reserveIf n 3 s) else 1
+
+-- ---- the case after an accepted call
+
+-- HEAD
+unfoldable pub newCase : Head → Case
+newCase h = caseOf Setup (newBook h)
+
 unfoldable pub caseAfter : Case → Wire.Call → Case
 caseAfter c (Wire.HEAD h) = newCase (headFrom h)
-caseAfter c (Wire.POOL pool units mark) = poolCase c pool units mark
-caseAfter c (Wire.MEMBER m contribution es) = withBook c (memberBook (c .book) m contribution (getD es 0 0) (getD es 1 0) (getD es 2 0) (getD es 3 0))
-caseAfter c (Wire.ROUND rs) = withBook c (roundBook (c .book) (getD rs 0 0) (getD rs 1 0) (getD rs 2 0) (getD rs 3 0))
-caseAfter c (Wire.BID pool m units price) = withBook c (bidBook (c .book) pool m units price)
-caseAfter c Wire.CLOSE = closeCase c
-caseAfter c (Wire.ALLOCATE pool price) = allocateCase c pool price
-caseAfter c (Wire.TEAR pool price) = tearCase c pool price
-caseAfter c Wire.CALL = withBook c (callBook (c .book))
-caseAfter c (Wire.PAY m amount) = withBook c (payBook (c .book) m amount)
-caseAfter c (Wire.MOVE m) = moveCase c m
-caseAfter c (Wire.MISS m price) = missCase c m price
-caseAfter c Wire.FINISH = withBook c (finishBook (c .book))
+caseAfter c (Wire.POOL pool units mark) = caseOf (c .stage) (poolBook (c .book) pool units mark)
+caseAfter c (Wire.MEMBER m contribution es) = caseOf (c .stage) (memberBook (c .book) m contribution (getD es 0 0) (getD es 1 0) (getD es 2 0) (getD es 3 0))
+caseAfter c (Wire.ROUND rs) =
+    caseOf (Bidding (nextRound (roundOf (c .stage)))) (roundBook (c .book) (getD rs 0 0) (getD rs 1 0) (getD rs 2 0) (getD rs 3 0))
+caseAfter c (Wire.BID pool m units price) = caseOf (c .stage) (bidBook (c .book) (roundOf (c .stage)) pool m units price)
+caseAfter c Wire.CLOSE = caseOf (After (roundOf (c .stage))) (closeBook (c .book) (roundOf (c .stage)))
+caseAfter c (Wire.ALLOCATE pool price) = caseOf (c .stage) (allocateBook (c .book) pool price)
+caseAfter c (Wire.TEAR pool price) = caseOf (c .stage) (tearBook (c .book) pool price)
+caseAfter c Wire.CALL = caseOf CallsOut (callBook (c .book))
+caseAfter c (Wire.PAY m amount) = caseOf (c .stage) (payBook (c .book) m amount)
+caseAfter c (Wire.MOVE m) = caseOf (c .stage) (moveBook (c .book) m)
+caseAfter c (Wire.MISS m price) = caseOf (c .stage) (missBook (c .book) m price)
+caseAfter c Wire.FINISH = caseOf Finished (c .book)
 
 -- the case after what is asked, if it is accepted
 unfoldable pub afterAsked : Case → Option Wire.Call → Case
 afterAsked c none = c
 afterAsked c (some call) = caseAfter c call
 
--- whether a call that is accepted leaves the units as they are
-unfoldable pub keepsUnits : Wire.Call → Bool
-keepsUnits (Wire.HEAD h) = false
-keepsUnits (Wire.POOL pool units mark) = false
-keepsUnits (Wire.MEMBER m contribution es) = true
-keepsUnits (Wire.ROUND rs) = true
-keepsUnits (Wire.BID pool m units price) = true
-keepsUnits Wire.CLOSE = false
-keepsUnits (Wire.ALLOCATE pool price) = false
-keepsUnits (Wire.TEAR pool price) = false
-keepsUnits Wire.CALL = true
-keepsUnits (Wire.PAY m amount) = true
-keepsUnits (Wire.MOVE m) = false
-keepsUnits (Wire.MISS m price) = false
-keepsUnits Wire.FINISH = true
+-- ---- a call taken
 
-unfoldable pub keepsUnitsAsked : Option Wire.Call → Bool
-keepsUnitsAsked none = true
-keepsUnitsAsked (some call) = keepsUnits call
+-- no case is held
+unfoldable pub noHeld : Held
+noHeld = record { present = false; case = newCase (record { pools = 0; least = 0; set = 0; hedge = 0; other = 0; margin = 0; fund = 0; house = 0 }) }
 
--- the book after such a call
-unfoldable pub bookAfter : Book → Wire.Call → Book
-bookAfter b (Wire.HEAD h) = b
-bookAfter b (Wire.POOL pool units mark) = b
-bookAfter b (Wire.MEMBER m contribution es) = memberBook b m contribution (getD es 0 0) (getD es 1 0) (getD es 2 0) (getD es 3 0)
-bookAfter b (Wire.ROUND rs) = roundBook b (getD rs 0 0) (getD rs 1 0) (getD rs 2 0) (getD rs 3 0)
-bookAfter b (Wire.BID pool m units price) = bidBook b pool m units price
-bookAfter b Wire.CLOSE = b
-bookAfter b (Wire.ALLOCATE pool price) = b
-bookAfter b (Wire.TEAR pool price) = b
-bookAfter b Wire.CALL = callBook b
-bookAfter b (Wire.PAY m amount) = payBook b m amount
-bookAfter b (Wire.MOVE m) = b
-bookAfter b (Wire.MISS m price) = b
-bookAfter b Wire.FINISH = finishBook b
-
-unfoldable pub bookAfterAsked : Book → Option Wire.Call → Book
-bookAfterAsked b none = b
-bookAfterAsked b (some call) = bookAfter b call
-
--- a call taken: "Each gives its number and the unchanged case (none where there was none); 0 is accepted."
+-- "Each gives its number and the unchanged case (none where there was none); 0 is accepted."
 unfoldable pub takeAsked : Held → Option Wire.Call → Applied
 takeAsked h asked =
-    let n = answerTo (h .present) (h .case .book) asked in
+    let n = answerTo (h .present) (h .case) asked in
     record { answer = n; held = if eqb n 0 then record { present = true; case = afterAsked (h .case) asked } else h }
 
 -- one call, from any bytes
 unfoldable pub applied : Held → List ℕ → Applied
 applied h bytes = takeAsked h (Wire.decode bytes)
 
--- ---- the calls as methods
+-- ---- the calls as methods: "Each call takes the case and hands the case back"
 
+-- HEAD makes a case, or none where its numbers are out of range
 unfoldable pub headOutcome : Head → Applied
 headOutcome h =
     let n = headAnswer h in
-    record { answer = n; held = record { present = eqb n 0; case = newCase h } }
+    record { answer = n; held = if eqb n 0 then record { present = true; case = newCase h } else noHeld }
 
-unfoldable pub outcomeOf : Case → Wire.Call → Outcome
-outcomeOf c call = outcome (bookAnswer (c .book) call) c (caseAfter c call)
-
--- no case is held
-unfoldable pub noHeld : Held
-noHeld = record { present = false; case = newCase (record { pools = 0; least = 0; set = 0; hedge = 0; other = 0; margin = 0; fund = 0; house = 0 }) }
+unfoldable pub outcomeOf : Case → Option Wire.Call → Outcome
+outcomeOf c asked =
+    let n = caseAnswerTo c asked in
+    record { answer = n; case = if eqb n 0 then afterAsked c asked else c }

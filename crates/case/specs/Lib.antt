@@ -1,6 +1,7 @@
 pub mod Cases
 pub mod View
 pub mod Readings
-pub mod Claim
+pub mod Strings
 pub mod Input
+pub mod Claim
 pub mod Computing

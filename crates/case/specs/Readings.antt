@@ -1,17 +1,16 @@
 -- What outsiders read of the program's case.
 use mathlib.Core.List.{List, [], map}
 use mathlib.Core.Option.{none, some}
-use Prim.Native.Nat.{ℕ, _*_}
+use Prim.Native.Nat.{ℕ}
 use lib.Dec.{eqb}
 use lib.IntN.{ℤ, pos, subℕ}
 use lib.ListN.{getD}
 use Rattle.lists.specs.Lists.{if_then_else_, tab}
 use Rattle.sets.specs.Set.{members}
-use Rattle.auction.specs.Price.{zeroPrice}
 use Rattle.machine.specs.Run.{MemberResult, Result, Observed}
-use Rattle.roll.specs.Rolls.{countOf, holdingOf}
+use Rattle.units.specs.Shown.{countOf, holdingOf, zeroPrices}
 use Rattle.book.specs.Stages.{letterOf}
-use Rattle.book.specs.Books.{pricedIn, pricesIn}
+use Rattle.book.specs.Books.{pricesIn}
 use Rattle.book.specs.Results.{resultIn}
 use Rattle.book.specs.declared.Book.{Book}
 use Rattle.case.specs.declared.Case.{Case}
@@ -19,15 +18,15 @@ use Rattle.case.specs.declared.Held.{Held}
 
 -- the five counts of a pool
 unfoldable pub countsIn : Case → ℕ → List ℕ
-countsIn c pool = tab 5 (countOf (c .roll) pool)
+countsIn c pool = tab 5 (countOf (c .book .units) (c .book .bids .pool) pool)
 
 -- the units of a pool that a member holds at a price
 unfoldable pub holdingIn : Case → ℕ → ℕ → ℕ → ℕ
-holdingIn c m pool price = holdingOf (c .roll) (c .book .bids .member) (c .book .bids .price) m pool price
+holdingIn c m pool price = holdingOf (c .book .units) (c .book .bids .member) (c .book .bids .pool) (c .book .bids .price) m pool price
 
 -- the sum of the prices of the units not open, in cents
 unfoldable pub sumOfPricesIn : Case → ℤ
-sumOfPricesIn c = subℕ (pricesIn (c .book)) (zeroPrice * pricedIn (c .book))
+sumOfPricesIn c = subℕ (pricesIn (c .book)) zeroPrices
 
 -- member m's rank and charges
 abbrev pub memberResultIn : Book → ℕ → MemberResult
@@ -58,5 +57,5 @@ seen n h =
       counts = if h .present then tab (c .book .pools .given) (countsIn c) else [];
       holdings = λ m pool price. if h .present then holdingIn c m pool price else 0;
       prices = if h .present then sumOfPricesIn c else pos 0;
-      result = if h .present then (if eqb (letterOf (c .book .phase .stage)) 5 then some (shownResult (c .book)) else none) else none;
+      result = if h .present then (if eqb (letterOf (c .stage)) 5 then some (shownResult (c .book)) else none) else none;
     }

@@ -1,29 +1,30 @@
-// The case (document 01): the book and the unit roll, and the thirteen calls. "Each call takes the case and hands the case back."
+// The case (document 01): its stage and its book, and the thirteen calls. "Each call takes the case and hands the case back."
 ghost use mathlib.Core.Path.{_≡_};
-ghost use mathlib.Core.Bool.{true};
+ghost use mathlib.Core.Bool.{Bool};
 ghost use mathlib.Core.List.{[], _∷_};
+ghost use mathlib.Core.Option.{some};
 ghost use Prim.Native.Nat.{_<_, _^_, min};
 ghost use lib.IntN.{subℕ};
-ghost use lib.ListN.{length, take};
-ghost use Rattle.machine.specs.Wire.{POOL, MEMBER, ROUND, BID, CLOSE, ALLOCATE, TEAR, CALL, PAY, MOVE, MISS, FINISH};
+ghost use lib.ListN.{length, set};
+ghost use Rattle.machine.specs.Wire.{POOL, MEMBER, BID, CLOSE, ALLOCATE, TEAR, CALL, PAY, MOVE, MISS, FINISH};
 ghost use Rattle.wire.specs.Asked.{asked};
-ghost use Rattle.roll.specs.Rolls.{countOf};
-ghost use Rattle.book.specs.Books.{memberBook, roundBook, bidBook, callBook, payBook, finishBook};
-ghost use Rattle.case.specs.Cases.{tallied, newCase, poolCase, closePool, closeCase, allocateCase, tearCase, moveCase, missCase};
-ghost use Rattle.case.specs.Cases.{withBook, reserveIf, firstAnswerTo, bookAnswerTo, answerTo, afterAsked, keepsUnitsAsked, bookAfterAsked, takeAsked, applied, headOutcome, outcomeOf, noHeld};
+ghost use Rattle.wire.specs.declared.Call.the-variants.{Round};
+ghost use Rattle.lists.specs.Lists.{if_then_else_};
+ghost use Rattle.units.specs.Shown.{countOf};
+ghost use Rattle.case.specs.Cases.{newCase, reserveIf, reservesAnswer, firstAnswerTo, caseAnswerTo, answerTo, afterAsked, takeAsked, applied, headOutcome, outcomeOf, noHeld};
 ghost use Rattle.case.specs.Readings.{holdingIn, sumOfPricesIn};
-ghost use Rattle.case.specs.Input.{fieldSize, Runs};
+ghost use Rattle.case.specs.Strings.{cutAt, stringsIn};
+ghost use Rattle.case.specs.Input.{frontSize, Cuts, Replays, TakesFields, Runs};
 use book::Book;
-use book::Phase;
 use book::Stage;
-use roll::Grant;
-use roll::Roll;
+use units::Units;
 use wire::Call;
 use wire::Head;
 
+// "The case holds its stage together with the round it belongs to".
 pub struct Case {
+    pub stage: Stage,
     pub book: Book,
-    pub roll: Roll,
 }
 
 // The answer to a call, and the case handed back.
@@ -44,30 +45,17 @@ pub struct Applied {
     pub held: Held,
 }
 
-// A book and a roll, with the roll's tally in the book.
-fn with_tally(book: Book, roll: Roll) -> Case
-    ensures { λ r. ⌜ r ≡ tallied book roll ⌝ }
-{
-    let bids = book.bids;
-    let prices = bids.price;
-    let tally = roll.tally(&prices);
-    let mut next = book;
-    next.tally = tally;
-    Case { book: next, roll }
+// What is held after the fields at an input's front, the bytes that they took, and how many they are.
+pub struct Front {
+    pub held: Held,
+    pub used: usize,
+    pub count: usize,
 }
 
-// The number of reserves that ROUND can have.
-fn at_most_four(n: u8) -> u8
-    ensures { λ r. ⌜ r ≡ min n 4 ⌝ }
-{
-    if n < 4 { n } else { 4 }
-}
-
-// A reserve of ROUND, and 0 behind its last.
-fn reserve_if(n: u8, i: u8, x: u32) -> u32
-    ensures { λ r. ⌜ r ≡ reserveIf n i x ⌝ }
-{
-    if i < n { x } else { 0 }
+// What `run` gives: how many fields were answered, and what is held then.
+pub struct Ran {
+    pub count: usize,
+    pub held: Held,
 }
 
 impl Held {
@@ -92,184 +80,286 @@ impl Held {
     }
 }
 
+// ---- the calls as methods
+
+// A reserve of ROUND, and 0 behind its last.
+fn reserve_if(n: u8, i: u8, x: u32) -> u32
+    ensures { λ r. ⌜ r ≡ reserveIf n i x ⌝ }
+{
+    if i < n { x } else { 0 }
+}
+
+// Why ROUND with n reserves is declined, or 0. As on the wire, it has one to four of them.
+fn reserves_answer(case: Case, n: u8, p: u32, q: u32, r: u32, s: u32) -> u8
+    ensures { λ x. ⌜ x ≡ reservesAnswer case n p q r s ⌝ }
+{
+    if lists::both(1 <= n, n <= 4) {
+        let book = case.book;
+        let stage = case.stage;
+        return book.round_answer(
+            stage,
+            n,
+            reserve_if(n, 0, p),
+            reserve_if(n, 1, q),
+            reserve_if(n, 2, r),
+            reserve_if(n, 3, s),
+        );
+    }
+    1
+}
+
 impl Case {
     // The case that HEAD makes.
     fn new(head: Head) -> Case
         ensures { λ r. ⌜ r ≡ newCase head ⌝ }
     {
+        let stage = Stage::Setup;
         Case {
+            stage,
             book: Book::new(head),
-            roll: Roll::new(),
         }
     }
 
-    // ---- the case after each accepted call
-
-    fn after_pool(self, pool: u8, units: u16, mark: u8) -> Case
-        ensures { λ r. ⌜ r ≡ poolCase self pool units mark ⌝ }
+    // A call that is declined hands the case back unchanged.
+    fn declined(self, answer: u8) -> Outcome
+        ensures { λ r. ⌜ r ≡ record { answer = answer; case = self } ⌝ }
     {
-        let mut book = self.book;
-        let pools = book.pools;
-        let more = pools.put(units as u64, mark);
-        book.pools = more;
-        let roll = self.roll;
-        with_tally(book, roll.put_up(pool, units as usize))
+        Outcome { answer, case: self }
     }
 
-    fn after_member(self, m: u8, contribution: u32, p: u16, q: u16, r: u16, s: u16) -> Case
-        ensures { λ x. ⌜ x ≡ withBook self (memberBook (self .book) m contribution p q r s) ⌝ }
+    // A call that is accepted hands back another.
+    fn accepted(stage: Stage, book: Book) -> Outcome
+        ensures { λ r. ⌜ r ≡ record { answer = 0; case = record { stage = stage; book = book } } ⌝ }
     {
-        let book = self.book;
-        let more = book.take_member(m, contribution, p, q, r, s);
-        let mut next = self;
-        next.book = more;
-        next
+        let case = Case { stage, book };
+        Outcome { answer: 0, case }
     }
 
-    fn after_round(self, p: u32, q: u32, r: u32, s: u32) -> Case
-        ensures { λ x. ⌜ x ≡ withBook self (roundBook (self .book) p q r s) ⌝ }
+    // HEAD: "an associated function makes a new case". Where its numbers are out of range no case is held.
+    pub fn head(head: Head) -> Applied
+        ensures { λ r. ⌜ r ≡ headOutcome head ⌝ }
     {
-        let book = self.book;
-        let more = book.take_round(p, q, r, s);
-        let mut next = self;
-        next.book = more;
-        next
-    }
-
-    fn after_bid(self, pool: u8, m: u8, units: u16, price: u32) -> Case
-        ensures { λ r. ⌜ r ≡ withBook self (bidBook (self .book) pool m units price) ⌝ }
-    {
-        let book = self.book;
-        let more = book.take_bid(pool, m, units, price);
-        let mut next = self;
-        next.book = more;
-        next
-    }
-
-    // CLOSE in one pool.
-    fn close_pool(self, pool: u8) -> Case
-        ensures { λ r. ⌜ r ≡ closePool self pool ⌝ }
-    {
-        let mut book = self.book;
-        let head = book.head;
-        if head.pools <= pool {
-            return self;
+        let answer = book::head_answer(head);
+        if answer != 0 {
+            let held = Held::none();
+            return Applied { answer, held };
         }
-        let round = book::round_of(book.phase);
-        let rounds = book.rounds;
-        let bids = book.bids;
-        let wins = bids.wins(
-            round,
-            pool,
-            book.open_units(pool),
-            rounds.reserve(round, pool),
+        let held = Held {
+            present: true,
+            case: Case::new(head),
+        };
+        Applied { answer: 0, held }
+    }
+
+    pub fn pool(self, pool: u8, units: u16, mark: u8) -> Outcome
+        ensures { λ r. ⌜ r ≡ outcomeOf self (some (POOL pool units mark)) ⌝ }
+    {
+        let stage = self.stage;
+        let book = self.book;
+        let answer = book.pool_answer(stage, pool, units, mark);
+        if answer != 0 {
+            return self.declined(answer);
+        }
+        Case::accepted(stage, book.take_pool(pool, units, mark))
+    }
+
+    pub fn member(self, m: u8, contribution: u32, p: u16, q: u16, r: u16, s: u16) -> Outcome
+        ensures { λ x. ⌜ x ≡ outcomeOf self (some (MEMBER m contribution (p ∷ q ∷ r ∷ s ∷ []))) ⌝ }
+    {
+        let stage = self.stage;
+        let book = self.book;
+        let answer = book.member_answer(stage, m, contribution, p, q, r, s);
+        if answer != 0 {
+            return self.declined(answer);
+        }
+        Case::accepted(stage, book.take_member(m, contribution, p, q, r, s))
+    }
+
+    // ROUND, of which the first n reserves count.
+    pub fn round(self, n: u8, p: u32, q: u32, r: u32, s: u32) -> Outcome
+        ensures { λ x. ⌜ x ≡ outcomeOf self (asked (Round n p q r s)) ⌝ }
+    {
+        let stage = self.stage;
+        let book = self.book;
+        let answer = reserves_answer(self, n, p, q, r, s);
+        if answer != 0 {
+            return self.declined(answer);
+        }
+        let next = Stage::Bidding(book::next_round(book::round_of(stage)));
+        let more = book.take_round(
+            reserve_if(n, 0, p),
+            reserve_if(n, 1, q),
+            reserve_if(n, 2, r),
+            reserve_if(n, 3, s),
         );
-        let won = bids.take_wins(round, pool, wins);
-        book.bids = won;
-        let roll = self.roll;
-        let grant = Grant::Sale;
-        let sold = roll.give(pool, grant, &wins);
-        Case { book, roll: sold }
+        Case::accepted(next, more)
     }
 
-    fn after_close(self) -> Case
-        ensures { λ r. ⌜ r ≡ closeCase self ⌝ }
+    pub fn bid(self, pool: u8, m: u8, units: u16, price: u32) -> Outcome
+        ensures { λ r. ⌜ r ≡ outcomeOf self (some (BID pool m units price)) ⌝ }
     {
-        let old = self.book;
-        let round = book::round_of(old.phase);
-        let done = self.close_pool(0).close_pool(1).close_pool(2).close_pool(3);
-        let mut book = done.book;
-        let members = book.members;
+        let stage = self.stage;
+        let book = self.book;
+        let answer = book.bid_answer(stage, pool, m, units, price);
+        if answer != 0 {
+            return self.declined(answer);
+        }
+        let round = book::round_of(stage);
+        Case::accepted(stage, book.take_bid(round, pool, m, units, price))
+    }
+
+    pub fn close(self) -> Outcome
+        ensures { λ r. ⌜ r ≡ outcomeOf self (some CLOSE) ⌝ }
+    {
+        let stage = self.stage;
+        let book = self.book;
+        let answer = book::close_answer(stage);
+        if answer != 0 {
+            return self.declined(answer);
+        }
+        let round = book::round_of(stage);
+        let next = Stage::After(round);
+        Case::accepted(next, book.take_close(round))
+    }
+
+    pub fn allocate(self, pool: u8, price: u32) -> Outcome
+        ensures { λ r. ⌜ r ≡ outcomeOf self (some (ALLOCATE pool price)) ⌝ }
+    {
+        let stage = self.stage;
+        let book = self.book;
+        let answer = book.allocate_answer(stage, pool, price);
+        if answer != 0 {
+            return self.declined(answer);
+        }
+        Case::accepted(stage, book.take_allocate(pool, price))
+    }
+
+    pub fn tear(self, pool: u8, price: u32) -> Outcome
+        ensures { λ r. ⌜ r ≡ outcomeOf self (some (TEAR pool price)) ⌝ }
+    {
+        let stage = self.stage;
+        let book = self.book;
+        let answer = book.tear_answer(stage, pool, price);
+        if answer != 0 {
+            return self.declined(answer);
+        }
+        Case::accepted(stage, book.take_tear(pool, price))
+    }
+
+    pub fn call(self) -> Outcome
+        ensures { λ r. ⌜ r ≡ outcomeOf self (some CALL) ⌝ }
+    {
+        let stage = self.stage;
+        let book = self.book;
+        let answer = book.call_answer(stage);
+        if answer != 0 {
+            return self.declined(answer);
+        }
+        let next = Stage::CallsOut;
+        Case::accepted(next, book.take_call())
+    }
+
+    pub fn pay(self, m: u8, amount: u32) -> Outcome
+        ensures { λ r. ⌜ r ≡ outcomeOf self (some (PAY m amount)) ⌝ }
+    {
+        let stage = self.stage;
+        let book = self.book;
+        let answer = book.pay_answer(stage, m, amount);
+        if answer != 0 {
+            return self.declined(answer);
+        }
+        Case::accepted(stage, book.take_pay(m, amount))
+    }
+
+    // MOVE; `move` is a word of the language.
+    pub fn move_units(self, m: u8) -> Outcome
+        ensures { λ r. ⌜ r ≡ outcomeOf self (some (MOVE m)) ⌝ }
+    {
+        let stage = self.stage;
+        let book = self.book;
+        let answer = book.move_answer(stage, m);
+        if answer != 0 {
+            return self.declined(answer);
+        }
+        Case::accepted(stage, book.take_move(m))
+    }
+
+    pub fn miss(self, m: u8, price: u32) -> Outcome
+        ensures { λ r. ⌜ r ≡ outcomeOf self (some (MISS m price)) ⌝ }
+    {
+        let stage = self.stage;
+        let book = self.book;
+        let answer = book.miss_answer(stage, m, price);
+        if answer != 0 {
+            return self.declined(answer);
+        }
+        Case::accepted(stage, book.take_miss(m, price))
+    }
+
+    pub fn finish(self) -> Outcome
+        ensures { λ r. ⌜ r ≡ outcomeOf self (some FINISH) ⌝ }
+    {
+        let stage = self.stage;
+        let book = self.book;
+        let answer = book.finish_answer(stage);
+        if answer != 0 {
+            return self.declined(answer);
+        }
+        let next = Stage::Finished;
+        Case::accepted(next, book)
+    }
+
+    // ---- what is read of a case
+
+    // How many units of a pool are open (0), sold (1), allocated (2), moved (3) or torn (4).
+    pub fn count(self, pool: u8, kind: u8) -> u64
+        ensures { λ r. ⌜ r ≡ countOf (self .book .units) (self .book .bids .pool) pool kind ⌝ }
+    {
+        let book = self.book;
         let bids = book.bids;
-        let won = members.win(bids.won_table());
-        book.members = won;
-        let stage = Stage::After(round);
-        let phase = Phase { stage };
-        book.phase = phase;
-        let roll = done.roll;
-        with_tally(book, roll)
+        let pools = bids.pool;
+        let units = book.units;
+        units.count(pool, kind, &pools)
     }
 
-    fn after_allocate(self, pool: u8, price: u32) -> Case
-        ensures { λ r. ⌜ r ≡ allocateCase self pool price ⌝ }
-    {
-        let mut book = self.book;
-        let shares = book.allocation(pool);
-        let members = book.members;
-        let more = members.allocate(pool, shares);
-        book.members = more;
-        let roll = self.roll;
-        let grant = Grant::Allocation { price };
-        with_tally(book, roll.give(pool, grant, &shares))
-    }
-
-    fn after_tear(self, pool: u8, price: u32) -> Case
-        ensures { λ r. ⌜ r ≡ tearCase self pool price ⌝ }
+    // The units of a pool that a member holds at a price.
+    pub fn holding(self, m: u8, pool: u8, price: u32) -> u64
+        ensures { λ r. ⌜ r ≡ holdingIn self m pool price ⌝ }
     {
         let book = self.book;
-        let roll = self.roll;
-        with_tally(book, roll.tear(pool, price))
-    }
-
-    fn after_call(self) -> Case
-        ensures { λ r. ⌜ r ≡ withBook self (callBook (self .book)) ⌝ }
-    {
-        let book = self.book;
-        let more = book.take_call();
-        let mut next = self;
-        next.book = more;
-        next
-    }
-
-    fn after_pay(self, m: u8, amount: u32) -> Case
-        ensures { λ r. ⌜ r ≡ withBook self (payBook (self .book) m amount) ⌝ }
-    {
-        let book = self.book;
-        let more = book.take_pay(m, amount);
-        let mut next = self;
-        next.book = more;
-        next
-    }
-
-    fn after_move(self, m: u8) -> Case
-        ensures { λ r. ⌜ r ≡ moveCase self m ⌝ }
-    {
-        let mut book = self.book;
-        let members = book.members;
-        let owed = members.owes(m);
-        let more = members.move_out(m);
-        book.members = more;
         let bids = book.bids;
+        let members = bids.member;
+        let pools = bids.pool;
         let prices = bids.price;
-        let roll = self.roll;
-        with_tally(book, roll.move_to(m, owed, &prices))
+        let units = book.units;
+        units.holding(m, pool, price, &members, &pools, &prices)
     }
 
-    fn after_miss(self, m: u8, price: u32) -> Case
-        ensures { λ r. ⌜ r ≡ missCase self m price ⌝ }
+    // The sum of the prices of the units not open, in cents.
+    pub fn sum_of_prices(self) -> i64
+        ensures { λ r. ⌜ r ≡ sumOfPricesIn self ⌝ }
     {
         let book = self.book;
-        let roll = self.roll;
-        with_tally(book, roll.miss(m, price))
-    }
-
-    fn after_finish(self) -> Case
-        ensures { λ r. ⌜ r ≡ withBook self (finishBook (self .book)) ⌝ }
-    {
-        let book = self.book;
-        let more = book.take_finish();
-        let mut next = self;
-        next.book = more;
-        next
+        difference(book.prices(), Units::ZERO_PRICES)
     }
 }
 
-// The answer to a call, from whether a case is held and its book.
-pub fn answer_to(present: bool, book: Book, call: Call) -> u8
-    ensures { λ r. ⌜ r ≡ answerTo present book (asked call) ⌝ }
+// a − b as a signed number.
+fn difference(a: u64, b: u64) -> i64
+    requires { ⌜ (a < 2 ^ 62) × (b < 2 ^ 62) ⌝ }
+    ensures { λ r. ⌜ r ≡ subℕ a b ⌝ }
+{
+    a as i64 - b as i64
+}
+
+// ---- any call
+
+// The answer to a call, from whether a case is held, and the case.
+pub fn answer_to(present: bool, case: Case, call: Call) -> u8
+    ensures { λ r. ⌜ r ≡ answerTo present case (asked call) ⌝ }
 {
     if present {
-        answer_in(book, call)
+        answer_in(case, call)
     } else {
         first_answer(call)
     }
@@ -295,12 +385,12 @@ fn first_answer(call: Call) -> u8
             d: _,
         } => 2,
         Call::Round {
-            count: _,
+            count,
             a: _,
             b: _,
             c: _,
             d: _,
-        } => 2,
+        } => lists::decline_if(!lists::both(1 <= count, count <= 4), 1, 2),
         Call::Bid {
             pool: _,
             member: _,
@@ -326,12 +416,14 @@ fn first_answer(call: Call) -> u8
 }
 
 // The answer to a call where a case is held.
-fn answer_in(book: Book, call: Call) -> u8
-    ensures { λ r. ⌜ r ≡ bookAnswerTo book (asked call) ⌝ }
+fn answer_in(case: Case, call: Call) -> u8
+    ensures { λ r. ⌜ r ≡ caseAnswerTo case (asked call) ⌝ }
 {
+    let book = case.book;
+    let stage = case.stage;
     match call {
         Call::Head(_) => 2,
-        Call::Pool { pool, units, mark } => book.pool_answer(pool, units, mark),
+        Call::Pool { pool, units, mark } => book.pool_answer(stage, pool, units, mark),
         Call::Member {
             member,
             contribution,
@@ -339,41 +431,33 @@ fn answer_in(book: Book, call: Call) -> u8
             b,
             c,
             d,
-        } => book.member_answer(member, contribution, a, b, c, d),
-        Call::Round { count, a, b, c, d } => {
-            book.round_answer(
-                at_most_four(count),
-                reserve_if(count, 0, a),
-                reserve_if(count, 1, b),
-                reserve_if(count, 2, c),
-                reserve_if(count, 3, d),
-            )
-        }
+        } => book.member_answer(stage, member, contribution, a, b, c, d),
+        Call::Round { count, a, b, c, d } => reserves_answer(case, count, a, b, c, d),
         Call::Bid {
             pool,
             member,
             units,
             price,
-        } => book.bid_answer(pool, member, units, price),
-        Call::Close => book.close_answer(),
-        Call::Allocate { pool, price } => book.allocate_answer(pool, price),
-        Call::Tear { pool, price } => book.tear_answer(pool, price),
-        Call::Call => book.call_answer(),
-        Call::Pay { member, amount } => book.pay_answer(member, amount),
-        Call::Move { member } => book.move_answer(member),
-        Call::Miss { member, price } => book.miss_answer(member, price),
-        Call::Finish => book.finish_answer(),
+        } => book.bid_answer(stage, pool, member, units, price),
+        Call::Close => book::close_answer(stage),
+        Call::Allocate { pool, price } => book.allocate_answer(stage, pool, price),
+        Call::Tear { pool, price } => book.tear_answer(stage, pool, price),
+        Call::Call => book.call_answer(stage),
+        Call::Pay { member, amount } => book.pay_answer(stage, member, amount),
+        Call::Move { member } => book.move_answer(stage, member),
+        Call::Miss { member, price } => book.miss_answer(stage, member, price),
+        Call::Finish => book.finish_answer(stage),
         Call::Unknown => 1,
     }
 }
 
-// The case after a call that was accepted.
-pub fn after(case: Case, call: Call) -> Case
-    ensures { λ r. ⌜ r ≡ afterAsked case (asked call) ⌝ }
+// The case that an accepted call hands back: HEAD makes a new one, the others are methods of the one held.
+fn after(case: Case, call: Call) -> Case
+    ensures { λ r. ⌜ ((present : Bool) → answerTo present case (asked call) ≡ 0 → r ≡ afterAsked case (asked call)) ⌝ }
 {
     match call {
         Call::Head(head) => Case::new(head),
-        Call::Pool { pool, units, mark } => case.after_pool(pool, units, mark),
+        Call::Pool { pool, units, mark } => case_of(case.pool(pool, units, mark)),
         Call::Member {
             member,
             contribution,
@@ -381,72 +465,104 @@ pub fn after(case: Case, call: Call) -> Case
             b,
             c,
             d,
-        } => case.after_member(member, contribution, a, b, c, d),
-        Call::Round { count, a, b, c, d } => {
-            case.after_round(
-                reserve_if(count, 0, a),
-                reserve_if(count, 1, b),
-                reserve_if(count, 2, c),
-                reserve_if(count, 3, d),
-            )
-        }
+        } => case_of(case.member(member, contribution, a, b, c, d)),
+        Call::Round { count, a, b, c, d } => case_of(case.round(count, a, b, c, d)),
         Call::Bid {
             pool,
             member,
             units,
             price,
-        } => case.after_bid(pool, member, units, price),
-        Call::Close => case.after_close(),
-        Call::Allocate { pool, price } => case.after_allocate(pool, price),
-        Call::Tear { pool, price } => case.after_tear(pool, price),
-        Call::Call => case.after_call(),
-        Call::Pay { member, amount } => case.after_pay(member, amount),
-        Call::Move { member } => case.after_move(member),
-        Call::Miss { member, price } => case.after_miss(member, price),
-        Call::Finish => case.after_finish(),
+        } => case_of(case.bid(pool, member, units, price)),
+        Call::Close => case_of(case.close()),
+        Call::Allocate { pool, price } => case_of(case.allocate(pool, price)),
+        Call::Tear { pool, price } => case_of(case.tear(pool, price)),
+        Call::Call => case_of(case.call()),
+        Call::Pay { member, amount } => case_of(case.pay(member, amount)),
+        Call::Move { member } => case_of(case.move_units(member)),
+        Call::Miss { member, price } => case_of(case.miss(member, price)),
+        Call::Finish => case_of(case.finish()),
         Call::Unknown => case,
     }
+}
+
+// The case of an outcome.
+fn case_of(outcome: Outcome) -> Case
+    ensures { λ r. ⌜ r ≡ outcome .case ⌝ }
+{
+    outcome.case
 }
 
 // A call taken: "Each gives its number and the unchanged case (none where there was none); 0 is accepted."
 pub fn take(held: Held, call: Call) -> Applied
     ensures { λ r. ⌜ r ≡ takeAsked held (asked call) ⌝ }
 {
-    let book = held.case.book;
-    let answer = answer_to(held.present, book, call);
+    let case = held.case;
+    let answer = answer_to(held.present, case, call);
     if answer != 0 {
         return Applied { answer, held };
     }
+    let next = Held {
+        present: true,
+        case: after(case, call),
+    };
     Applied {
-        answer,
-        held: accept(held, call),
+        answer: 0,
+        held: next,
     }
 }
 
-// One call, from ANY bytes.
+// One call, from any bytes: an unknown tag, a wrong length or bytes that are no field are answered 1.
 pub fn apply(held: Held, bytes: &[u8]) -> Applied
     ensures { λ r. ⌜ r ≡ applied held (now (bytes .entry)) ⌝ }
 {
     take(held, wire::read_call(bytes))
 }
 
-// What `run` gives: how many fields were answered, and what is held then.
-pub struct Ran {
-    pub count: usize,
-    pub held: Held,
+// ---- many calls
+
+// Where a string ends: an end below its begin or above the number of bytes is held to them.
+fn cut_at(at: usize, n: usize, end: usize) -> usize
+    ensures { λ r. ⌜ r ≡ cutAt at n end ⌝ }
+{
+    if end < at {
+        return at;
+    }
+    if end < n { end } else { n }
 }
 
-// The bytes of the first field of an input, or all that is left where it is cut off.
-pub fn field_size(input: &[u8]) -> usize
-    ensures { λ r. ⌜ r ≡ min (fieldSize (now (input .entry))) (length (now (input .entry))) ⌝ }
+// Writes an answer, where there is room.
+fn put(answers: &mut [u8], k: usize, answer: u8)
+    ensures { λ _. ⌜ now (answers .exit) ≡ set (now (answers .entry)) k answer ⌝ }
 {
-    let n = input.len();
-    if n < 3 {
-        return n;
+    if k < answers.len() {
+        answers[k] = answer;
     }
-    let size = 3 + wide(input[1]) * 256 + wide(input[2]);
-    if size < n { size } else { n }
 }
+
+// Byte strings taken in turn as calls, with an answer for each where there is room. The loop asks first: a call that is declined copies no case.
+pub fn replay(held: Held, bytes: &[u8], ends: &[usize], answers: &mut [u8]) -> Held
+    ensures { λ r. ⌜ Replays held (stringsIn (now (bytes .entry)) (now (ends .entry))) (now (answers .entry)) (now (answers .exit)) r ⌝ }
+{
+    let mut present = held.present;
+    let mut case = held.case;
+    let mut at: usize = 0;
+    let mut k: usize = 0;
+    while k < ends.len() {
+        let end = cut_at(at, bytes.len(), ends[k]);
+        let call = wire::read_call(&bytes[at..end]);
+        let answer = answer_to(present, case, call);
+        put(answers, k, answer);
+        at = end;
+        k += 1;
+        if answer == 0 {
+            present = true;
+            case = after(case, call);
+        }
+    }
+    Held { present, case }
+}
+
+// ---- the fields of an input
 
 // A byte as a wider number.
 fn wide(b: u8) -> usize
@@ -455,389 +571,93 @@ fn wide(b: u8) -> usize
     b as usize
 }
 
-// The fields of a whole input, taken in turn from no case on, as many as there is room for answers. The loop asks first: a call that is
-// declined copies no case, and one that leaves the units as they are copies no unit.
+// All n bytes where the input ends here, and else none.
+fn all_if(last: bool, n: usize) -> usize
+    ensures { λ r. ⌜ r ≡ (if last then n else 0) ⌝ }
+{
+    if last { n } else { 0 }
+}
+
+// The bytes of the first field of an input, and 0 where it is not all there. Where the input ends here, one that is cut off has all that is left.
+fn front_size(last: bool, input: &[u8]) -> usize
+    ensures { λ r. ⌜ r ≡ frontSize last (now (input .entry)) ⌝ }
+{
+    let n = input.len();
+    if n < 3 {
+        return all_if(last, n);
+    }
+    let size = 3 + wide(input[1]) * 256 + wide(input[2]);
+    if n < size { all_if(last, n) } else { size }
+}
+
+// The smaller of two numbers.
+fn least(a: usize, b: usize) -> usize
+    ensures { λ r. ⌜ r ≡ min a b ⌝ }
+{
+    if a < b { a } else { b }
+}
+
+// Where the fields at an input's front end, as many as there is room for.
+fn cut(last: bool, input: &[u8], room: usize, ends: &mut [usize]) -> usize
+    ensures { λ r. ⌜ Cuts last (now (input .entry)) room (now (ends .entry)) (now (ends .exit)) r ⌝ }
+{
+    let most = least(room, ends.len());
+    let mut at: usize = 0;
+    let mut k: usize = 0;
+    while k < most {
+        let size = front_size(last, &input[at..]);
+        if size == 0 {
+            return k;
+        }
+        at += size;
+        ends[k] = at;
+        k += 1;
+    }
+    k
+}
+
+// The fields at an input's front taken in turn, as many as there is room for answers and for where they end.
+pub fn take_fields(
+    held: Held,
+    last: bool,
+    input: &[u8],
+    ends: &mut [usize],
+    answers: &mut [u8],
+) -> Front
+    ensures { λ r. ⌜ TakesFields held last (now (input .entry)) (now (ends .entry)) (now (answers .entry)) (now (ends .exit)) (now (answers .exit)) r ⌝ }
+{
+    let count = cut(last, input, answers.len(), ends);
+    if count == 0 {
+        return Front {
+            held,
+            used: 0,
+            count,
+        };
+    }
+    let next = replay(held, input, &ends[0..count], answers);
+    Front {
+        held: next,
+        used: ends[count - 1],
+        count,
+    }
+}
+
+// The fields of a whole input, taken in turn from no case on, as many as there is room for answers.
 pub fn run(input: &[u8], answers: &mut [u8]) -> Ran
     ensures { λ r. ⌜ Runs (now (input .entry)) (now (answers .entry)) (now (answers .exit)) r ⌝ }
 {
-    let none = Held::none();
-    let mut present = none.present;
-    let mut case = none.case;
+    let mut held = Held::none();
+    let mut ends = [0usize; 256];
     let mut at: usize = 0;
     let mut count: usize = 0;
     while at < input.len() {
-        if answers.len() <= count {
-            let held = Held { present, case };
-            return Ran { count, held };
+        let front = take_fields(held, true, &input[at..], &mut ends, &mut answers[count..]);
+        if front.count == 0 {
+            break;
         }
-        let rest = &input[at..];
-        let size = field_size(rest);
-        let end = at + size;
-        let call = wire::read_call(&input[at..end]);
-        let book = case.book;
-        let answer = answer_to(present, book, call);
-        answers[count] = answer;
-        count += 1;
-        at = end;
-        if answer == 0 {
-            present = true;
-            if keeps_units(call) {
-                let old = case.book;
-                let more = book_after(old, call);
-                case.book = more;
-            } else {
-                case = after(case, call);
-            }
-        }
+        held = front.held;
+        at += front.used;
+        count += front.count;
     }
-    let held = Held { present, case };
     Ran { count, held }
-}
-
-// Whether a call that is accepted leaves the units as they are.
-pub fn keeps_units(call: Call) -> bool
-    ensures { λ r. ⌜ r ≡ keepsUnitsAsked (asked call) ⌝ }
-{
-    match call {
-        Call::Head(_) => false,
-        Call::Pool {
-            pool: _,
-            units: _,
-            mark: _,
-        } => false,
-        Call::Member {
-            member: _,
-            contribution: _,
-            a: _,
-            b: _,
-            c: _,
-            d: _,
-        } => true,
-        Call::Round {
-            count: _,
-            a: _,
-            b: _,
-            c: _,
-            d: _,
-        } => true,
-        Call::Bid {
-            pool: _,
-            member: _,
-            units: _,
-            price: _,
-        } => true,
-        Call::Close => false,
-        Call::Allocate { pool: _, price: _ } => false,
-        Call::Tear { pool: _, price: _ } => false,
-        Call::Call => true,
-        Call::Pay {
-            member: _,
-            amount: _,
-        } => true,
-        Call::Move { member: _ } => false,
-        Call::Miss {
-            member: _,
-            price: _,
-        } => false,
-        Call::Finish => true,
-        Call::Unknown => true,
-    }
-}
-
-// The book after such a call.
-pub fn book_after(book: Book, call: Call) -> Book
-    ensures { λ r. ⌜ r ≡ bookAfterAsked book (asked call) ⌝ }
-{
-    match call {
-        Call::Head(_) => book,
-        Call::Pool {
-            pool: _,
-            units: _,
-            mark: _,
-        } => book,
-        Call::Member {
-            member,
-            contribution,
-            a,
-            b,
-            c,
-            d,
-        } => book.take_member(member, contribution, a, b, c, d),
-        Call::Round { count, a, b, c, d } => {
-            book.take_round(
-                reserve_if(count, 0, a),
-                reserve_if(count, 1, b),
-                reserve_if(count, 2, c),
-                reserve_if(count, 3, d),
-            )
-        }
-        Call::Bid {
-            pool,
-            member,
-            units,
-            price,
-        } => book.take_bid(pool, member, units, price),
-        Call::Close => book,
-        Call::Allocate { pool: _, price: _ } => book,
-        Call::Tear { pool: _, price: _ } => book,
-        Call::Call => book.take_call(),
-        Call::Pay { member, amount } => book.take_pay(member, amount),
-        Call::Move { member: _ } => book,
-        Call::Miss {
-            member: _,
-            price: _,
-        } => book,
-        Call::Finish => book.take_finish(),
-        Call::Unknown => book,
-    }
-}
-
-// What is held after a call that was accepted.
-fn accept(held: Held, call: Call) -> Held
-    ensures { λ r. ⌜ r ≡ record { present = true; case = afterAsked (held .case) (asked call) } ⌝ }
-{
-    let case = held.case;
-    Held {
-        present: true,
-        case: after(case, call),
-    }
-}
-
-// ---- the calls as methods, and what outsiders read
-
-impl Case {
-    // HEAD: "an associated function makes a new case". Where its numbers are out of range no case is held.
-    pub fn head(head: Head) -> Applied
-        ensures { λ r. ⌜ r ≡ headOutcome head ⌝ }
-    {
-        let answer = book::head_answer(head);
-        let held = Held {
-            present: answer == 0,
-            case: Case::new(head),
-        };
-        Applied { answer, held }
-    }
-
-    // POOL
-    pub fn pool(self, pool: u8, units: u16, mark: u8) -> Outcome
-        ensures { λ r. ⌜ r ≡ outcomeOf self (POOL pool units mark) ⌝ }
-    {
-        let book = self.book;
-        let answer = book.pool_answer(pool, units, mark);
-        if answer != 0 {
-            return Outcome { answer, case: self };
-        }
-        Outcome {
-            answer,
-            case: self.after_pool(pool, units, mark),
-        }
-    }
-
-    // MEMBER
-    pub fn member(self, m: u8, contribution: u32, p: u16, q: u16, r: u16, s: u16) -> Outcome
-        ensures { λ x. ⌜ x ≡ outcomeOf self (MEMBER m contribution (p ∷ q ∷ r ∷ s ∷ [])) ⌝ }
-    {
-        let book = self.book;
-        let answer = book.member_answer(m, contribution, p, q, r, s);
-        if answer != 0 {
-            return Outcome { answer, case: self };
-        }
-        Outcome {
-            answer,
-            case: self.after_member(m, contribution, p, q, r, s),
-        }
-    }
-
-    // ROUND, with the reserves of pools 0 to 3; those of pools that the case lacks are left out.
-    pub fn round(self, n: u8, p: u32, q: u32, r: u32, s: u32) -> Outcome
-        ensures { λ x. ⌜ x ≡ outcomeOf self (ROUND (take n (p ∷ q ∷ r ∷ s ∷ []))) ⌝ }
-    {
-        let call = Call::Round {
-            count: n,
-            a: p,
-            b: q,
-            c: r,
-            d: s,
-        };
-        let book = self.book;
-        let answer = answer_in(book, call);
-        if answer != 0 {
-            return Outcome { answer, case: self };
-        }
-        Outcome {
-            answer,
-            case: after(self, call),
-        }
-    }
-
-    // BID
-    pub fn bid(self, pool: u8, m: u8, units: u16, price: u32) -> Outcome
-        ensures { λ r. ⌜ r ≡ outcomeOf self (BID pool m units price) ⌝ }
-    {
-        let book = self.book;
-        let answer = book.bid_answer(pool, m, units, price);
-        if answer != 0 {
-            return Outcome { answer, case: self };
-        }
-        Outcome {
-            answer,
-            case: self.after_bid(pool, m, units, price),
-        }
-    }
-
-    // CLOSE
-    pub fn close(self) -> Outcome
-        ensures { λ r. ⌜ r ≡ outcomeOf self CLOSE ⌝ }
-    {
-        let book = self.book;
-        let answer = book.close_answer();
-        if answer != 0 {
-            return Outcome { answer, case: self };
-        }
-        Outcome {
-            answer,
-            case: self.after_close(),
-        }
-    }
-
-    // ALLOCATE
-    pub fn allocate(self, pool: u8, price: u32) -> Outcome
-        ensures { λ r. ⌜ r ≡ outcomeOf self (ALLOCATE pool price) ⌝ }
-    {
-        let book = self.book;
-        let answer = book.allocate_answer(pool, price);
-        if answer != 0 {
-            return Outcome { answer, case: self };
-        }
-        Outcome {
-            answer,
-            case: self.after_allocate(pool, price),
-        }
-    }
-
-    // TEAR
-    pub fn tear(self, pool: u8, price: u32) -> Outcome
-        ensures { λ r. ⌜ r ≡ outcomeOf self (TEAR pool price) ⌝ }
-    {
-        let book = self.book;
-        let answer = book.tear_answer(pool, price);
-        if answer != 0 {
-            return Outcome { answer, case: self };
-        }
-        Outcome {
-            answer,
-            case: self.after_tear(pool, price),
-        }
-    }
-
-    // CALL
-    pub fn call(self) -> Outcome
-        ensures { λ r. ⌜ r ≡ outcomeOf self CALL ⌝ }
-    {
-        let book = self.book;
-        let answer = book.call_answer();
-        if answer != 0 {
-            return Outcome { answer, case: self };
-        }
-        Outcome {
-            answer,
-            case: self.after_call(),
-        }
-    }
-
-    // PAY
-    pub fn pay(self, m: u8, amount: u32) -> Outcome
-        ensures { λ r. ⌜ r ≡ outcomeOf self (PAY m amount) ⌝ }
-    {
-        let book = self.book;
-        let answer = book.pay_answer(m, amount);
-        if answer != 0 {
-            return Outcome { answer, case: self };
-        }
-        Outcome {
-            answer,
-            case: self.after_pay(m, amount),
-        }
-    }
-
-    // MOVE
-    pub fn move_units(self, m: u8) -> Outcome
-        ensures { λ r. ⌜ r ≡ outcomeOf self (MOVE m) ⌝ }
-    {
-        let book = self.book;
-        let answer = book.move_answer(m);
-        if answer != 0 {
-            return Outcome { answer, case: self };
-        }
-        Outcome {
-            answer,
-            case: self.after_move(m),
-        }
-    }
-
-    // MISS
-    pub fn miss(self, m: u8, price: u32) -> Outcome
-        ensures { λ r. ⌜ r ≡ outcomeOf self (MISS m price) ⌝ }
-    {
-        let book = self.book;
-        let answer = book.miss_answer(m, price);
-        if answer != 0 {
-            return Outcome { answer, case: self };
-        }
-        Outcome {
-            answer,
-            case: self.after_miss(m, price),
-        }
-    }
-
-    // FINISH
-    pub fn finish(self) -> Outcome
-        ensures { λ r. ⌜ r ≡ outcomeOf self FINISH ⌝ }
-    {
-        let book = self.book;
-        let answer = book.finish_answer();
-        if answer != 0 {
-            return Outcome { answer, case: self };
-        }
-        Outcome {
-            answer,
-            case: self.after_finish(),
-        }
-    }
-
-    // How many units of a pool are open (0), sold (1), allocated (2), moved (3) or torn (4).
-    pub fn count(self, pool: u8, kind: u8) -> u64
-        ensures { λ r. ⌜ r ≡ countOf (self .roll) pool kind ⌝ }
-    {
-        let roll = self.roll;
-        roll.count(pool, kind)
-    }
-
-    // The units of a pool that a member holds at a price.
-    pub fn holding(self, m: u8, pool: u8, price: u32) -> u64
-        ensures { λ r. ⌜ r ≡ holdingIn self m pool price ⌝ }
-    {
-        let roll = self.roll;
-        let book = self.book;
-        let bids = book.bids;
-        let members = bids.member;
-        let prices = bids.price;
-        roll.holding(m, pool, price, &members, &prices)
-    }
-
-    // The sum of the prices of the units not open, in cents.
-    pub fn sum_of_prices(self) -> i64
-        ensures { λ r. ⌜ r ≡ sumOfPricesIn self ⌝ }
-    {
-        let book = self.book;
-        difference(book.prices(), 1_000_000 * book.priced())
-    }
-}
-
-// a − b as a signed number.
-fn difference(a: u64, b: u64) -> i64
-    requires { ⌜ (a < 2 ^ 62) × (b < 2 ^ 62) ⌝ }
-    ensures { λ r. ⌜ r ≡ subℕ a b ⌝ }
-{
-    a as i64 - b as i64
 }

@@ -4,14 +4,17 @@ use mathlib.Core.List.{List, [], _∷_, _++_}
 use Prim.Native.Nat.{ℕ, zero, suc, _+_, _≤_, _<_, min}
 use native.Mathlib.Numerals.{add-one}
 use native.Mathlib.Omega.{arith}
+use lib.Dec.{leb}
 use lib.ListN.{length, getD, take, drop}
 use lib.Seq.{sets, drop-cons, drop-length, getD-take, length-take-le}
-use borrow.Author.Tests.{lt-ltb, le-ltb, eq-eqb, ne-eqb}
+use borrow.Author.Tests.{lt-ltb, le-ltb, eq-eqb, ne-eqb, leb-true}
+use Rattle.lists.specs.Lists.{if_then_else_, between}
+use Rattle.lists.proofs.Bools.{cases, either, and-right}
 use Rattle.wire.specs.Asked.{asked}
 use Rattle.wire.specs.declared.Call.{Call}
 use Rattle.wire.specs.declared.Call.the-variants.{Head as HeadCall, Pool, Member, Round, Bid, Close, Allocate, Tear, Call as CallCall, Pay, Move, Miss, Finish, Unknown}
 use Rattle.forms.specs.declared.Tagged.{Tagged}
-use Rattle.forms.specs.Forms.{kindOf, formOf, tagOf, numbersOf, flattened}
+use Rattle.forms.specs.Forms.{kindOf, formOf, tagOf, numbersOf, flatRound, flattened}
 use Rattle.forms.specs.Put.{Put}
 use Rattle.forms.specs.Encode.{bytesOf, widthOf, rawOf, fieldBytes, valueFrom, tagged, encodeForm, encodedInto, Written}
 
@@ -56,18 +59,28 @@ form-some (suc t) ns h = refl
 
 -- ---- a call of the program
 
-take-none : (n : ℕ) → take {A = ℕ} n [] ≡ []
-take-none zero = refl
-take-none (suc n) = refl
+first-four : (n a b c d : ℕ) → n ≤ 4 → take n (a ∷ b ∷ c ∷ d ∷ []) ≡ take n (a ∷ b ∷ c ∷ d ∷ 0 ∷ 0 ∷ 0 ∷ 0 ∷ [])
+first-four zero a b c d l = refl
+first-four (suc zero) a b c d l = refl
+first-four (suc (suc zero)) a b c d l = refl
+first-four (suc (suc (suc zero))) a b c d l = refl
+first-four (suc (suc (suc (suc zero)))) a b c d l = refl
+first-four (suc (suc (suc (suc (suc n))))) a b c d l = absurd (omega arith)
 
-first-four : (n a b c d : ℕ) → take n (a ∷ b ∷ c ∷ d ∷ []) ≡ take (min n 4) (a ∷ b ∷ c ∷ d ∷ 0 ∷ 0 ∷ 0 ∷ 0 ∷ [])
-first-four zero a b c d = refl
-first-four (suc zero) a b c d = refl
-first-four (suc (suc zero)) a b c d = refl
-first-four (suc (suc (suc zero))) a b c d = refl
-first-four (suc (suc (suc (suc n)))) a b c d =
-    let e : 4 ≡ min (suc (suc (suc (suc n)))) 4 = omega arith in
-    ap (λ (l : List ℕ). a ∷ b ∷ c ∷ d ∷ l) (take-none n) ∙ ap (λ (k : ℕ). take k (a ∷ b ∷ c ∷ d ∷ 0 ∷ 0 ∷ 0 ∷ 0 ∷ [])) e
+round-form : (n a b c d : ℕ) → formOf (asked (Round n a b c d)) ≡ (flatRound n a b c d .tag, take (flatRound n a b c d .count) (flatRound n a b c d .numbers))
+unfolding asked formOf tagOf numbersOf flatRound
+round-form n a b c d =
+    cases (between 1 4 n) _
+    (λ t. rw t (ap (λ (l : List ℕ). (4, l)) (first-four n a b c d (leb-true n 4 (and-right (leb 1 n) (leb n 4) t)))))
+    (λ t. rw t)
+
+round-few : (n a b c d : ℕ) → flatRound n a b c d .count ≤ 8
+unfolding flatRound
+round-few n a b c d = cases (between 1 4 n) _ (λ t. rw t (omega (arith, leb-true n 4 (and-right (leb 1 n) (leb n 4) t)))) (λ t. rw t (omega arith))
+
+pub round-tag : (n a b c d : ℕ) → flatRound n a b c d .tag ≤ 4
+unfolding flatRound
+round-tag n a b c d = either (λ (x : Tagged). x .tag ≤ 4) (between 1 4 n) (omega arith) (omega arith)
 
 -- its tag and numbers are those of the call that is asked for
 pub flat-form : (call : Call) → formOf (asked call) ≡ (flattened call .tag, take (flattened call .count) (flattened call .numbers))
@@ -75,7 +88,7 @@ unfolding asked formOf tagOf numbersOf flattened
 flat-form (HeadCall h) = refl
 flat-form (Pool pool units mark) = refl
 flat-form (Member m contribution a b c d) = refl
-flat-form (Round n a b c d) = ap (λ (l : List ℕ). (4, l)) (first-four n a b c d)
+flat-form (Round n a b c d) = round-form n a b c d
 flat-form (Bid pool m units price) = refl
 flat-form Close = refl
 flat-form (Allocate pool price) = refl
@@ -93,7 +106,7 @@ unfolding flattened
 flat-few (HeadCall h) = omega arith
 flat-few (Pool pool units mark) = omega arith
 flat-few (Member m contribution a b c d) = omega arith
-flat-few (Round n a b c d) = omega arith
+flat-few (Round n a b c d) = round-few n a b c d
 flat-few (Bid pool m units price) = omega arith
 flat-few Close = omega arith
 flat-few (Allocate pool price) = omega arith

@@ -2,10 +2,10 @@
 use mathlib.Core.Bool.{_&&_}
 use mathlib.Core.List.{List, [], _∷_}
 use mathlib.Core.Option.{Option, none, some}
-use Prim.Native.Nat.{ℕ, _+_, _*_, min}
+use Prim.Native.Nat.{ℕ, _+_, _*_}
 use lib.Dec.{ltb}
 use lib.ListN.{getD}
-use Rattle.lists.specs.Lists.{if_then_else_}
+use Rattle.lists.specs.Lists.{if_then_else_, between}
 use Rattle.machine.specs.Wire as Wire
 use Rattle.wire.specs.declared.Call.{Call}
 use Rattle.wire.specs.declared.Call.the-variants.{Head as HeadCall, Pool, Member, Round, Bid, Close, Allocate, Tear, Call as CallCall, Pay, Move, Miss, Finish, Unknown}
@@ -79,12 +79,16 @@ kindOf tag i = if ltb tag 14 && ltb i 8 then getD kinds (tag * 8 + i) 0 else 0
 abbrev pub flatOf : (tag count a b c d e f g h : ℕ) → Tagged
 flatOf tag count a b c d e f g h = record { tag = tag; count = count; numbers = a ∷ b ∷ c ∷ d ∷ e ∷ f ∷ g ∷ h ∷ [] }
 
--- the tag and the numbers of a call of the program; a ROUND has at most four reserves
+-- a ROUND has one to four reserves
+unfoldable pub flatRound : ℕ → ℕ → ℕ → ℕ → ℕ → Tagged
+flatRound n a b c d = if between 1 4 n then flatOf 4 n a b c d 0 0 0 0 else flatOf 0 0 0 0 0 0 0 0 0 0
+
+-- the tag and the numbers of a call of the program
 unfoldable pub flattened : Call → Tagged
 flattened (HeadCall h) = flatOf 1 8 (h .pools) (h .least) (h .set) (h .hedge) (h .other) (h .margin) (h .fund) (h .house)
 flattened (Pool pool units mark) = flatOf 2 3 pool units mark 0 0 0 0 0
 flattened (Member m contribution a b c d) = flatOf 3 6 m contribution a b c d 0 0
-flattened (Round n a b c d) = flatOf 4 (min n 4) a b c d 0 0 0 0
+flattened (Round n a b c d) = flatRound n a b c d
 flattened (Bid pool m units price) = flatOf 5 4 pool m units price 0 0 0 0
 flattened Close = flatOf 6 0 0 0 0 0 0 0 0 0
 flattened (Allocate pool price) = flatOf 7 2 pool price 0 0 0 0 0 0

@@ -4,7 +4,7 @@ ghost use mathlib.Core.List.{[], _∷_};
 ghost use Prim.Native.Nat.{_+_, _%_, _≤_, _<_, min};
 ghost use lib.ListN.{length, take};
 ghost use Rattle.wire.specs.Asked.{asked};
-ghost use Rattle.forms.specs.Forms.{kindOf, flatOf, flattened};
+ghost use Rattle.forms.specs.Forms.{kindOf, flatOf, flatRound, flattened};
 ghost use Rattle.forms.specs.Encode.{Written, tagged, bytesOf, rawOf, fieldBytes, valueFrom, encodedInto};
 ghost use Rattle.forms.specs.Put.{Put};
 use wire::Call;
@@ -167,13 +167,6 @@ fn two_wide(n: u16) -> u32
     n as u32
 }
 
-// The number of a ROUND's reserves, of which there are at most four.
-fn at_most_four(count: u8) -> usize
-    ensures { λ r. ⌜ r ≡ min count 4 ⌝ }
-{
-    if count < 4 { place(count) } else { 4 }
-}
-
 // A call by its tag and its first numbers, of up to six.
 fn flat_of(tag: u8, count: usize, a: u32, b: u32, c: u32, d: u32, e: u32, f: u32) -> Tagged
     ensures { λ r. ⌜ r ≡ flatOf tag count a b c d e f 0 0 ⌝ }
@@ -183,6 +176,16 @@ fn flat_of(tag: u8, count: usize, a: u32, b: u32, c: u32, d: u32, e: u32, f: u32
         count,
         numbers: [a, b, c, d, e, f, 0, 0],
     }
+}
+
+// ROUND, which has one to four reserves.
+fn flat_round(n: u8, a: u32, b: u32, c: u32, d: u32) -> Tagged
+    ensures { λ r. ⌜ r ≡ flatRound n a b c d ⌝ }
+{
+    if lists::both(1 <= n, n <= 4) {
+        return flat_of(4, place(n), a, b, c, d, 0, 0);
+    }
+    flat_of(0, 0, 0, 0, 0, 0, 0, 0)
 }
 
 fn flat_head(h: wire::Head) -> Tagged
@@ -239,7 +242,7 @@ pub fn flat(call: Call) -> Tagged
             two_wide(c),
             two_wide(d),
         ),
-        Call::Round { count, a, b, c, d } => flat_of(4, at_most_four(count), a, b, c, d, 0, 0),
+        Call::Round { count, a, b, c, d } => flat_round(count, a, b, c, d),
         Call::Bid {
             pool,
             member,

@@ -1,52 +1,62 @@
--- What `add_at` leaves, by cases, and sums by key one entry at a time. Assumes nothing.
+-- What `add_at` leaves, and sums by key one entry at a time. Assumes nothing.
 use mathlib.Core.Path.{_≡_, refl, sym, ap, _∙_}
-use mathlib.Core.Bool.{Bool, true, false, _&&_, and-false}
 use mathlib.Core.Logic.{⊎-elim}
 use mathlib.Core.List.{List, [], _∷_, map}
-use Prim.Native.Nat.{ℕ, _+_, _*_, _^_, _≤_, _<_}
-use native.Mathlib.Nat.{add-zero}
+use Prim.Native.Nat.{ℕ, zero, suc, _+_, _≤_, _<_, min}
+use native.Mathlib.Nat.{min-eq-left}
 use native.Mathlib.Numerals.{add-one}
 use native.Mathlib.Omega.{arith}
-use lib.Dec.{ltb, eqb}
+use lib.Dec.{eqb}
 use lib.ListN.{length, getD, set, take, replicate, length-set}
-use lib.Seq.{take-suc, getD-set-same, getD-set-other}
-use borrow.Author.Tests.{lt-ltb, le-ltb, eqb-true, eqb-false, ne-eqb}
+use lib.Seq.{take-suc, set-out, getD-set-same, getD-set-other, ext-getD}
+use borrow.Author.Tests.{eqb-true, eqb-false, ne-eqb}
 use Rattle.lists.specs.Lists.{if_then_else_, sum, sumTo, tab, sumByKey}
-use Rattle.lists.specs.Adding.{addAt}
-use Rattle.lists.proofs.Bools.{either, cases, lt-or-le, eqb-same}
+use Rattle.lists.specs.Adding.{addAt, heldTo}
+use Rattle.lists.proofs.Bools.{cases, lt-or-le, eqb-same}
 use Rattle.lists.proofs.Sums.{sum-append, sumTo-ext, sumTo-add, sumTo-zero}
-use Rattle.lists.proofs.Each.{Each, each-more, each-get, each-set, each-replicate, map-append}
-use Rattle.lists.proofs.Places.{tab-of, tab-same, length-tab, getD-tab, sum-tab}
+use Rattle.lists.proofs.Each.{Each, map-append, length-map}
+use Rattle.lists.proofs.Places.{tab-same, length-tab, getD-tab, sum-tab}
 use Rattle.lists.proofs.Keep.{sumTo-one}
 
-module _ (a : List ℕ) (k v : ℕ) where
-  pub added : k < length a → getD a k 0 + v < 2 ^ 64 → addAt a k v ≡ set a k (getD a k 0 + v)
+module _ (most : ℕ) (a : List ℕ) (k v : ℕ) where
+  -- a sum that fits
+  pub added : getD a k 0 + v ≤ most → addAt most a k v ≡ set a k (getD a k 0 + v)
   unfolding addAt
-  added h f = rw (lt-ltb k (length a) h, lt-ltb (getD a k 0 + v) (2 ^ 64) f)
+  added fits = ap (set a k) (min-eq-left fits)
 
-  pub added-over : 2 ^ 64 ≤ getD a k 0 + v → addAt a k v ≡ a
+  pub added-past : length a ≤ k → addAt most a k v ≡ a
   unfolding addAt
-  added-over f = rw (le-ltb (getD a k 0 + v) (2 ^ 64) f, and-false (ltb k (length a)))
+  added-past h = set-out a k (min (getD a k 0 + v) most) h
 
-  pub added-past : length a ≤ k → addAt a k v ≡ a
+  pub length-added : length (addAt most a k v) ≡ length a
   unfolding addAt
-  added-past h = rw (le-ltb k (length a) h)
+  length-added = length-set a k (min (getD a k 0 + v) most)
 
-  pub length-added : length (addAt a k v) ≡ length a
+  pub added-here : k < length a → getD (addAt most a k v) k 0 ≡ min (getD a k 0 + v) most
   unfolding addAt
-  length-added = go (ltb k (length a) && ltb (getD a k 0 + v) (2 ^ 64))
-    where
-      go : (b : Bool) → length (if b then set a k (getD a k 0 + v) else a) ≡ length a
-      go true = length-set a k (getD a k 0 + v)
-      go false = refl
+  added-here h = getD-set-same a k (min (getD a k 0 + v) most) 0 h
 
   -- another place
-  pub added-other : (i : ℕ) → (i ≡ k → ⊥) → getD (addAt a k v) i 0 ≡ getD a i 0
+  pub added-other : (i : ℕ) → (i ≡ k → ⊥) → getD (addAt most a k v) i 0 ≡ getD a i 0
   unfolding addAt
-  added-other i apart =
-      either (λ (l : List ℕ). getD l i 0 ≡ getD a i 0) (ltb k (length a) && ltb (getD a k 0 + v) (2 ^ 64))
-      (getD-set-other a k i (getD a k 0 + v) 0 apart)
-      refl
+  added-other i apart = getD-set-other a k i (min (getD a k 0 + v) most) 0 apart
+
+-- ---- numbers held to a width
+
+module _ (most : ℕ) where
+  pub length-held : (l : List ℕ) → length (heldTo most l) ≡ length l
+  unfolding heldTo
+  length-held l = length-map (λ n. min n most) l
+
+  pub held-at : (l : List ℕ) (k : ℕ) → getD (heldTo most l) k 0 ≡ min (getD l k 0) most
+  unfolding heldTo
+  held-at [] k = omega arith
+  held-at (x ∷ l) zero = refl
+  held-at (x ∷ l) (suc k) = held-at l k
+
+  -- all of them fit
+  pub held-same : (l : List ℕ) → ((k : ℕ) → k < length l → getD l k 0 ≤ most) → heldTo most l ≡ l
+  held-same l fits = ext-getD 0 (heldTo most l) l (length-held l) (λ k h. held-at l k ∙ min-eq-left (fits k (omega (arith, length-held l))))
 
 -- ---- sums by key, one entry after the other
 
@@ -67,80 +77,52 @@ module _ {A : Type 0} (n : ℕ) (key value : A → ℕ) where
   unfolding sumByKey sum
   sums-none = refl
 
-  -- one turn of a loop that adds up by key
-  module _ (l : List A) (i : ℕ) (d : A) (inside : i < length l) where
-    one-more : (k : ℕ) → sum (map (ofKey key value k) (take (i + 1) l)) ≡ sum (map (ofKey key value k) (take i l)) + ofKey key value k (getD l i d)
-    unfolding sum
-    one-more k = rw (add-one i, take-suc l i d inside, map-append (ofKey key value k) (take i l) (getD l i d ∷ []), sum-append) (omega arith)
+  -- a loop that adds up by key, with sums held to a width
+  module _ (most : ℕ) where
+    -- what it has after the first i entries of a list
+    abbrev pub tallied : List A → ℕ → List ℕ
+    tallied l i = heldTo most (sumByKey n key value (take i l))
 
-    abbrev at : ℕ
-    at = key (getD l i d)
+    pub tallied-long : (l : List A) (i : ℕ) → length (tallied l i) ≡ n
+    tallied-long l i = length-held most (sumByKey n key value (take i l)) ∙ length-sums (take i l)
 
-    abbrev more : ℕ
-    more = value (getD l i d)
+    pub tallied-none : (l : List A) → replicate n 0 ≡ tallied l 0
+    tallied-none l =
+        sym (tab-same n 0) ∙ sym (held-same most (tab n (λ k. 0)) (λ k h. rw (getD-tab {A = ℕ} n (λ k. 0) k 0 (omega (arith, length-tab {A = ℕ} n (λ k. 0)))) (omega arith)))
+        ∙ ap (heldTo most) (sym sums-none)
 
-    abbrev old : List ℕ
-    old = sumByKey n key value (take i l)
+    -- one turn
+    module _ (l : List A) (i : ℕ) (d : A) (inside : i < length l) where
+      abbrev at : ℕ
+      at = key (getD l i d)
 
-    sums-are : (xs : List ℕ) → length xs ≡ n → ((k : ℕ) → k < n → getD xs k 0 ≡ getD old k 0 + ofKey key value k (getD l i d)) → xs ≡ sumByKey n key value (take (i + 1) l)
-    unfolding sumByKey
-    sums-are xs long h =
-        tab-of n (λ k. sum (map (ofKey key value k) (take (i + 1) l))) 0 xs long
-        (λ k kn. omega (arith, h k kn, getD-sums (take i l) k kn, one-more k))
+      abbrev more : ℕ
+      more = value (getD l i d)
 
-    pub sums-next : getD old at 0 + more < 2 ^ 64 → addAt old at more ≡ sumByKey n key value (take (i + 1) l)
-    sums-next fits =
-        ⊎-elim
-        (λ h. added old at more (omega (arith, length-sums (take i l))) fits
-        ∙ sums-are (set old at (getD old at 0 + more)) (length-set old at (getD old at 0 + more) ∙ length-sums (take i l)) (here h))
-        (λ h. added-past old at more (omega (arith, length-sums (take i l))) ∙ sums-are old (length-sums (take i l)) (past h))
-        (lt-or-le at n)
-      where
-        here : at < n → (k : ℕ) → k < n → getD (set old at (getD old at 0 + more)) k 0 ≡ getD old k 0 + ofKey key value k (getD l i d)
-        here h k kn = cases (eqb at k) _
-            (λ t. let e = eqb-true at k t in
-            rw (t, ← e) (getD-set-same old at (getD old at 0 + more) 0 (omega (arith, length-sums (take i l)))))
-            (λ t. rw (t, add-zero) (getD-set-other old at k (getD old at 0 + more) 0 (λ e. eqb-false at k t (sym e))))
+      one-more : (k : ℕ) → sum (map (ofKey key value k) (take (i + 1) l)) ≡ sum (map (ofKey key value k) (take i l)) + ofKey key value k (getD l i d)
+      unfolding sum
+      one-more k = rw (add-one i, take-suc l i d inside, map-append (ofKey key value k) (take i l) (getD l i d ∷ []), sum-append) (omega arith)
 
-        past : n ≤ at → (k : ℕ) → k < n → getD old k 0 ≡ getD old k 0 + ofKey key value k (getD l i d)
-        past h k kn = rw (ne-eqb at k (omega arith), add-zero)
+      -- a sum after the turn
+      next-at : (k : ℕ) → k < n → getD (tallied l (i + 1)) k 0 ≡ min (sum (map (ofKey key value k) (take i l)) + ofKey key value k (getD l i d)) most
+      next-at k h = held-at most _ k ∙ rw (getD-sums (take (i + 1) l) k h, one-more k)
 
--- ---- sums that stay small
+      old-at : (k : ℕ) → k < n → getD (tallied l i) k 0 ≡ min (sum (map (ofKey key value k) (take i l))) most
+      old-at k h = held-at most _ k ∙ rw (getD-sums (take i l) k h)
 
--- one value more is at most b more
-pub added-small : (a : List ℕ) (k v m b : ℕ) → v ≤ b → Each (λ x. x ≤ m) a → Each (λ x. x ≤ m + b) (addAt a k v)
-unfolding addAt
-added-small a k v m b le small =
-    let wide = each-more (λ x. x ≤ m) (λ x. x ≤ m + b) (λ x h. omega arith) a small in
-    let old : getD a k 0 ≤ m = each-get (λ x. x ≤ m) a k 0 (omega arith) small in
-    either (Each (λ x. x ≤ m + b)) (ltb k (length a) && ltb (getD a k 0 + v) (2 ^ 64))
-    (each-set (λ x. x ≤ m + b) a k (getD a k 0 + v) (omega arith) wide)
-    wide
-
--- after i entries, each with a value of at most 32 bits
-pub record Tallied {A : Type 0} (n : ℕ) (key value : A → ℕ) (l : List A) (i : ℕ) (a : List ℕ) : Type 0 where
-  pub sums : a ≡ sumByKey n key value (take i l)
-  pub small : Each (λ x. x ≤ i * 2 ^ 32) a
-
-pub tallied-none : {A : Type 0} (n : ℕ) (key value : A → ℕ) (l : List A) → Tallied n key value l 0 (replicate n 0)
-unfolding sumByKey sum
-tallied-none n key value l = record { sums = sym (tab-same n 0); small = each-replicate (λ x. x ≤ 0 * 2 ^ 32) n 0 (omega arith) }
-
-pub tallied-long : {A : Type 0} {n : ℕ} {key value : A → ℕ} {l : List A} {i : ℕ} {a : List ℕ} → Tallied n key value l i a → length a ≡ n
-tallied-long {n = n} {key = key} {value = value} {l = l} {i = i} t = ap length (t .sums) ∙ length-sums n key value (take i l)
-
-pub tallied-next : {A : Type 0} (n : ℕ) (key value : A → ℕ) (l : List A) (i : ℕ) (a : List ℕ) (d : A) (k v : ℕ)
-    → k ≡ key (getD l i d) → v ≡ value (getD l i d) → i < length l → i < 4294967295 → v < 2 ^ 32 → Tallied n key value l i a → Tallied n key value l (i + 1) (addAt a k v)
-tallied-next n key value l i a d k v ek ev inside few fits t = record {
-  sums = rw (t .sums, ek, ev) (sums-next n key value l i d inside (rw (← t .sums, ← ek, ← ev) room));
-  small = rw (more-of i) (added-small a k v (i * 2 ^ 32) (2 ^ 32) (omega arith) (t .small));
-}
-  where
-    more-of : (i : ℕ) → (i + 1) * 2 ^ 32 ≡ i * 2 ^ 32 + 2 ^ 32
-    more-of i = omega arith
-
-    room : getD a k 0 + v < 2 ^ 64
-    room = omega (arith, each-get (λ x. x ≤ i * 2 ^ 32) a k 0 (omega arith) (t .small))
+      pub tallied-next : addAt most (tallied l i) at more ≡ tallied l (i + 1)
+      tallied-next =
+          ext-getD 0 _ _ (length-added most (tallied l i) at more ∙ tallied-long l i ∙ sym (tallied-long l (i + 1)))
+          (λ k h.
+          let kn : k < n = omega (arith, length-added most (tallied l i) at more, tallied-long l i) in
+          cases (eqb at k) _
+          (λ t.
+          let e = eqb-true at k t in
+          let here : getD (addAt most (tallied l i) at more) k 0 ≡ min (getD (tallied l i) k 0 + more) most =
+          rw (← e) (added-here most (tallied l i) at more (omega (arith, tallied-long l i))) in
+          here ∙ rw (old-at k kn, next-at k kn, t) (omega arith))
+          (λ t.
+          added-other most (tallied l i) at more k (λ e. eqb-false at k t (sym e)) ∙ rw (old-at k kn, next-at k kn, t) (omega arith)))
 
 -- ---- what sums by key add up to
 

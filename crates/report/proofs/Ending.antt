@@ -14,12 +14,12 @@ use Rattle.lists.proofs.Places.{length-tab, tab-ext}
 use Rattle.sets.specs.Set.{members}
 use Rattle.sets.proofs.Members.{members-few}
 use Rattle.waterfall.proofs.Layers.{charged-length}
+use Rattle.machine.specs.Roll.{Entry}
 use Rattle.machine.specs.State as M
 use Rattle.machine.specs.Run as Run
 use Rattle.machine.specs.Printed.{Line, pLine, lLine, mLine, endLines, text}
 use Rattle.machine.proofs.Invariant.{CaseOk}
 use Rattle.lines.specs.Placed.{lineText}
-use Rattle.roll.proofs.ViewCounts.{view-counts}
 use Rattle.accounts.proofs.ViewPools.{length-view}
 use Rattle.book.specs.Books.{requirementIn}
 use Rattle.book.specs.Stages.{letterOf}
@@ -31,7 +31,7 @@ use Rattle.case.specs.declared.Case.{Case}
 use Rattle.case.specs.declared.Held.{Held}
 use Rattle.case.specs.View.{view}
 use Rattle.case.specs.Readings.{countsIn, memberResultIn, shownResult}
-use Rattle.case.proofs.Observations.{result-shown}
+use Rattle.case.proofs.Observations.{counts-at, result-shown}
 use Rattle.case.proofs.Claim.{Tied}
 use Rattle.report.specs.Texts.{pLineOf, lLineOf, mLineOf, resultLines, finishLines, heldLines}
 use Rattle.report.proofs.Placing.{text-append, text-line}
@@ -40,14 +40,13 @@ use Rattle.report.proofs.Lines.{result-lines, held-some, held-none}
 
 -- ---- the lines
 
-p-shown : (c : Case) (pool : ℕ) → pLineOf c pool ≡ pLine (view c) pool
-unfolding pLineOf pLine countsIn
-p-shown c pool = ap (λ (ns : List ℕ). record { letter = 112; numbers = pool ∷ ns }) (view-counts (c .roll) pool)
-
-pools-shown : (c : Case) → tab (c .book .pools .given) (pLineOf c) ≡ tab (length (view c .pools)) (pLine (view c))
-pools-shown c =
-    tab-ext (c .book .pools .given) (pLineOf c) (pLine (view c)) (λ pool l. p-shown c pool)
-    ∙ ap (λ (n : ℕ). tab n (pLine (view c))) (sym (length-view (c .book .pools)))
+pools-shown : (c : Case) (roll : List Entry) → Sound (c .stage) (c .book) roll → CaseOk (view c roll)
+    → tab (c .book .pools .given) (pLineOf c) ≡ tab (length (view c roll .pools)) (pLine (view c roll))
+unfolding pLineOf pLine
+pools-shown c roll sound ok =
+    tab-ext (c .book .pools .given) (pLineOf c) (pLine (view c roll))
+    (λ pool l. ap (λ (ns : List ℕ). record { letter = 112; numbers = pool ∷ ns }) (counts-at c roll sound ok pool l))
+    ∙ ap (λ (n : ℕ). tab n (pLine (view c roll))) (sym (length-view (c .book .pools)))
 
 members-lines : (b : Book) (ms : List ℕ) → map (mLineOf (resultIn b)) ms ≡ map mLine (map (memberResultIn b) ms)
 unfolding mLineOf mLine
@@ -62,12 +61,12 @@ shown-lines : (b : Book) → resultLines (resultIn b) (b .head .set) ≡ linesOf
 unfolding resultLines lLineOf lLine shownResult
 shown-lines b = ap (λ (ls : List Line). lLineOf (resultIn b) ∷ ls) (members-lines b (members (b .head .set)))
 
-finish-shown : (c : Case) → Sound (c .book) (c .roll) → CaseOk (view c)
-    → finishLines (c .book) ≡ (if M.isF (some (view c)) then linesOf (Run.resultOf (view c)) else [])
+finish-shown : (c : Case) (roll : List Entry) → Sound (c .stage) (c .book) roll → CaseOk (view c roll)
+    → finishLines c ≡ (if M.isF (some (view c roll)) then linesOf (Run.resultOf (view c roll)) else [])
 unfolding finishLines M.letterOf
-finish-shown c sound ok =
-    ap (λ (ls : List Line). if eqb (letterOf (c .book .phase .stage)) 5 then ls else [])
-    (shown-lines (c .book) ∙ ap linesOf (result-shown c sound ok))
+finish-shown c roll sound ok =
+    ap (λ (ls : List Line). if eqb (letterOf (c .stage)) 5 then ls else [])
+    (shown-lines (c .book) ∙ ap linesOf (result-shown c roll sound ok))
 
 -- what is held shows the machine's state, and so do its lines
 pub ends-tied : (h : Held) (s : M.State) → Tied h s → heldLines h ≡ endLines s
@@ -75,7 +74,7 @@ unfolding endLines tab M.letterOf
 ends-tied h none t = sym (held-none h t)
 ends-tied h (some c) t =
     subst (λ (x : M.Case). heldLines h ≡ endLines (some x)) (t .shows)
-    (sym (held-some h (t .present)) ∙ ap₂ _++_ (pools-shown (h .case)) (finish-shown (h .case) (t .sound) (t .ok)))
+    (sym (held-some h (t .present)) ∙ ap₂ _++_ (pools-shown (h .case) (c .roll) (t .sound) (t .ok)) (finish-shown (h .case) (c .roll) (t .sound) (t .ok)))
 
 -- ---- their bytes
 
@@ -132,12 +131,13 @@ pools-most c =
       length-tab n (pLineOf c),
     )
 
-finish-most : (b : Book) → length (text (finishLines b)) ≤ 2922
+finish-most : (c : Case) → length (text (finishLines c)) ≤ 2922
 unfolding finishLines text
-finish-most b =
+finish-most c =
+    let b = c .book in
     let set = b .head .set in
     let ms = map (mLineOf (resultIn b)) (members set) in
-    either (λ (ls : List Line). length (text ls) ≤ 2922) (eqb (letterOf (b .phase .stage)) 5)
+    either (λ (ls : List Line). length (text ls) ≤ 2922) (eqb (letterOf (c .stage)) 5)
     (omega (
       arith,
       ap length (ap text (sym (result-lines (resultIn b) set)) ∙ text-line (lLineOf (resultIn b)) ms),
@@ -158,10 +158,10 @@ held-most h (some c) t =
     omega (
       arith,
       ap (λ (ls : List Line). length (text ls)) (held-some h (t .present)),
-      ap length (text-append ps (finishLines b)),
-      length-append (text ps) (text (finishLines b)),
+      ap length (text-append ps (finishLines (h .case))),
+      length-append (text ps) (text (finishLines (h .case))),
       pools-most (h .case),
-      finish-most b,
+      finish-most (h .case),
       length-view (b .pools),
       t .ok .pools .few,
       t .ok .head .pools-most,

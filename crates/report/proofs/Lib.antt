@@ -1,6 +1,7 @@
 pub mod Placing
 pub mod Widths
 pub mod Lines
+pub mod Wholes
 pub mod Taking
 pub mod Ending
 pub mod Splitting

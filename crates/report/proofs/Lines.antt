@@ -11,19 +11,20 @@ use Rattle.sets.specs.Set.{members, headOr}
 use Rattle.sets.proofs.Bits.{least, next-is}
 use Rattle.machine.specs.Printed.{Line, sLine}
 use Rattle.lines.specs.Placed.{lineOf}
-use Rattle.roll.specs.Rolls.{countOf}
+use Rattle.units.specs.Shown.{countOf}
 use Rattle.book.specs.Stages.{letterOf}
 use Rattle.book.specs.Results.{resultIn}
-use Rattle.book.specs.declared.Book.{Book}
 use Rattle.book.specs.declared.Result.{Result}
 use Rattle.case.specs.declared.Case.{Case}
 use Rattle.case.specs.declared.Held.{Held}
 use Rattle.case.specs.Readings.{countsIn}
 use Rattle.report.specs.Texts.{pLineOf, lLineOf, mLineOf, cutLines, resultLines, finishLines, heldLines}
 
-pub p-line : (c : Case) (pool a b d e f : ℕ) → a ≡ countOf (c .roll) pool 0 → b ≡ countOf (c .roll) pool 1 → d ≡ countOf (c .roll) pool 2
-    → e ≡ countOf (c .roll) pool 3
-    → f ≡ countOf (c .roll) pool 4
+-- how many units of a pool are of a kind
+abbrev counted : Case → ℕ → ℕ → ℕ
+counted c pool kind = countOf (c .book .units) (c .book .bids .pool) pool kind
+
+pub p-line : (c : Case) (pool a b d e f : ℕ) → a ≡ counted c pool 0 → b ≡ counted c pool 1 → d ≡ counted c pool 2 → e ≡ counted c pool 3 → f ≡ counted c pool 4
     → lineOf 112 6 (pool ∷ a ∷ b ∷ d ∷ e ∷ f ∷ 0 ∷ 0 ∷ []) ≡ pLineOf c pool
 unfolding pLineOf countsIn tab
 p-line c pool a b d e f p q r s t = λ i. record { letter = 112; numbers = pool ∷ p i ∷ q i ∷ r i ∷ s i ∷ t i ∷ [] }
@@ -77,19 +78,16 @@ pub result-lines : (r : Result) (set : ℕ) → lLineOf r ∷ map (mLineOf r) (m
 unfolding resultLines
 result-lines r set = refl
 
-pub not-finished : (b : Book) (n : ℕ) → n ≡ letterOf (b .phase .stage) → (n ≡ 5 → ⊥) → [] ≡ finishLines b
+pub not-finished : (c : Case) (n : ℕ) → n ≡ letterOf (c .stage) → (n ≡ 5 → ⊥) → [] ≡ finishLines c
 unfolding finishLines
-not-finished b n e h =
-    sym (ap (λ (t : Bool). if t then resultLines (resultIn b) (b .head .set) else []) (ne-eqb (letterOf (b .phase .stage)) 5 (λ f. h (e ∙ f))))
+not-finished c n e h = rw (ne-eqb (letterOf (c .stage)) 5 (λ f. h (e ∙ f)))
 
-pub finished : (b : Book) (n : ℕ) → n ≡ letterOf (b .phase .stage) → n ≡ 5 → (r : Result) → r ≡ resultIn b → resultLines r (b .head .set) ≡ finishLines b
+pub finished : (c : Case) (n : ℕ) → n ≡ letterOf (c .stage) → n ≡ 5 → (r : Result) → r ≡ resultIn (c .book) → resultLines r (c .book .head .set) ≡ finishLines c
 unfolding finishLines
-finished b n e h r f =
-    ap (λ (x : Result). resultLines x (b .head .set)) f
-    ∙ sym (ap (λ (t : Bool). if t then resultLines (resultIn b) (b .head .set) else []) (eq-eqb (letterOf (b .phase .stage)) 5 (sym e ∙ h)))
+finished c n e h r f = rw (eq-eqb (letterOf (c .stage)) 5 (sym e ∙ h), f)
 
 abbrev pub presentLines : Held → List Line
-presentLines h = tab (h .case .book .pools .given) (pLineOf (h .case)) ++ finishLines (h .case .book)
+presentLines h = tab (h .case .book .pools .given) (pLineOf (h .case)) ++ finishLines (h .case)
 
 pub held-some : (h : Held) → h .present ≡ true → presentLines h ≡ heldLines h
 unfolding heldLines

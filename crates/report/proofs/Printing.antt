@@ -3,10 +3,10 @@ use mathlib.Core.Path.{_≡_, refl, sym, ap, ap₂, subst, _∙_}
 use mathlib.Core.Bool.{true, false}
 use mathlib.Core.List.{List, [], _∷_, _++_, append-assoc}
 use mathlib.Core.Option.{none}
-use Prim.Native.Nat.{ℕ, _+_, _-_, _*_, _≤_, _<_}
+use Prim.Native.Nat.{ℕ, _+_, _*_, _≤_, _<_}
 use native.Mathlib.Omega.{arith}
-use lib.ListN.{length, take, drop, length-append, length-drop}
-use lib.Seq.{sets, take-all}
+use lib.ListN.{length, drop, length-append}
+use lib.Seq.{sets}
 use borrow.Author.Tests.{le-leb, lt-leb}
 use Rattle.lists.proofs.Each.{Each}
 use Rattle.machine.specs.State as M
@@ -17,15 +17,18 @@ use Rattle.lines.specs.Placed.{Placed}
 use Rattle.case.specs.declared.Held.{Held}
 use Rattle.case.specs.Cases.{applied, noHeld}
 use Rattle.case.specs.Claim.{Bytes}
-use Rattle.case.specs.Input.{ledgerAfter}
+use Rattle.case.specs.Strings.{bytesOf}
+use Rattle.case.specs.Input.{wholeFirst, ledgerAfter}
+use Rattle.case.proofs.Running.{after-two}
 use Rattle.case.proofs.Claim.{Tied, takes, ledger-tied, fields-bytes}
 use Rattle.report.specs.declared.Taken.{Taken}
-use Rattle.report.specs.Texts.{ledgerLines, heldLines, cutLines, placedLines, wholeFirst, bytesOf, PartTaken, takePart, TakesPart, Prints}
+use Rattle.report.specs.Texts.{ledgerLines, heldLines, cutLines, placedLines, PartTaken, takePart, TakesPart, Prints}
 use Rattle.report.specs.Parts.{whole, rest}
 use Rattle.report.proofs.Placing.{text-append, text-one, lines-then, lines-fit}
 use Rattle.report.proofs.Widths.{line-most}
 use Rattle.report.proofs.Ending.{ends-tied, held-most}
-use Rattle.report.proofs.Splitting.{cutFields, left-cut, fields-split, cut-lines, cut-after, lines-two, after-two}
+use Rattle.report.proofs.Splitting.{cutFields, left-cut, fields-split, cut-lines, cut-after}
+use Rattle.report.proofs.Taking.{lines-two}
 
 -- ---- the machine's lines are the program's
 
@@ -103,10 +106,6 @@ module _ (input : List ℕ) (bytes : Bytes input) where
 -- a buffer that is too small is untouched
 pub prints-none : (input old : List ℕ) → length old < 4 * length input + 4096 → Prints input old old (record { whole = false; len = 0 })
 prints-none input old h = record { whole = sym (lt-leb (4 * length input + 4096) (length old) h); len = refl; text = refl }
-
--- the part of the input as the code lends it
-pub rest-lent : (input : List ℕ) (used : ℕ) → take (length input - used) (drop used input) ≡ drop used input
-rest-lent input used = take-all (length input - used) (drop used input) (omega (arith, length-drop used input))
 
 -- the s lines of the whole fields
 abbrev lines : List ℕ → List Line

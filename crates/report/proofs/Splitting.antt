@@ -15,11 +15,13 @@ use Rattle.machine.specs.Wire.{decode}
 use Rattle.machine.specs.Printed.{Line, sLine, fieldsIn}
 use Rattle.case.specs.declared.Held.{Held}
 use Rattle.case.specs.declared.Applied.{Applied}
-use Rattle.case.specs.Cases.{bookAnswerTo, firstAnswerTo, answerTo, afterAsked, takeAsked, applied}
-use Rattle.case.specs.Input.{fieldSize, ledgerAfter}
-use Rattle.case.proofs.Fields.{first-size, size-cut, size-whole, fields-none, fields-more}
-use Rattle.report.specs.Texts.{wholeFirst, wholeFields, bytesOf, ledgerLines, cutLines}
-use Rattle.report.proofs.Taking as T
+use Rattle.case.specs.Cases.{caseAnswerTo, firstAnswerTo, answerTo, afterAsked, takeAsked, applied}
+use Rattle.case.specs.Strings.{bytesOf}
+use Rattle.case.specs.Input.{fieldSize, wholeFirst, frontFields, ledgerAfter}
+use Rattle.case.proofs.Fields.{first-size, size-whole, fields-none, fields-more}
+use Rattle.case.proofs.Fronts.{size-left}
+use Rattle.report.specs.Texts.{wholeFields, ledgerLines, cutLines}
+use Rattle.report.proofs.Wholes.{First, first-of, fields-next, fields-none as no-fields}
 
 -- what is left, as a field
 abbrev pub cutFields : List ℕ → List (List ℕ)
@@ -33,11 +35,11 @@ left k s = drop (bytesOf (wholeFields k s)) s
 -- ---- the fields
 
 -- the first field taken off
-left-next : (k : ℕ) (s : List ℕ) → T.First s (fieldSize s) → left (suc k) s ≡ left k (drop (fieldSize s) s)
+left-next : (k : ℕ) (s : List ℕ) → First s (fieldSize s) → left (suc k) s ≡ left k (drop (fieldSize s) s)
 unfolding bytesOf
 left-next k s f =
     let size = fieldSize s in
-    let e : wholeFields (suc k) s ≡ take size s ∷ wholeFields (suc k - 1) (drop size s) = T.fields-next (suc k) s size f (omega arith) in
+    let e : wholeFields (suc k) s ≡ take size s ∷ wholeFields (suc k - 1) (drop size s) = fields-next (suc k) s size f (omega arith) in
     let z : suc k - 1 ≡ k = omega arith in
     let b : bytesOf (wholeFields (suc k) s) ≡ size + bytesOf (wholeFields k (drop size s)) =
     ap bytesOf (rw z at e) ∙ ap (λ (n : ℕ). n + bytesOf (wholeFields k (drop size s))) (omega (arith, length-take size s, f .most)) in
@@ -45,48 +47,37 @@ left-next k s f =
 
 left-none : (k : ℕ) (s : List ℕ) → wholeFirst s ≡ false → left k s ≡ s
 unfolding bytesOf
-left-none k s w = ap (λ (fs : List (List ℕ)). drop (bytesOf fs) s) (T.fields-none k s w)
+left-none k s w = ap (λ (fs : List (List ℕ)). drop (bytesOf fs) s) (no-fields k s w)
 
 -- no whole field is left
 pub left-cut : (k : ℕ) (s : List ℕ) → length s ≤ k → wholeFirst (left k s) ≡ false
-unfolding wholeFields bytesOf
+unfolding frontFields bytesOf
 left-cut zero [] h = refl
 left-cut zero (x ∷ s) h = absurd (omega arith)
 left-cut (suc k) s h =
     cases (wholeFirst s) (wholeFirst (left (suc k) s) ≡ false)
     (λ w.
-    let f = T.first-of s (fieldSize s) w refl in
+    let f = first-of s (fieldSize s) w refl in
     ap wholeFirst (left-next k s f) ∙ left-cut k (drop (fieldSize s) s) (omega (arith, length-drop (fieldSize s) s, f .least)))
     (λ w. ap wholeFirst (left-none (suc k) s w) ∙ w)
 
--- a field that is not all there is all that is left
-size-left : (s : List ℕ) → wholeFirst s ≡ false → first-size s ≡ length s
-unfolding first-size
-size-left s w =
-    cases (leb 3 (length s)) (min (fieldSize s) (length s) ≡ length s)
-    (λ t.
-    cases (leb (fieldSize s) (length s)) (min (fieldSize s) (length s) ≡ length s)
-    (λ u. let e : true ≡ false = sym (and-both (leb 3 (length s)) (leb (fieldSize s) (length s)) t u) ∙ w in let z : _≡_ {A = ℕ} 0 1 = cc in absurd (omega arith))
-    (λ u. omega (arith, leb-false (fieldSize s) (length s) u)))
-    (λ t. sym (size-cut s (leb-false 3 (length s) t)))
-
-size-all : (s : List ℕ) → T.First s (fieldSize s) → first-size s ≡ fieldSize s
+size-all : (s : List ℕ) → First s (fieldSize s) → first-size s ≡ fieldSize s
 unfolding first-size
 size-all s f = omega (arith, f .most)
 
 pub fields-split : (k : ℕ) (s : List ℕ) → length s ≤ k → fieldsIn k s ≡ wholeFields k s ++ cutFields (left k s)
-unfolding wholeFields bytesOf
+unfolding frontFields bytesOf
 fields-split zero [] h = fields-none 0
 fields-split zero (x ∷ s) h = absurd (omega arith)
-fields-split (suc k) [] h = fields-none (suc k)
+fields-split (suc k) [] h = rw (no-fields (suc k) [] refl) (fields-none (suc k))
 fields-split (suc k) (x ∷ r) h =
     let s : List ℕ = x ∷ r in
     let more : fieldsIn (suc k) s ≡ take (first-size s) s ∷ fieldsIn k (drop (first-size s) s) = fields-more k s (omega arith) in
     cases (wholeFirst s) (fieldsIn (suc k) s ≡ wholeFields (suc k) s ++ cutFields (left (suc k) s))
     (λ w.
-    let f = T.first-of s (fieldSize s) w refl in
+    let f = first-of s (fieldSize s) w refl in
     let z : suc k - 1 ≡ k = omega arith in
-    let e : wholeFields (suc k) s ≡ take (fieldSize s) s ∷ wholeFields k (drop (fieldSize s) s) = rw z at (T.fields-next (suc k) s (fieldSize s) f (omega arith)) in
+    let e : wholeFields (suc k) s ≡ take (fieldSize s) s ∷ wholeFields k (drop (fieldSize s) s) = rw z at (fields-next (suc k) s (fieldSize s) f (omega arith)) in
     more
     ∙ ap (λ (n : ℕ). take n s ∷ fieldsIn k (drop n s)) (size-all s f)
     ∙ ap (λ (fs : List (List ℕ)). take (fieldSize s) s ∷ fs) (fields-split k (drop (fieldSize s) s) (omega (arith, length-drop (fieldSize s) s, f .least)))
@@ -98,7 +89,7 @@ fields-split (suc k) (x ∷ r) h =
     ∙ ap₂ (λ (f : List ℕ) (t : List ℕ). f ∷ fieldsIn k t) (take-length s) (drop-length s)
     ∙ ap (λ (fs : List (List ℕ)). s ∷ fs) (fields-none k)
     ∙ ap cutFields (sym (left-none (suc k) s w))
-    ∙ ap (λ (fs : List (List ℕ)). fs ++ cutFields (left (suc k) s)) (sym (T.fields-none (suc k) s w)))
+    ∙ ap (λ (fs : List (List ℕ)). fs ++ cutFields (left (suc k) s)) (sym (no-fields (suc k) s w)))
 
 -- ---- a field that is cut off is answered 1, and what is held stays
 
@@ -114,7 +105,7 @@ decode-cut (tag ∷ high ∷ low ∷ v) w =
     rw (ne-eqb (high * 256 + low) (length v) (λ e. omega (arith, size, more, e)), and-false (between 1 13 tag)) refl
 
 applied-cut : (h : Held) (s : List ℕ) → wholeFirst s ≡ false → _≡_ {A = Applied} (applied h s) (record { answer = 1; held = h })
-unfolding applied takeAsked answerTo bookAnswerTo firstAnswerTo
+unfolding applied takeAsked answerTo caseAnswerTo firstAnswerTo
 applied-cut h s w =
     ap (takeAsked h) (decode-cut s w)
     ∙ ap (λ (n : ℕ). record { answer = n; held = if eqb n 0 then record { present = true; case = afterAsked (h .case) none } else h }) (same-choice (h .present) 1)
@@ -128,15 +119,3 @@ pub cut-after : (h : Held) (s : List ℕ) → wholeFirst s ≡ false → ledgerA
 unfolding ledgerAfter
 cut-after h [] w = refl
 cut-after h (x ∷ s) w = ap (λ (o : Applied). o .held) (applied-cut h (x ∷ s) w)
-
--- ---- fields behind fields
-
-pub lines-two : (h : Held) (a b : List (List ℕ)) → ledgerLines h (a ++ b) ≡ ledgerLines h a ++ ledgerLines (ledgerAfter h a) b
-unfolding ledgerLines ledgerAfter
-lines-two h [] b = refl
-lines-two h (f ∷ a) b = ap (λ (ls : List Line). sLine f (applied h f .answer) ∷ ls) (lines-two (applied h f .held) a b)
-
-pub after-two : (h : Held) (a b : List (List ℕ)) → ledgerAfter h (a ++ b) ≡ ledgerAfter (ledgerAfter h a) b
-unfolding ledgerAfter
-after-two h [] b = refl
-after-two h (f ∷ a) b = after-two (applied h f .held) a b

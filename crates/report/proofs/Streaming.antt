@@ -12,32 +12,24 @@ use Rattle.lists.proofs.Bools.{cases, and-both}
 use Rattle.machine.specs.Printed.{Line, text}
 use Rattle.case.specs.declared.Held.{Held}
 use Rattle.case.specs.Cases.{noHeld}
-use Rattle.case.specs.Input.{fieldSize, ledgerAfter}
+use Rattle.case.specs.Strings.{bytesOf}
+use Rattle.case.specs.Input.{fieldSize, wholeFirst, frontFields, ledgerAfter}
 use Rattle.case.proofs.Fields.{size-whole}
-use Rattle.report.specs.Texts.{ledgerLines, cutLines, heldLines, wholeFirst, wholeFields, bytesOf}
+use Rattle.case.proofs.Fronts.{fields-all}
+use Rattle.case.proofs.Running.{after-two}
+use Rattle.report.specs.Texts.{ledgerLines, cutLines, heldLines, wholeFields}
 use Rattle.report.specs.Parts.{whole, rest, joined, streamed, Streams}
 use Rattle.report.proofs.Placing.{text-append}
-use Rattle.report.proofs.Taking.{First, first-of, fields-next, fields-none}
-use Rattle.report.proofs.Splitting.{left-cut, lines-two, after-two}
+use Rattle.report.proofs.Wholes.{First, first-of, fields-next, fields-none}
+use Rattle.report.proofs.Taking.{lines-two, bytes-two}
+use Rattle.report.proofs.Splitting.{left-cut}
 use Rattle.report.proofs.Printing.{printed-is}
 
 -- ---- the whole fields of bytes behind bytes
 
 -- as many fields as there are bytes are enough
 enough : (k j : ℕ) (s : List ℕ) → length s ≤ k → length s ≤ j → wholeFields k s ≡ wholeFields j s
-enough zero j [] h l = fields-none 0 [] refl ∙ sym (fields-none j [] refl)
-enough zero j (x ∷ s) h l = absurd (omega arith)
-enough (suc k) j s h l =
-    cases (wholeFirst s) (wholeFields (suc k) s ≡ wholeFields j s)
-    (λ w.
-    let f = first-of s (fieldSize s) w refl in
-    let d = length-drop (fieldSize s) s in
-    let z : suc k - 1 ≡ k = omega arith in
-    (rw z at (fields-next (suc k) s (fieldSize s) f (omega arith)))
-    ∙ ap (λ (fs : List (List ℕ)). take (fieldSize s) s ∷ fs)
-    (enough k (j - 1) (drop (fieldSize s) s) (omega (arith, d, f .least)) (omega (arith, d, f .least)))
-    ∙ sym (fields-next j s (fieldSize s) f (omega (arith, f .least, f .most))))
-    (λ w. fields-none (suc k) s w ∙ sym (fields-none j s w))
+enough k j s h l = fields-all false k s h ∙ sym (fields-all false j s l)
 
 size-append : (s t : List ℕ) → 3 ≤ length s → fieldSize (s ++ t) ≡ fieldSize s
 size-append [] t h = absurd (omega arith)
@@ -55,18 +47,13 @@ first-append s t f =
     (le-leb (fieldSize (s ++ t)) (length (s ++ t)) (omega (arith, e, l, f .most))))
     (sym e)
 
-bytes-append : (a b : List (List ℕ)) → bytesOf (a ++ b) ≡ bytesOf a + bytesOf b
-unfolding bytesOf
-bytes-append [] b = omega arith
-bytes-append (f ∷ a) b = omega (arith, bytes-append a b)
-
 -- the whole fields of s, and of what is left of it with t behind it, are those of both
 pub record Apart (k : ℕ) (s t : List ℕ) : Type 0 where
   pub fits : bytesOf (wholeFields k s) ≤ length s
   pub fields : whole (s ++ t) ≡ wholeFields k s ++ whole (drop (bytesOf (wholeFields k s)) s ++ t)
 
 fields-apart : (k : ℕ) (s t : List ℕ) → length s ≤ k → Apart k s t
-unfolding bytesOf wholeFields
+unfolding bytesOf frontFields
 fields-apart zero [] t h = record { fits = omega arith; fields = refl }
 fields-apart zero (x ∷ s) t h = absurd (omega arith)
 fields-apart (suc k) s t h =
@@ -117,7 +104,7 @@ printed-then h s t =
     let more = whole (rest s ++ t) in
     let r : rest (s ++ t) ≡ rest (rest s ++ t) =
     ap (λ (fs : List (List ℕ)). drop (bytesOf fs) (s ++ t)) (a .fields)
-    ∙ ap (λ (n : ℕ). drop n (s ++ t)) (bytes-append (whole s) more)
+    ∙ ap (λ (n : ℕ). drop n (s ++ t)) (bytes-two (whole s) more)
     ∙ sym (drop-drop (bytesOf more) (bytesOf (whole s)) (s ++ t))
     ∙ ap (drop (bytesOf more)) (drop-append-le (bytesOf (whole s)) s t (a .fits)) in
     let last : List Line = cutLines (rest (rest s ++ t)) ++ heldLines (ledgerAfter held more) in

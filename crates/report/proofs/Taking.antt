@@ -1,87 +1,188 @@
 -- What holds at each turn of `take_part`: the s lines written so far, and those of the whole fields left from what is held, are the s lines of all
 -- whole fields; and what is held after the fields left is what is held after all. Assumes nothing.
-use mathlib.Core.Path.{_≡_, refl, sym, ap, _∙_}
-use mathlib.Core.Bool.{true, false}
+use mathlib.Core.Path.{_≡_, refl, sym, ap, ap₂, _∙_}
+use mathlib.Core.Bool.{Bool, true, false}
 use mathlib.Core.List.{List, [], _∷_, _++_, append-assoc, append-nil}
-use Prim.Native.Nat.{ℕ, zero, suc, _+_, _-_, _*_, _/_, _≤_, _<_}
+use Prim.Native.Nat.{ℕ, zero, suc, _+_, _-_, _*_, _/_, _≤_, _<_, min}
 use native.Mathlib.Omega.{arith}
-use lib.Dec.{leb}
+use lib.Dec.{leb, eqb}
 use lib.ListN.{length, getD, take, drop, length-append, length-take, length-drop, drop-of-length-le}
 use lib.Seq.{sets, length-sets, drop-cons, drop-drop, take-all}
-use borrow.Author.Tests.{le-leb, lt-leb, leb-true}
-use Rattle.lists.proofs.Bools.{cases, and-left, and-right}
+use borrow.Author.Tests.{le-leb, lt-leb, leb-true, eqb-true, eqb-false}
+use Rattle.lists.specs.Lists.{tab}
+use Rattle.lists.proofs.Bools.{cases, and-left, and-right, either}
+use Rattle.lists.proofs.Each.{Each, each-at}
+use Rattle.lists.proofs.Places.{tab-of}
 use Rattle.machine.specs.Printed.{Line, sLine, text}
 use Rattle.lines.specs.Placed.{Placed, placed, lineText}
 use Rattle.lines.proofs.Stores.{sets-then}
-use Rattle.lines.proofs.Numbers.{placed-fits}
 use Rattle.case.specs.declared.Held.{Held}
-use Rattle.case.specs.declared.Applied.{Applied}
+use Rattle.case.specs.declared.Front.{Front}
 use Rattle.case.specs.Cases.{applied}
-use Rattle.case.specs.Input.{fieldSize, ledgerAfter}
+use Rattle.case.specs.Claim.{Bytes}
+use Rattle.case.specs.Strings.{inFront, endsFrom, bytesOf}
+use Rattle.case.specs.Input.{fieldSize, wholeFirst, frontSize, frontFields, ledgerAfter, ledgerAnswers, FieldsTaken}
 use Rattle.case.proofs.Fields.{size-whole}
-use Rattle.case.proofs.Running.{fieldAt}
-use Rattle.report.specs.Texts.{ledgerLines, wholeFirst, wholeSize, wholeFields, bytesOf, takePart, TakesPart}
-use Rattle.report.proofs.Placing.{text-append, text-one}
+use Rattle.case.proofs.Strings.{front-at, ends-long, take-bytes}
+use Rattle.case.proofs.Decoded.{drop-bytes}
+use Rattle.case.proofs.Fronts.{front-most, front-none, front-next, front-zero, bytes-most, fields-most, fields-few, fields-chunk, rest-all, no-entry, fields-stop}
+use Rattle.case.proofs.Running.{after-two, answers-long}
+use Rattle.case.proofs.Small.{answer-most}
+use Rattle.report.specs.Texts.{ledgerLines, wholeFields, startOf, answerLine, takePart, TakesPart, placedLines}
+use Rattle.report.specs.Parts.{whole}
+use Rattle.report.proofs.Placing.{text-append, text-line, text-one, lines-fit}
 use Rattle.report.proofs.Widths.{s-line-most}
 
--- ---- the first field of a part
+-- ---- whole fields
 
--- it is all there, and has some bytes
-pub record First (s : List ℕ) (size : ℕ) : Type 0 where
-  pub whole : wholeFirst s ≡ true
-  pub is : size ≡ fieldSize s
-  pub least : 3 ≤ size
-  pub most : size ≤ length s
+-- a whole field has three bytes or more
+size-three : (s : List ℕ) → (frontSize false s ≡ 0 → ⊥) → 3 ≤ frontSize false s
+unfolding frontSize
+size-three s more =
+    cases (wholeFirst s) _
+    (λ w. rw w (omega (arith, size-whole s (leb-true 3 (length s) (and-left (leb 3 (length s)) _ w)))))
+    (λ w. absurd (more (rw w)))
 
-pub size-none : (s : List ℕ) → length s < 3 → 0 ≡ wholeSize s
-unfolding wholeSize
-size-none s h = rw (lt-leb 3 (length s) h) refl
+module _ (P : List ℕ → Type 0) (s : List ℕ) (holds : (at : ℕ) → at < length s → 3 ≤ frontSize false (drop at s) → P (take (frontSize false (drop at s)) (drop at s))) where
+  -- what holds of each field that can begin in the input holds of all of them
+  each-whole : (n at : ℕ) → Each P (wholeFields n (drop at s))
+  each-whole zero at = rw (front-zero false (drop at s)) tt
+  each-whole (suc n) at =
+      let rest = drop at s in
+      let size = frontSize false rest in
+      cases (eqb size 0) _
+      (λ t. rw (front-none false (suc n) rest (eqb-true size 0 t)) tt)
+      (λ t.
+      let more = eqb-false size 0 t in
+      let three = size-three rest more in
+      rw (front-next false n rest more, drop-drop size at s) (holds at (omega (arith, front-most false rest, length-drop at s)) three, each-whole n (at + size)))
 
-pub size-cut : (s : List ℕ) → 3 ≤ length s → length s < fieldSize s → 0 ≡ wholeSize s
-unfolding wholeSize
-size-cut s h l = rw (le-leb 3 (length s) h, lt-leb (fieldSize s) (length s) l) refl
+three-bytes : (s : List ℕ) (n : ℕ) → Each (λ f. 3 ≤ length f) (wholeFields n s)
+three-bytes s n =
+    each-whole (λ f. 3 ≤ length f) s
+    (λ at l three. omega (arith, length-take (frontSize false (drop at s)) (drop at s), front-most false (drop at s)))
+    n 0
 
-pub size-all : (s : List ℕ) → 3 ≤ length s → fieldSize s ≤ length s → fieldSize s ≡ wholeSize s
-unfolding wholeSize
-size-all s h l = rw (le-leb 3 (length s) h, le-leb (fieldSize s) (length s) l) refl
+field-bytes : (s : List ℕ) (n : ℕ) → Bytes s → Each Bytes (wholeFields n s)
+field-bytes s n b = each-whole Bytes s (λ at l three. take-bytes (frontSize false (drop at s)) (drop at s) (drop-bytes at s b)) n 0
 
-pub first-of : (s : List ℕ) (size : ℕ) → wholeFirst s ≡ true → size ≡ fieldSize s → First s size
-first-of s size w i =
-    let three : 3 ≤ length s = leb-true 3 (length s) (and-left (leb 3 (length s)) (leb (fieldSize s) (length s)) w) in
-    record {
-      whole = w;
-      is = i;
-      least = omega (arith, i, size-whole s three);
-      most = omega (arith, i, leb-true (fieldSize s) (length s) (and-right (leb 3 (length s)) (leb (fieldSize s) (length s)) w));
-    }
+-- ---- their s lines
 
-module _ (s : List ℕ) (size : ℕ) (e : size ≡ wholeSize s) where
-  pub first-whole : (size ≡ 0 → ⊥) → First s size
-  unfolding wholeSize
-  first-whole some =
-      cases (wholeFirst s) (First s size) (λ w. first-of s size w (e ∙ rw w refl)) (λ w. absurd (some (e ∙ rw w refl)))
+-- a field's line needs its tag only
+tag-line : (f : List ℕ) (n : ℕ) → 3 ≤ length f → sLine f n ≡ sLine (getD f 0 0 ∷ []) n
+unfolding sLine
+tag-line [] n l = absurd (omega arith)
+tag-line (x ∷ f) n l = refl
 
-  pub first-cut : size ≡ 0 → wholeFirst s ≡ false
-  unfolding wholeSize
-  first-cut z =
-      cases (wholeFirst s) (wholeFirst s ≡ false)
-      (λ w.
-      let f : First s size = first-of s size w (e ∙ rw w refl) in
-      absurd (omega (arith, z, f .least)))
-      (λ w. w)
+-- where field k begins, where the first begins at a place
+startFrom : ℕ → List ℕ → ℕ → ℕ
+startFrom at ends zero = at
+startFrom at ends (suc k) = getD ends k 0
 
--- the whole fields, where the first is all there
-pub fields-next : (n : ℕ) (s : List ℕ) (size : ℕ) → First s size → 0 < n → wholeFields n s ≡ take size s ∷ wholeFields (n - 1) (drop size s)
-unfolding wholeFields
-fields-next zero s size f h = absurd (omega arith)
-fields-next (suc n) s size f h =
-    let k : suc n - 1 ≡ n = omega arith in
-    rw (k, f .is, wholeFields, f .whole) refl
+start-is : (ends : List ℕ) (k : ℕ) → startFrom 0 ends k ≡ startOf ends k
+unfolding startFrom
+start-is ends zero = refl
+start-is ends (suc k) = refl
 
-pub fields-none : (n : ℕ) (s : List ℕ) → wholeFirst s ≡ false → wholeFields n s ≡ []
-unfolding wholeFields
-fields-none zero s e = refl
-fields-none (suc n) s e = rw (wholeFields, e) refl
+start-next : (at end : ℕ) (ends : List ℕ) (j : ℕ) → startFrom at (end ∷ ends) (suc j) ≡ startFrom end ends j
+unfolding startFrom
+start-next at end ends zero = refl
+start-next at end ends (suc j) = refl
+
+first-byte : (s : List ℕ) (at size : ℕ) → at < length s → 3 ≤ size → getD (take size (drop at s)) 0 0 ≡ getD s at 0
+first-byte s at zero l three = absurd (omega arith)
+first-byte s at (suc size) l three = rw (drop-cons s at 0 l)
+
+-- the tag of each field stands where the field before it ends
+tag-next : (s f : List ℕ) (fs : List (List ℕ)) (at k : ℕ) → getD f 0 0 ≡ getD s at 0
+    → ((j : ℕ) → j < length fs → getD (getD fs j []) 0 0 ≡ getD s (startFrom (at + length f) (endsFrom (at + length f) fs) j) 0)
+    → k < length (f ∷ fs) → getD (getD (f ∷ fs) k []) 0 0 ≡ getD s (startFrom at (endsFrom at (f ∷ fs)) k) 0
+unfolding endsFrom startFrom
+tag-next s f fs at zero first later l = first
+tag-next s f fs at (suc j) first later l =
+    later j (omega arith) ∙ ap (λ (p : ℕ). getD s p 0) (sym (start-next at (at + length f) (endsFrom (at + length f) fs) j))
+
+tag-at : (s : List ℕ) (n at k : ℕ) → k < length (wholeFields n (drop at s))
+    → getD (getD (wholeFields n (drop at s)) k []) 0 0 ≡ getD s (startFrom at (endsFrom at (wholeFields n (drop at s))) k) 0
+tag-at s zero at k l = absurd (omega (arith, ap length (front-zero false (drop at s))))
+tag-at s (suc n) at k l =
+    let rest = drop at s in
+    let size = frontSize false rest in
+    cases (eqb size 0) _
+    (λ t. absurd (omega (arith, ap length (front-none false (suc n) rest (eqb-true size 0 t)))))
+    (λ t.
+    let more = eqb-false size 0 t in
+    let three = size-three rest more in
+    let here : at < length s = omega (arith, front-most false rest, length-drop at s) in
+    let next : wholeFields (suc n) rest ≡ take size rest ∷ wholeFields n (drop (at + size) s) = front-next false n rest more ∙ ap (λ (r : List ℕ). take size rest ∷ wholeFields n r) (drop-drop size at s) in
+    let long : length (take size rest) ≡ size = omega (arith, length-take size rest, front-most false rest) in
+    rw next (tag-next s (take size rest) (wholeFields n (drop (at + size) s)) at k (first-byte s at size here three) (rw long (tag-at s n (at + size))) (rw next at l)))
+
+line-at : (h : Held) (fs : List (List ℕ)) (k : ℕ) → k < length fs → (d : Line) → getD (ledgerLines h fs) k d ≡ sLine (getD fs k []) (getD (ledgerAnswers h fs) k 0)
+unfolding ledgerLines ledgerAnswers
+line-at h [] k l d = absurd (omega arith)
+line-at h (f ∷ fs) zero l d = refl
+line-at h (f ∷ fs) (suc k) l d = line-at (applied h f .held) fs k (omega arith) d
+
+lines-long : (h : Held) (fs : List (List ℕ)) → length (ledgerLines h fs) ≡ length fs
+unfolding ledgerLines
+lines-long h [] = refl
+lines-long h (f ∷ fs) = ap suc (lines-long (applied h f .held) fs)
+
+-- the lines that `write_answers` puts are the s lines of the fields
+module _ (h : Held) (input : List ℕ) (n : ℕ) (ends answers ends' answers' : List ℕ) (front : Front) (taken : FieldsTaken h (wholeFields n input) ends answers ends' answers' front)
+    (room : length (wholeFields n input) ≤ length ends) (space : length (wholeFields n input) ≤ length answers) where
+  abbrev fs : List (List ℕ)
+  fs = wholeFields n input
+
+  start-at : (k : ℕ) → k < length fs → startFrom 0 (endsFrom 0 fs) k ≡ startOf ends' k
+  unfolding startFrom
+  start-at zero l = refl
+  start-at (suc k) l =
+      sym (ap (λ (xs : List ℕ). getD xs k 0) (taken .places) ∙ front-at (endsFrom 0 fs) ends k (omega (arith, ends-long 0 fs)) (omega (arith, ends-long 0 fs)))
+
+  pub lines-are : tab (length fs) (answerLine input ends' answers') ≡ ledgerLines h fs
+  unfolding answerLine
+  lines-are =
+      sym (tab-of (length fs) (answerLine input ends' answers') (sLine [] 0) (ledgerLines h fs) (lines-long h fs)
+      (λ k l.
+      line-at h fs k l (sLine [] 0)
+      ∙ tag-line (getD fs k []) (getD (ledgerAnswers h fs) k 0) (each-at (λ f. 3 ≤ length f) fs k [] l (three-bytes input n))
+      ∙ ap₂ (λ (tag : ℕ) (a : ℕ). sLine (tag ∷ []) a)
+      (tag-at input n 0 k l ∙ ap (λ (p : ℕ). getD input p 0) (start-at k l))
+      (sym (ap (λ (xs : List ℕ). getD xs k 0) (taken .told) ∙ front-at (ledgerAnswers h fs) answers k (omega (arith, answers-long h fs)) (omega (arith, answers-long h fs))))))
+
+-- an s line has fewer bytes than four times its field
+lines-short : (h : Held) (fs : List (List ℕ)) → Each (λ f. 3 ≤ length f) fs → Each Bytes fs → length (text (ledgerLines h fs)) ≤ 4 * bytesOf fs
+unfolding text ledgerLines bytesOf
+lines-short h [] three bytes = omega arith
+lines-short h (f ∷ fs) three bytes =
+    let a = applied h f .answer in
+    let line : length (lineText (sLine f a)) ≤ 10 = rw (tag-line f a (three .0)) (s-line-most (getD f 0 0) a (first-small f (bytes .0)) (omega (arith, answer-most h f))) in
+    omega (
+      arith,
+      ap length (text-line (sLine f a) (ledgerLines (applied h f .held) fs)),
+      length-append (lineText (sLine f a)) (text (ledgerLines (applied h f .held) fs)),
+      line,
+      three .0,
+      lines-short (applied h f .held) fs (three .1) (bytes .1),
+    )
+  where
+    first-small : (f : List ℕ) → Bytes f → getD f 0 0 < 256
+    first-small [] b = omega arith
+    first-small (x ∷ f) b = b .0
+
+-- ---- fields behind fields
+
+pub lines-two : (h : Held) (a b : List (List ℕ)) → ledgerLines h (a ++ b) ≡ ledgerLines h a ++ ledgerLines (ledgerAfter h a) b
+unfolding ledgerLines ledgerAfter
+lines-two h [] b = refl
+lines-two h (f ∷ a) b = ap (λ (ls : List Line). sLine f (applied h f .answer) ∷ ls) (lines-two (applied h f .held) a b)
+
+pub bytes-two : (a b : List (List ℕ)) → bytesOf (a ++ b) ≡ bytesOf a + bytesOf b
+unfolding bytesOf
+bytes-two [] b = omega arith
+bytes-two (f ∷ a) b = omega (arith, bytes-two a b)
 
 -- ---- the loop
 
@@ -90,14 +191,12 @@ pub record Taking (h : Held) (input old new : List ℕ) (held : Held) (used writ
   pub size : length new ≡ length old
   pub room : 4 * length input ≤ length old
   pub short : written ≤ 4 * used
-  pub fuel : ℕ
-  pub enough : length input - used ≤ fuel
   pub done : List Line
   pub told : written ≡ length (text done)
   pub out : new ≡ sets old 0 (text done)
-  pub lines : done ++ ledgerLines held (wholeFields fuel (drop used input)) ≡ ledgerLines h (wholeFields (length input) input)
-  pub ends : ledgerAfter held (wholeFields fuel (drop used input)) ≡ ledgerAfter h (wholeFields (length input) input)
-  pub counted : used + bytesOf (wholeFields fuel (drop used input)) ≡ bytesOf (wholeFields (length input) input)
+  pub lines : done ++ ledgerLines held (whole (drop used input)) ≡ ledgerLines h (whole input)
+  pub leads : ledgerAfter held (whole (drop used input)) ≡ ledgerAfter h (whole input)
+  pub counted : used + bytesOf (whole (drop used input)) ≡ bytesOf (whole input)
 
 pub starts : (h : Held) (input old : List ℕ) → length input ≤ length old / 4 → Taking h input old old h 0 0
 unfolding text
@@ -107,67 +206,68 @@ starts h input old r =
       size = refl;
       room = omega arith;
       short = omega arith;
-      fuel = length input;
-      enough = omega arith;
       done = [];
       told = refl;
       out = refl;
       lines = refl;
-      ends = refl;
+      leads = refl;
       counted = omega arith;
     }
 
-module _ (h : Held) (input old new : List ℕ) (held : Held) (used written : ℕ) (g : Taking h input old new held used written) (p : used < length input) (size : ℕ) (e : size ≡ wholeSize (drop used input)) (some : size ≡ 0 → ⊥) where
-  first : First (drop used input) size
-  first = first-whole (drop used input) size e some
+-- the rest of the input, as the code lends it
+pub lent : (held : Held) (input : List ℕ) (used n : ℕ) (ends answers ends' answers' : List ℕ) (front : Front)
+    → FieldsTaken held (wholeFields n (take (length input - used) (drop used input))) ends answers ends' answers' front
+    → FieldsTaken held (wholeFields n (drop used input)) ends answers ends' answers' front
+lent held input used n ends answers ends' answers' front taken = rw (rest-all input used) at taken
 
-  pub field-ends : used + size ≤ length input
-  field-ends = omega (arith, first .most, length-drop used input)
+module _ (h : Held) (input old new : List ℕ) (held : Held) (used written : ℕ) (g : Taking h input old new held used written) (bytes : Bytes input) (ends answers ends' answers' : List ℕ)
+    (front : Front) (taken : FieldsTaken held (wholeFields (min (length answers) (length ends)) (drop used input)) ends answers ends' answers' front) where
+  abbrev rest : List ℕ
+  rest = drop used input
 
-  -- what is left is less
-  pub field-some : length input - (used + size) < length input - used
-  field-some = omega (arith, first .least, field-ends)
+  abbrev m : ℕ
+  m = min (length answers) (length ends)
 
-  next : wholeFields (g .fuel) (drop used input) ≡ fieldAt input used size ∷ wholeFields (g .fuel - 1) (drop (used + size) input)
-  next =
-      fields-next (g .fuel) (drop used input) size first (omega (arith, g .enough))
-      ∙ ap (λ (s : List ℕ). fieldAt input used size ∷ wholeFields (g .fuel - 1) s) (drop-drop size used input)
+  abbrev gs : List (List ℕ)
+  gs = wholeFields m rest
 
-  field-length : length (fieldAt input used size) ≡ size
-  field-length = omega (arith, length-take size (drop used input), first .most)
+  few : length gs ≤ m
+  few = fields-most false m rest
 
-  -- the s line needs the field's tag only
-  same-line : (n : ℕ) → sLine (fieldAt input used size) n ≡ sLine (getD input used 0 ∷ []) n
-  unfolding sLine
-  same-line n = by-size size (first .least)
-    where
-      by-size : (k : ℕ) → 3 ≤ k → sLine (take k (drop used input)) n ≡ sLine (getD input used 0 ∷ []) n
-      by-size zero h = absurd (omega arith)
-      by-size (suc k) h = rw (drop-cons input used 0 p) refl
+  pub used-within : (used + front .used ≤ length input) × (front .count ≤ front .used)
+  used-within = (
+    omega (arith, taken .used, bytes-most false m rest, length-drop used input, g .place),
+    omega (arith, taken .used, taken .count, fields-few false m rest),
+  )
 
-  pub goes : (o : Applied) → o ≡ applied held (fieldAt input used size) → getD input used 0 < 256 → o .answer < 256
-      → (r : ℕ) (last : List ℕ) → _≡_ {A = Placed} (r, last) (placed (lineText (sLine (getD input used 0 ∷ []) (o .answer))) new written)
-      → Taking h input old last (o .held) (used + size) r
-  unfolding ledgerLines ledgerAfter bytesOf
-  goes o f tag answer r last w =
-      let line = sLine (getD input used 0 ∷ []) (o .answer) in
-      let t = lineText line in
-      let most : length t ≤ 10 = s-line-most (getD input used 0) (o .answer) tag answer in
-      let three = first .least in
-      let fe = field-ends in
-      let fits : _≡_ {A = Placed} (r, last) (written + length t, sets new written t) = w ∙ placed-fits t new written (omega (arith, g .size, g .room, g .short)) in
+  -- what is left behind these fields
+  left : whole rest ≡ gs ++ whole (drop (used + bytesOf gs) input)
+  left = fields-chunk false m rest ∙ ap (λ (r : List ℕ). gs ++ whole r) (drop-drop (bytesOf gs) used input)
+
+  short-lines : length (text (ledgerLines held gs)) ≤ 4 * bytesOf gs
+  short-lines = lines-short held gs (three-bytes rest m) (field-bytes rest m (drop-bytes used input bytes))
+
+  pub goes : (r : ℕ) (last : List ℕ) → _≡_ {A = Placed} (r, last) (placedLines (tab (front .count) (answerLine (take (length input - used) rest) ends' answers')) new written)
+      → Taking h input old last (front .held) (used + front .used) r
+  goes r last w =
+      let ls = ledgerLines held gs in
+      let t = text ls in
+      let same : tab (front .count) (answerLine rest ends' answers') ≡ ls =
+      ap (λ (n : ℕ). tab n (answerLine rest ends' answers')) (taken .count) ∙ lines-are held rest m ends answers ends' answers' front taken (omega (arith, few)) (omega (arith, few)) in
+      let within = used-within .0 in
+      let fits : _≡_ {A = Placed} (r, last) (written + length t, sets new written t) =
+      w ∙ ap (λ (r : List ℕ). placedLines (tab (front .count) (answerLine r ends' answers')) new written) (rest-all input used) ∙ ap (λ (l : List Line). placedLines l new written) same
+      ∙ lines-fit ls new written (omega (arith, g .size, g .room, g .short, short-lines, taken .used)) in
       let to : r ≡ written + length t = ap (λ (q : Placed). q .0) fits in
       let from : written ≡ 0 + length (text (g .done)) = omega (arith, g .told) in
-      let left = wholeFields (g .fuel - 1) (drop (used + size) input) in
-      let all : text (g .done ++ (line ∷ [])) ≡ text (g .done) ++ t = text-append (g .done) (line ∷ []) ∙ ap (λ (x : List ℕ). text (g .done) ++ x) (text-one line) in
-      record {
-        place = fe;
+      let all : text (g .done ++ ls) ≡ text (g .done) ++ t = text-append (g .done) ls in
+      let behind = whole (drop (used + bytesOf gs) input) in
+      rw (taken .held, taken .used) (record {
+        place = omega (arith, within, taken .used);
         size = ap (λ (q : Placed). length (q .1)) fits ∙ length-sets new written t ∙ g .size;
         room = g .room;
-        short = omega (arith, g .short);
-        fuel = g .fuel - 1;
-        enough = omega (arith, g .enough);
-        done = g .done ++ (line ∷ []);
+        short = omega (arith, g .short, short-lines, to);
+        done = g .done ++ ls;
         told = to ∙ ap (λ (k : ℕ). k + length t) (g .told) ∙ sym (length-append (text (g .done)) t) ∙ ap length (sym all);
         out =
             ap (λ (q : Placed). q .1) fits
@@ -176,14 +276,20 @@ module _ (h : Held) (input old new : List ℕ) (held : Held) (used written : ℕ
             ∙ sets-then old 0 (text (g .done)) t
             ∙ ap (sets old 0) (sym all);
         lines =
-            append-assoc (g .done) (line ∷ []) (ledgerLines (o .held) left)
-            ∙ ap (λ (x : Line). g .done ++ (x ∷ ledgerLines (o .held) left)) (sym (same-line (o .answer)))
-            ∙ ap (λ (q : Applied). g .done ++ (sLine (fieldAt input used size) (q .answer) ∷ ledgerLines (q .held) left)) f
-            ∙ ap (λ (fs : List (List ℕ)). g .done ++ ledgerLines held fs) (sym next)
+            append-assoc (g .done) ls (ledgerLines (ledgerAfter held gs) behind)
+            ∙ ap (λ (x : List Line). g .done ++ x) (sym (lines-two held gs behind) ∙ ap (ledgerLines held) (sym left))
             ∙ g .lines;
-        ends = ap (λ (q : Applied). ledgerAfter (q .held) left) f ∙ ap (ledgerAfter held) (sym next) ∙ g .ends;
-        counted = omega (arith, ap bytesOf next, field-length, g .counted);
-      }
+        leads = sym (after-two held gs behind) ∙ ap (ledgerAfter held) (sym left) ∙ g .leads;
+        counted = omega (arith, g .counted, ap bytesOf left, bytes-two gs behind);
+      })
+
+  -- where none was taken, no whole field is left
+  pub none-left : 0 < length answers → 0 < length ends → front .count ≡ 0 → whole rest ≡ []
+  unfolding bytesOf
+  none-left some-answers some-ends none-there =
+      let empty : length gs ≡ 0 = omega (arith, taken .count) in
+      let stop : frontSize false (drop (bytesOf gs) rest) ≡ 0 = fields-stop false m rest (omega arith) in
+      front-none false (length rest) rest (ap (λ (fs : List (List ℕ)). frontSize false (drop (bytesOf fs) rest)) (sym (no-entry gs empty)) ∙ stop)
 
 -- nothing is taken from a part for which there is no room
 pub takes-none : (h : Held) (input old : List ℕ) → length old / 4 < length input → TakesPart h input old old (record { held = h; used = 0; written = 0 })
@@ -197,17 +303,15 @@ takes-none h input old r =
     }
 
 -- no whole field is left
-pub takes : (h : Held) (input old new : List ℕ) (held : Held) (used written : ℕ) → Taking h input old new held used written → wholeFirst (drop used input) ≡ false
+pub takes : (h : Held) (input old new : List ℕ) (held : Held) (used written : ℕ) → Taking h input old new held used written → whole (drop used input) ≡ []
     → TakesPart h input old new (record { held = held; used = used; written = written })
 unfolding takePart ledgerLines ledgerAfter bytesOf
-takes h input old new held used written g w =
-    let none : wholeFields (g .fuel) (drop used input) ≡ [] = fields-none (g .fuel) (drop used input) w in
-    let done : g .done ≡ ledgerLines h (wholeFields (length input) input) =
-    sym (append-nil (g .done)) ∙ ap (λ (fs : List (List ℕ)). g .done ++ ledgerLines held fs) (sym none) ∙ g .lines in
-    let after : held ≡ ledgerAfter h (wholeFields (length input) input) = ap (ledgerAfter held) (sym none) ∙ g .ends in
-    let bytes : used ≡ bytesOf (wholeFields (length input) input) = omega (arith, ap bytesOf none, g .counted) in
-    let told : written ≡ length (text (ledgerLines h (wholeFields (length input) input))) = g .told ∙ ap (λ (ls : List Line). length (text ls)) done in
-    let out : new ≡ sets old 0 (text (ledgerLines h (wholeFields (length input) input))) = g .out ∙ ap (λ (ls : List Line). sets old 0 (text ls)) done in
+takes h input old new held used written g stop =
+    let done : g .done ≡ ledgerLines h (whole input) = sym (append-nil (g .done)) ∙ (rw stop at (g .lines)) in
+    let after : held ≡ ledgerAfter h (whole input) = rw stop at (g .leads) in
+    let bytes : used ≡ bytesOf (whole input) = omega (arith, rw stop at (g .counted)) in
+    let told : written ≡ length (text (ledgerLines h (whole input))) = g .told ∙ ap (λ (ls : List Line). length (text ls)) done in
+    let out : new ≡ sets old 0 (text (ledgerLines h (whole input))) = g .out ∙ ap (λ (ls : List Line). sets old 0 (text ls)) done in
     record {
       is = rw (le-leb (4 * length input) (length old) (g .room)) (λ i. (record { held = after i; used = bytes i; written = told i }, out i));
       used = g .place;
@@ -215,11 +319,6 @@ takes h input old new held used written g w =
       fits = omega (arith, g .short, g .place, g .room);
     }
 
--- the input's end
-pub ends-cut : (input : List ℕ) (used : ℕ) → length input ≤ used → wholeFirst (drop used input) ≡ false
-ends-cut input used h = rw (drop-of-length-le input {i = used} h) refl
-
--- ---- the part of the input as the code lends it
-
-pub sized : (input : List ℕ) (used size : ℕ) → size ≡ wholeSize (take (length input - used) (drop used input)) → size ≡ wholeSize (drop used input)
-sized input used size e = e ∙ ap wholeSize (take-all (length input - used) (drop used input) (omega (arith, length-drop used input)))
+-- at the input's end none is left
+pub none-behind : (input : List ℕ) (used : ℕ) → length input ≤ used → whole (drop used input) ≡ []
+none-behind input used l = front-none false (length (drop used input)) (drop used input) (omega (arith, front-most false (drop used input), length-drop used input))

@@ -10,7 +10,8 @@ use Rattle.case.specs.declared.Held.{Held}
 use Rattle.case.specs.Cases.{noHeld}
 use Rattle.case.specs.Claim.{Bytes}
 use Rattle.case.specs.Input.{ledgerAfter}
-use Rattle.report.specs.Texts.{ledgerLines, cutLines, heldLines, wholeFields, bytesOf}
+use Rattle.case.specs.Strings.{bytesOf}
+use Rattle.report.specs.Texts.{ledgerLines, cutLines, heldLines, wholeFields}
 
 -- the whole fields at the front of some bytes
 abbrev pub whole : List ℕ → List (List ℕ)

@@ -1,11 +1,11 @@
 -- The printed text of the program's run, over its own structs: the lines of document 01 (`machine.specs.Printed`) of what is held, the s lines of
 -- a part of an input, and what a lent buffer holds after lines are put into it.
 use mathlib.Core.Path.{_≡_}
-use mathlib.Core.Bool.{Bool, true, false, _&&_}
+use mathlib.Core.Bool.{false}
 use mathlib.Core.List.{List, [], _∷_, _++_, map}
 use Prim.Native.Nat.{ℕ, zero, suc, _+_, _*_, _≤_}
 use lib.Dec.{leb, eqb}
-use lib.ListN.{length, getD, take, drop}
+use lib.ListN.{length, getD}
 use lib.Seq.{sets}
 use Rattle.lists.specs.Lists.{if_then_else_, tab}
 use Rattle.sets.specs.Set.{members}
@@ -13,13 +13,13 @@ use Rattle.machine.specs.Printed.{Line, sLine, text, printed}
 use Rattle.lines.specs.Placed.{Placed, placed, lineText}
 use Rattle.book.specs.Stages.{letterOf}
 use Rattle.book.specs.Results.{resultIn}
-use Rattle.book.specs.declared.Book.{Book}
 use Rattle.book.specs.declared.Result.{Result}
 use Rattle.case.specs.declared.Case.{Case}
 use Rattle.case.specs.declared.Held.{Held}
 use Rattle.case.specs.Cases.{applied}
 use Rattle.case.specs.Readings.{countsIn}
-use Rattle.case.specs.Input.{fieldSize, ledgerAfter}
+use Rattle.case.specs.Strings.{bytesOf}
+use Rattle.case.specs.Input.{frontFields, ledgerAfter}
 use Rattle.report.specs.declared.Taken.{Taken}
 use Rattle.report.specs.declared.Written.{Written}
 
@@ -43,14 +43,14 @@ unfoldable pub resultLines : Result → ℕ → List Line
 resultLines r set = lLineOf r ∷ map (mLineOf r) (members set)
 
 -- "After FINISH, l .. m"
-unfoldable pub finishLines : Book → List Line
-finishLines b = if eqb (letterOf (b .phase .stage)) 5 then resultLines (resultIn b) (b .head .set) else []
+unfoldable pub finishLines : Case → List Line
+finishLines c = if eqb (letterOf (c .stage)) 5 then resultLines (resultIn (c .book)) (c .book .head .set) else []
 
 -- "At the input's end p .. After FINISH, l .. m"
 unfoldable pub heldLines : Held → List Line
 heldLines h =
     let c = h .case in
-    if h .present then tab (c .book .pools .given) (pLineOf c) ++ finishLines (c .book) else []
+    if h .present then tab (c .book .pools .given) (pLineOf c) ++ finishLines c else []
 
 -- an s line for each call
 unfoldable pub ledgerLines : Held → List (List ℕ) → List Line
@@ -73,27 +73,18 @@ placedLines (l ∷ ls) out at =
 
 -- ---- a part of an input
 
--- whether the first field of an input is all there
-abbrev pub wholeFirst : List ℕ → Bool
-wholeFirst s = leb 3 (length s) && leb (fieldSize s) (length s)
-
--- the bytes of the first field, and 0 where it is not all there
-unfoldable pub wholeSize : List ℕ → ℕ
-wholeSize s = if wholeFirst s then fieldSize s else 0
-
 -- the whole fields at the front of an input, at most n
-unfoldable pub wholeFields : ℕ → List ℕ → List (List ℕ)
-wholeFields zero s = []
-wholeFields (suc n) s =
-    elim (wholeFirst s) [
-      | true ↦ take (fieldSize s) s ∷ wholeFields n (drop (fieldSize s) s)
-      | false ↦ []
-    ]
+abbrev pub wholeFields : ℕ → List ℕ → List (List ℕ)
+wholeFields n s = frontFields false n s
 
--- the bytes of fields
-unfoldable pub bytesOf : List (List ℕ) → ℕ
-bytesOf [] = 0
-bytesOf (f ∷ fs) = length f + bytesOf fs
+-- where field k begins, from where fields end
+abbrev pub startOf : List ℕ → ℕ → ℕ
+startOf ends zero = 0
+startOf ends (suc k) = getD ends k 0
+
+-- the s lines of the first n fields of an input, from where they end and their answers
+unfoldable pub answerLine : List ℕ → List ℕ → List ℕ → ℕ → Line
+answerLine input ends answers k = sLine (getD input (startOf ends k) 0 ∷ []) (getD answers k 0)
 
 -- what is taken, and what the buffer holds then
 abbrev pub PartTaken : Type 0

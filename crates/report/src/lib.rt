@@ -9,8 +9,7 @@ ghost use Rattle.sets.specs.Set.{members};
 ghost use Rattle.machine.specs.Printed.{sLine};
 ghost use Rattle.lines.specs.Placed.{Placed, placed, lineText};
 ghost use Rattle.report.specs.Texts.{pLineOf, lLineOf, mLineOf, resultLines, finishLines, heldLines, cutLines, placedLines};
-ghost use Rattle.report.specs.Texts.{wholeSize, TakesPart, Prints};
-use book::Book;
+ghost use Rattle.report.specs.Texts.{answerLine, TakesPart, Prints};
 use book::Result;
 use case::Case;
 use case::Held;
@@ -34,14 +33,13 @@ pub struct Written {
 pub fn write_pool(case: Case, pool: u8, out: &mut [u8], at: usize) -> usize
     ensures { λ r. ⌜ _≡_ {A = Placed} (r, now (out .exit)) (placed (lineText (pLineOf case pool)) (now (out .entry)) at) ⌝ }
 {
-    let roll = case.roll;
     let numbers = [
         pool as u64,
-        roll.count(pool, 0),
-        roll.count(pool, 1),
-        roll.count(pool, 2),
-        roll.count(pool, 3),
-        roll.count(pool, 4),
+        case.count(pool, 0),
+        case.count(pool, 1),
+        case.count(pool, 2),
+        case.count(pool, 3),
+        case.count(pool, 4),
         0,
         0,
     ];
@@ -149,12 +147,14 @@ fn write_result(result: Result, set: u32, out: &mut [u8], at: usize) -> usize
 }
 
 // "After FINISH, l .. m": none before it.
-fn write_finish(book: Book, out: &mut [u8], at: usize) -> usize
-    ensures { λ r. ⌜ _≡_ {A = Placed} (r, now (out .exit)) (placedLines (finishLines book) (now (out .entry)) at) ⌝ }
+fn write_finish(case: Case, out: &mut [u8], at: usize) -> usize
+    ensures { λ r. ⌜ _≡_ {A = Placed} (r, now (out .exit)) (placedLines (finishLines case) (now (out .entry)) at) ⌝ }
 {
-    if book::letter(book.phase) != 5 {
+    let stage = case.stage;
+    if book::letter(stage) != 5 {
         return at;
     }
+    let book = case.book;
     let head = book.head;
     write_result(book.result(), head.set, out, at)
 }
@@ -165,42 +165,56 @@ pub fn write_end(held: Held, out: &mut [u8], at: usize) -> usize
 {
     if held.present {
         let case = held.case;
-        let book = case.book;
         let to = write_pools(case, out, at);
-        return write_finish(book, out, to);
+        return write_finish(case, out, to);
     }
     at
 }
 
 // ---- a part of an input
 
-// The bytes of the first field of an input, and 0 where it is not all there.
-fn whole_size(input: &[u8]) -> usize
-    ensures { λ r. ⌜ r ≡ wholeSize (now (input .entry)) ⌝ }
+// The byte at a place, and 0 behind the last.
+fn byte_at(bytes: &[u8], at: usize) -> u8
+    ensures { λ r. ⌜ r ≡ getD (now (bytes .entry)) at 0 ⌝ }
 {
-    let n = input.len();
-    if n < 3 {
-        return 0;
-    }
-    let size = 3 + wide(input[1]) * 256 + wide(input[2]);
-    if n < size { 0 } else { size }
+    if at < bytes.len() { bytes[at] } else { 0 }
 }
 
-// A byte as a wider number.
-fn wide(b: u8) -> usize
-    ensures { λ r. ⌜ (r ≡ b) × (r < 256) ⌝ }
+// The number at a place, and 0 behind the last.
+fn end_at(ends: &[usize], at: usize) -> usize
+    ensures { λ r. ⌜ r ≡ getD (now (ends .entry)) at 0 ⌝ }
 {
-    b as usize
+    if at < ends.len() { ends[at] } else { 0 }
+}
+
+// The s lines of the first n fields of an input, from where they end and their answers.
+fn write_answers(
+    input: &[u8],
+    ends: &[usize],
+    answers: &[u8],
+    n: usize,
+    out: &mut [u8],
+    at: usize,
+) -> usize
+    ensures { λ r. ⌜ _≡_ {A = Placed} (r, now (out .exit)) (placedLines (tab n (answerLine (now (input .entry)) (now (ends .entry)) (now (answers .entry)))) (now (out .entry)) at) ⌝ }
+{
+    let mut to = at;
+    let mut start: usize = 0;
+    let mut k: usize = 0;
+    while k < n {
+        to = write_answer(byte_at(input, start), byte_at(answers, k), out, to);
+        start = end_at(ends, k);
+        k += 1;
+    }
+    to
 }
 
 // The whole fields at the front of a part of an input, taken in turn, with an s line for each at the front of the buffer. A buffer with less than
-// four times the part's bytes is untouched, and nothing is taken. The loop asks first: a call that is declined copies no case,
-// and one that leaves the units as they are copies no unit.
+// four times the part's bytes is untouched, and nothing is taken.
 pub fn take_part(held: Held, input: &[u8], out: &mut [u8]) -> Taken
     ensures { λ r. ⌜ TakesPart held (now (input .entry)) (now (out .entry)) (now (out .exit)) r ⌝ }
 {
-    let mut present = held.present;
-    let mut case = held.case;
+    let mut next = held;
     let mut used: usize = 0;
     let mut written: usize = 0;
     if out.len() / 4 < input.len() {
@@ -210,34 +224,19 @@ pub fn take_part(held: Held, input: &[u8], out: &mut [u8]) -> Taken
             written,
         };
     }
+    let mut ends = [0usize; 256];
+    let mut answers = [0u8; 256];
     while used < input.len() {
-        let size = whole_size(&input[used..]);
-        if size == 0 {
-            let next = Held { present, case };
-            return Taken {
-                held: next,
-                used,
-                written,
-            };
+        let rest = &input[used..];
+        let front = case::take_fields(next, false, rest, &mut ends, &mut answers);
+        let n = front.count;
+        if n == 0 {
+            break;
         }
-        let end = used + size;
-        let call = wire::read_call(&input[used..end]);
-        let book = case.book;
-        let answer = case::answer_to(present, book, call);
-        written = write_answer(input[used], answer, out, written);
-        used = end;
-        if answer == 0 {
-            present = true;
-            if case::keeps_units(call) {
-                let old = case.book;
-                let more = case::book_after(old, call);
-                case.book = more;
-            } else {
-                case = case::after(case, call);
-            }
-        }
+        written = write_answers(rest, &ends, &answers, n, out, written);
+        next = front.held;
+        used += front.used;
     }
-    let next = Held { present, case };
     Taken {
         held: next,
         used,

@@ -16,7 +16,7 @@ use Rattle.forms.specs.declared.Tagged.{Tagged}
 use Rattle.forms.specs.Forms.{formOf, flattened}
 use Rattle.forms.specs.Encode.{Written}
 use Rattle.forms.specs.Put.{Put}
-use Rattle.forms.proofs.Values.{rest-next, rest-none, flat-form}
+use Rattle.forms.proofs.Values.{rest-next, rest-none, flat-form, round-tag}
 use Rattle.spelling.specs.Text.{moneyText, priceText, membersText, moreText, numberText, itemText, itemsText, lineText, lineForm, lineInto}
 
 module _ (p : ℕ) where
@@ -89,7 +89,7 @@ unfolding flattened
 tag-small (HeadCall h) = omega arith
 tag-small (Pool pool units mark) = omega arith
 tag-small (Member m contribution a b c d) = omega arith
-tag-small (Round n a b c d) = omega arith
+tag-small (Round n a b c d) = omega (arith, round-tag n a b c d)
 tag-small (Bid pool m units price) = omega arith
 tag-small Close = omega arith
 tag-small (Allocate pool price) = omega arith

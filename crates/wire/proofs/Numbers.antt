@@ -61,7 +61,15 @@ pub round-small : (n : ℕ) → rightLength 4 n ≡ true → n ≤ 16
 unfolding rightLength
 round-small n e = leb-true n 16 (and-right (leb 4 n) (leb n 16) (and-left (between 4 16 n) (eqb (n % 4) 0) e))
 
--- the reserves of a ROUND of n bytes: 1 to 4 of them
+-- a ROUND of n bytes has 1 to 4 reserves
+pub round-count : (n : ℕ) → rightLength 4 n ≡ true → between 1 4 (n / 4) ≡ true
+unfolding rightLength
+round-count n e =
+    let low = leb-true 4 n (and-left (leb 4 n) (leb n 16) (and-left (between 4 16 n) (eqb (n % 4) 0) e)) in
+    let high = leb-true n 16 (and-right (leb 4 n) (leb n 16) (and-left (between 4 16 n) (eqb (n % 4) 0) e)) in
+    rw (le-leb 1 (n / 4) (omega arith), le-leb (n / 4) 4 (omega arith))
+
+-- they are those that are read
 pub reserves-of : (n : ℕ) → rightLength 4 n ≡ true → (f : ℕ → ℕ) (a b c d : ℕ)
     → (4 ≤ n → a ≡ f 0) → (8 ≤ n → b ≡ f 1) → (12 ≤ n → c ≡ f 2) → (16 ≤ n → d ≡ f 3)
     → take (n / 4) (a ∷ b ∷ c ∷ d ∷ []) ≡ tab (n / 4) f

@@ -2,6 +2,7 @@
 use mathlib.Core.List.{[], _∷_}
 use mathlib.Core.Option.{Option, none, some}
 use lib.ListN.{take}
+use Rattle.lists.specs.Lists.{if_then_else_, between}
 use Rattle.machine.specs.Wire as Wire
 use Rattle.wire.specs.declared.Head.{Head}
 use Rattle.wire.specs.declared.Call.{Call}
@@ -21,12 +22,12 @@ headOf h =
       house = h .house;
     }
 
--- the call that is asked for
+-- the call that is asked for. ROUND has one to four reserves
 unfoldable pub asked : Call → Option Wire.Call
 asked (HeadCall h) = some (Wire.HEAD (headOf h))
 asked (Pool pool units mark) = some (Wire.POOL pool units mark)
 asked (Member m contribution a b c d) = some (Wire.MEMBER m contribution (a ∷ b ∷ c ∷ d ∷ []))
-asked (Round n a b c d) = some (Wire.ROUND (take n (a ∷ b ∷ c ∷ d ∷ [])))
+asked (Round n a b c d) = if between 1 4 n then some (Wire.ROUND (take n (a ∷ b ∷ c ∷ d ∷ []))) else none
 asked (Bid pool m units price) = some (Wire.BID pool m units price)
 asked Close = some Wire.CLOSE
 asked (Allocate pool price) = some (Wire.ALLOCATE pool price)

@@ -19,6 +19,30 @@ pub struct Head {
     pub house: u32,
 }
 
+// "pools 1 to 4; least bid .. 1 to 1,000; member set not empty; .. hedge and other loss to 2×10^9; margin and house money to 4×10^9; a fund or contribution to
+// 5×10^8"
+impl Head {
+    pub const MIN_POOLS: u8 = 1;
+
+    pub const MAX_POOLS: u8 = 4;
+
+    pub const MIN_LEAST_BID: u16 = 1;
+
+    pub const MAX_LEAST_BID: u16 = 1_000;
+
+    pub const NO_MEMBER: u32 = 0;
+
+    pub const MAX_HEDGE_LOSS: u32 = 2_000_000_000;
+
+    pub const MAX_OTHER_LOSS: u32 = 2_000_000_000;
+
+    pub const MAX_MARGIN: u32 = 4_000_000_000;
+
+    pub const MAX_FUND: u32 = 500_000_000;
+
+    pub const MAX_HOUSE_MONEY: u32 = 4_000_000_000;
+}
+
 // The thirteen calls, and what bytes are that are none of them. Prices are held as cents + 1,000,000.
 pub enum Call {
     Head(Head),
@@ -73,6 +97,26 @@ pub enum Call {
     },
     Finish,
     Unknown,
+}
+
+// "pool units and bid units 1 to 1,000; .. mark 0 or 1 ..; a fund or contribution to 5×10^8; expected units to 1,000 ..; prices and reserves −10^6 to 10^6; a
+// payment 1 to 10^9"
+impl Call {
+    pub const MIN_UNITS: u16 = 1;
+
+    pub const MAX_UNITS: u16 = 1_000;
+
+    pub const MAX_MARK: u8 = 1;
+
+    pub const MAX_CONTRIBUTION: u32 = 500_000_000;
+
+    pub const MAX_EXPECTED: u16 = 1_000;
+    // 10^6 cents, as prices are held
+    pub const MAX_PRICE: u32 = 2_000_000;
+
+    pub const MIN_PAYMENT: u32 = 1;
+
+    pub const MAX_PAYMENT: u32 = 1_000_000_000;
 }
 
 // "tag (1 byte), length (2), value": the bytes before the value.

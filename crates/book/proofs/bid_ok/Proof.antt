@@ -3,19 +3,24 @@ use Rattle.machine.specs.Refusals.{bidOk}
 use borrow.Author.Needs.{needs}
 use Rattle.book.proofs.bid_ok.Statement.{statement}
 use Rattle.book.proofs.bid_ok.Tie as tie
+use Rattle.book.proofs.bid_ok.Reads as reads
+use Rattle.book.proofs.bid_ok.Lts as lts
+use Rattle.book.proofs.price_ok.Reads as price-ok-reads
+use Rattle.book.proofs.units_ok.Reads as units-ok-reads
+use Rattle.lists.proofs.both.Reads as both-reads
 
-both-requires : tie.Need-both-requires
-both-requires c κs = search needs
+units-ok-requires : tie.Need-units-ok-requires
+units-ok-requires c κs = search needs
 
 price-ok-requires : tie.Need-price-ok-requires
 price-ok-requires c κs = search needs
 
-both-requires-2 : tie.Need-both-requires-2
-both-requires-2 c κs = search needs
+both-requires : tie.Need-both-requires
+both-requires c κs = search needs
 
 returns : tie.Need-returns
 unfolding bidOk
 returns c = cc
 
 pub bid-ok-spec : {M : Type 1} → statement M
-bid-ok-spec = tie.close (tie.spec both-requires price-ok-requires both-requires-2 returns)
+bid-ok-spec = tie.close (tie.spec units-ok-requires price-ok-requires both-requires returns)

@@ -4,6 +4,9 @@ use Rattle.machine.specs.Refusals.{headOk}
 use borrow.Author.Needs.{needs}
 use Rattle.book.proofs.head_ok.Statement.{statement}
 use Rattle.book.proofs.head_ok.Tie as tie
+use Rattle.book.proofs.head_ok.Reads as reads
+use Rattle.book.proofs.head_ok.Lts as lts
+use Rattle.lists.proofs.both.Reads as both-reads
 
 both-requires : tie.Need-both-requires
 both-requires c κs = search needs
@@ -37,19 +40,18 @@ both-requires-10 c κs = search needs
 
 returns : tie.Need-returns
 unfolding headOk all
-returns c =
-    simp (
-      c .both10 .ensures,
-      c .before .both9 .ensures,
-      c .before .before .before .before .both8 .ensures,
-      c .before .before .before .before .before .both7 .ensures,
-      c .before .before .before .before .before .before .before .before .both6 .ensures,
-      c .before .before .before .before .before .before .before .before .before .both5 .ensures,
-      c .before .before .before .before .before .before .before .before .before .before .before .before .both4 .ensures,
-      c .before .before .before .before .before .before .before .before .before .before .before .before .before .both3 .ensures,
-      c .before .before .before .before .before .before .before .before .before .before .before .before .before .before .before .before .both2 .ensures,
-      c .before .before .before .before .before .before .before .before .before .before .before .before .before .before .before .before .before .both .ensures,
-    )
+returns c = simp (
+  c .both10 .ensures,
+  c .before .both9 .ensures,
+  c .before .before .before .before .both8 .ensures,
+  c .before .before .before .before .before .both7 .ensures,
+  c .before .before .before .before .before .before .before .before .both6 .ensures,
+  c .before .before .before .before .before .before .before .before .before .both5 .ensures,
+  c .before .before .before .before .before .before .before .before .before .before .before .before .both4 .ensures,
+  c .before .before .before .before .before .before .before .before .before .before .before .before .before .both3 .ensures,
+  c .before .before .before .before .before .before .before .before .before .before .before .before .before .before .before .before .both2 .ensures,
+  c .before .before .before .before .before .before .before .before .before .before .before .before .before .before .before .before .before .both .ensures,
+)
 
 pub head-ok-spec : {M : Type 1} → statement M
 head-ok-spec =

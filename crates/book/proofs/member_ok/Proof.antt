@@ -1,8 +1,12 @@
--- `book::member_ok` meets its contract. The ranges are tested number by number. Assumes nothing.
+-- `book::member_ok` meets its contract. Assumes nothing.
 use Rattle.book.proofs.Ranges.{member-tested}
 use borrow.Author.Needs.{needs}
 use Rattle.book.proofs.member_ok.Statement.{statement}
 use Rattle.book.proofs.member_ok.Tie as tie
+use Rattle.book.proofs.member_ok.Reads as reads
+use Rattle.book.proofs.member_ok.Lts as lts
+use Rattle.book.proofs.expected_ok.Reads as expected-ok-reads
+use Rattle.lists.proofs.both.Reads as both-reads
 
 expected-ok-requires : tie.Need-expected-ok-requires
 expected-ok-requires c κs = search needs
@@ -29,7 +33,17 @@ both-requires-4 : tie.Need-both-requires-4
 both-requires-4 c κs = search needs
 
 returns : tie.Need-returns
-returns c = rw member-tested (cc)
+returns c = simp (
+  c .both4 .ensures,
+  c .before .both3 .ensures,
+  c .before .before .both2 .ensures,
+  c .before .before .before .expected-ok4 .ensures,
+  c .before .before .before .before .expected-ok3 .ensures,
+  c .before .before .before .before .before .both .ensures,
+  c .before .before .before .before .before .before .expected-ok2 .ensures,
+  c .before .before .before .before .before .before .before .expected-ok .ensures,
+  member-tested,
+)
 
 pub member-ok-spec : {M : Type 1} → statement M
 member-ok-spec =

@@ -3,16 +3,20 @@ use Rattle.machine.specs.Refusals.{poolOk}
 use borrow.Author.Needs.{needs}
 use Rattle.book.proofs.pool_ok.Statement.{statement}
 use Rattle.book.proofs.pool_ok.Tie as tie
+use Rattle.book.proofs.pool_ok.Reads as reads
+use Rattle.book.proofs.pool_ok.Lts as lts
+use Rattle.book.proofs.units_ok.Reads as units-ok-reads
+use Rattle.lists.proofs.both.Reads as both-reads
+
+units-ok-requires : tie.Need-units-ok-requires
+units-ok-requires c κs = search needs
 
 both-requires : tie.Need-both-requires
 both-requires c κs = search needs
-
-both-requires-2 : tie.Need-both-requires-2
-both-requires-2 c κs = search needs
 
 returns : tie.Need-returns
 unfolding poolOk
 returns c = cc
 
 pub pool-ok-spec : {M : Type 1} → statement M
-pool-ok-spec = tie.close (tie.spec both-requires both-requires-2 returns)
+pool-ok-spec = tie.close (tie.spec units-ok-requires both-requires returns)

@@ -1,8 +1,13 @@
--- `book::reserves_ok` meets its contract. The ranges are tested number by number. Assumes nothing.
+-- `book::reserves_ok` meets its contract. Assumes nothing.
 use Rattle.book.proofs.Ranges.{reserves-tested}
 use borrow.Author.Needs.{needs}
 use Rattle.book.proofs.reserves_ok.Statement.{statement}
 use Rattle.book.proofs.reserves_ok.Tie as tie
+use Rattle.book.proofs.reserves_ok.Reads as reads
+use Rattle.book.proofs.reserves_ok.Lts as lts
+use Rattle.book.proofs.price_ok.Reads as price-ok-reads
+use Rattle.lists.proofs.both.Reads as both-reads
+use Rattle.lists.proofs.either.Reads as either-reads
 
 price-ok-requires : tie.Need-price-ok-requires
 price-ok-requires c κs = search needs
@@ -38,21 +43,7 @@ both-requires-3 : tie.Need-both-requires-3
 both-requires-3 c κs = search needs
 
 returns : tie.Need-returns
-returns c =
-    rw reserves-tested
-    (simp (
-      c .both3 .ensures,
-      c .before .both2 .ensures,
-      c .before .before .either4 .ensures,
-      c .before .before .before .price-ok4 .ensures,
-      c .before .before .before .before .either3 .ensures,
-      c .before .before .before .before .before .price-ok3 .ensures,
-      c .before .before .before .before .before .before .both .ensures,
-      c .before .before .before .before .before .before .before .either2 .ensures,
-      c .before .before .before .before .before .before .before .before .price-ok2 .ensures,
-      c .before .before .before .before .before .before .before .before .before .either .ensures,
-      c .before .before .before .before .before .before .before .before .before .before .price-ok .ensures,
-    ))
+returns c = rw reserves-tested (cc)
 
 pub reserves-ok-spec : {M : Type 1} → statement M
 reserves-ok-spec =

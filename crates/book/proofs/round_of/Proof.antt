@@ -1,17 +1,19 @@
--- `book::round_of` meets its contract. Each stage has its round. Assumes nothing.
+-- `book::round_of` meets its contract. Assumes nothing.
 use Rattle.machine.specs.State.{roundOf}
 use borrow.Author.Needs.{needs}
 use Rattle.book.proofs.round_of.Statement.{statement}
 use Rattle.book.proofs.round_of.Tie as tie
+use Rattle.book.proofs.round_of.Reads as reads
+use Rattle.book.proofs.round_of.Lts as lts
 
 enum-told : tie.Need-enum-told
 enum-told c = search needs
 
-enum-known-s : tie.Need-enum-known-s
-enum-known-s c = search needs
+enum-known-stage : tie.Need-enum-known-stage
+enum-known-stage c = search needs
 
-enum-known-s-2 : tie.Need-enum-known-s-2
-enum-known-s-2 c = search needs
+enum-known-stage-2 : tie.Need-enum-known-stage-2
+enum-known-stage-2 c = search needs
 
 enum-told-2 : tie.Need-enum-told-2
 enum-told-2 c = search needs
@@ -44,8 +46,8 @@ round-of-spec =
     tie.close
     (tie.spec
     enum-told
-    enum-known-s
-    enum-known-s-2
+    enum-known-stage
+    enum-known-stage-2
     enum-told-2
     enum-told-3
     returns

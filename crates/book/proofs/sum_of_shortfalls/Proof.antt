@@ -4,13 +4,16 @@ use Prim.Native.Nat.{_-_, _*_, _≤_}
 use native.Mathlib.Omega.{arith}
 use lib.ListN.{length, getD}
 use Rattle.lists.specs.Lists.{sumTo}
+use Rattle.lists.specs.Adding.{most16}
 use Rattle.lists.proofs.Sums.{sumTo-none, sumTo-next, sum-places}
 use borrow.Author.Needs.{needs}
 use Rattle.book.proofs.sum_of_shortfalls.Statement.{statement}
 use Rattle.book.proofs.sum_of_shortfalls.Tie as tie
+use Rattle.book.proofs.sum_of_shortfalls.Reads as reads
+use Rattle.book.proofs.sum_of_shortfalls.Lts as lts
 
 abbrev Inv-loop : tie.InvT-loop
-Inv-loop xs total₀ m₀ total m = (m ≤ 32) × (total ≡ sumTo m (λ k. getD xs k 0)) × (total ≤ 1000 * m)
+Inv-loop xs total₀ m₀ total m = (m ≤ 32) × (total ≡ sumTo m (λ k. getD xs k 0)) × (total ≤ most16 * m)
 
 abbrev μ-loop : tie.MeasureT-loop
 μ-loop xs total₀ m₀ total m = 32 - m
@@ -34,14 +37,12 @@ loop-less : tie.Need-loop-less Inv-loop μ-loop
 loop-less c = search needs
 
 loop-again : tie.Need-loop-again Inv-loop μ-loop
-loop-again c =
-    let xs = c .before .before .args .t1 in
+loop-again c = let xs = c .before .before .args .t1 in
     let m = c .before .loop .m in
     omega (arith, sumTo-next m (λ k. getD xs k 0), c .before .before .pre m)
 
 returns : tie.Need-returns Inv-loop μ-loop
-returns c =
-    let xs = c .before .before .args .t1 in
+returns c = let xs = c .before .before .args .t1 in
     let long : length xs ≡ 32 = search needs in
     let all : c .before .loop .m ≡ length xs = omega arith in
     (rw all at (c .before .loop .inv .1)) ∙ sym (sum-places xs)

@@ -1,18 +1,20 @@
--- `book::total_shortfall` meets its contract. Each shortfall is at most 1,000. Assumes nothing.
-use Rattle.book.proofs.Bounds.{shortfall-from-le}
+-- `book::total_shortfall` meets its contract. Assumes nothing.
 use borrow.Author.Needs.{needs}
 use Rattle.book.proofs.total_shortfall.Statement.{statement}
 use Rattle.book.proofs.total_shortfall.Tie as tie
+use Rattle.book.proofs.total_shortfall.Reads as reads
+use Rattle.book.proofs.total_shortfall.Lts as lts
+use Rattle.accounts.proofs.members.shortfalls.Reads as shortfalls-reads
+use Rattle.book.proofs.sum_of_shortfalls.Reads as sum-of-shortfalls-reads
 
-shortfalls-from-requires : tie.Need-shortfalls-from-requires
-shortfalls-from-requires c κs = search needs
+shortfalls-requires : tie.Need-shortfalls-requires
+shortfalls-requires c κs = search needs
 
 sum-of-shortfalls-requires : tie.Need-sum-of-shortfalls-requires
-sum-of-shortfalls-requires c κs =
-    rw (c .shortfalls-from .ensures) (shortfall-from-le (c .before .args .expected) (c .before .args .won) (c .before .args .allocated) (c .before .args .pool))
+sum-of-shortfalls-requires c κs = c .shortfalls .ensures .1
 
 returns : tie.Need-returns
-returns c = cc
+returns c = simp (c .sum-of-shortfalls .ensures, c .before .shortfalls .ensures .0)
 
 pub total-shortfall-spec : {M : Type 1} → statement M
-total-shortfall-spec = tie.close (tie.spec shortfalls-from-requires sum-of-shortfalls-requires returns)
+total-shortfall-spec = tie.close (tie.spec shortfalls-requires sum-of-shortfalls-requires returns)

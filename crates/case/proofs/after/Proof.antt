@@ -1,10 +1,29 @@
--- `case::after` meets its contract. Assumes nothing.
+-- `case::after` meets its contract: each call by its method. Assumes nothing.
+use mathlib.Core.Path.{_∙_}
+use native.Mathlib.Omega.{arith}
 use Rattle.wire.specs.Asked.{asked}
-use Rattle.case.specs.Cases.{caseAfter, afterAsked}
-use Rattle.case.proofs.Outcomes.{reserve-at}
+use Rattle.wire.specs.declared.Call.the-variants.{Round}
+use Rattle.case.specs.Cases.{firstAnswer, firstAnswerTo, caseAfter, afterAsked}
+use Rattle.case.proofs.Outcomes.{handed, round-later}
 use borrow.Author.Needs.{needs}
 use Rattle.case.proofs.after.Statement.{statement}
 use Rattle.case.proofs.after.Tie as tie
+use Rattle.case.proofs.after.Reads as reads
+use Rattle.case.proofs.after.Lts as lts
+use Rattle.case.proofs.Case.allocate.Reads as allocate-reads
+use Rattle.case.proofs.Case.bid.Reads as bid-reads
+use Rattle.case.proofs.Case.call.Reads as call-reads
+use Rattle.case.proofs.Case.close.Reads as close-reads
+use Rattle.case.proofs.Case.finish.Reads as finish-reads
+use Rattle.case.proofs.Case.member.Reads as member-reads
+use Rattle.case.proofs.Case.miss.Reads as miss-reads
+use Rattle.case.proofs.Case.move_units.Reads as move-units-reads
+use Rattle.case.proofs.Case.new.Reads as new-reads
+use Rattle.case.proofs.Case.pay.Reads as pay-reads
+use Rattle.case.proofs.Case.pool.Reads as pool-reads
+use Rattle.case.proofs.Case.round.Reads as round-reads
+use Rattle.case.proofs.Case.tear.Reads as tear-reads
+use Rattle.case.proofs.case_of.Reads as case-of-reads
 
 enum-known-call : tie.Need-enum-known-call
 enum-known-call c = search needs
@@ -15,145 +34,174 @@ new-requires c κs = search needs
 enum-known-call-2 : tie.Need-enum-known-call-2
 enum-known-call-2 c = search needs
 
-after-pool-requires : tie.Need-after-pool-requires
-after-pool-requires c κs = search needs
+pool-requires : tie.Need-pool-requires
+pool-requires c κs = search needs
+
+case-of-requires : tie.Need-case-of-requires
+case-of-requires c κs = search needs
 
 enum-known-call-3 : tie.Need-enum-known-call-3
 enum-known-call-3 c = search needs
 
-after-member-requires : tie.Need-after-member-requires
-after-member-requires c κs = search needs
+member-requires : tie.Need-member-requires
+member-requires c κs = search needs
+
+case-of-requires-2 : tie.Need-case-of-requires-2
+case-of-requires-2 c κs = search needs
 
 enum-known-call-4 : tie.Need-enum-known-call-4
 enum-known-call-4 c = search needs
 
-reserve-if-requires : tie.Need-reserve-if-requires
-reserve-if-requires c κs = search needs
+round-requires : tie.Need-round-requires
+round-requires c κs = search needs
 
-reserve-if-requires-2 : tie.Need-reserve-if-requires-2
-reserve-if-requires-2 c κs = search needs
-
-reserve-if-requires-3 : tie.Need-reserve-if-requires-3
-reserve-if-requires-3 c κs = search needs
-
-reserve-if-requires-4 : tie.Need-reserve-if-requires-4
-reserve-if-requires-4 c κs = search needs
-
-after-round-requires : tie.Need-after-round-requires
-after-round-requires c κs = search needs
+case-of-requires-3 : tie.Need-case-of-requires-3
+case-of-requires-3 c κs = search needs
 
 enum-known-call-5 : tie.Need-enum-known-call-5
 enum-known-call-5 c = search needs
 
-after-bid-requires : tie.Need-after-bid-requires
-after-bid-requires c κs = search needs
+bid-requires : tie.Need-bid-requires
+bid-requires c κs = search needs
+
+case-of-requires-4 : tie.Need-case-of-requires-4
+case-of-requires-4 c κs = search needs
 
 enum-told : tie.Need-enum-told
 enum-told c = search needs
 
-after-close-requires : tie.Need-after-close-requires
-after-close-requires c κs = search needs
+close-requires : tie.Need-close-requires
+close-requires c κs = search needs
+
+case-of-requires-5 : tie.Need-case-of-requires-5
+case-of-requires-5 c κs = search needs
 
 enum-known-call-6 : tie.Need-enum-known-call-6
 enum-known-call-6 c = search needs
 
-after-allocate-requires : tie.Need-after-allocate-requires
-after-allocate-requires c κs = search needs
+allocate-requires : tie.Need-allocate-requires
+allocate-requires c κs = search needs
+
+case-of-requires-6 : tie.Need-case-of-requires-6
+case-of-requires-6 c κs = search needs
 
 enum-known-call-7 : tie.Need-enum-known-call-7
 enum-known-call-7 c = search needs
 
-after-tear-requires : tie.Need-after-tear-requires
-after-tear-requires c κs = search needs
+tear-requires : tie.Need-tear-requires
+tear-requires c κs = search needs
+
+case-of-requires-7 : tie.Need-case-of-requires-7
+case-of-requires-7 c κs = search needs
 
 enum-told-2 : tie.Need-enum-told-2
 enum-told-2 c = search needs
 
-after-call-requires : tie.Need-after-call-requires
-after-call-requires c κs = search needs
+call-requires : tie.Need-call-requires
+call-requires c κs = search needs
+
+case-of-requires-8 : tie.Need-case-of-requires-8
+case-of-requires-8 c κs = search needs
 
 enum-known-call-8 : tie.Need-enum-known-call-8
 enum-known-call-8 c = search needs
 
-after-pay-requires : tie.Need-after-pay-requires
-after-pay-requires c κs = search needs
+pay-requires : tie.Need-pay-requires
+pay-requires c κs = search needs
+
+case-of-requires-9 : tie.Need-case-of-requires-9
+case-of-requires-9 c κs = search needs
 
 enum-known-call-9 : tie.Need-enum-known-call-9
 enum-known-call-9 c = search needs
 
-after-move-requires : tie.Need-after-move-requires
-after-move-requires c κs = search needs
+move-units-requires : tie.Need-move-units-requires
+move-units-requires c κs = search needs
+
+case-of-requires-10 : tie.Need-case-of-requires-10
+case-of-requires-10 c κs = search needs
 
 enum-known-call-10 : tie.Need-enum-known-call-10
 enum-known-call-10 c = search needs
 
-after-miss-requires : tie.Need-after-miss-requires
-after-miss-requires c κs = search needs
+miss-requires : tie.Need-miss-requires
+miss-requires c κs = search needs
+
+case-of-requires-11 : tie.Need-case-of-requires-11
+case-of-requires-11 c κs = search needs
 
 enum-told-3 : tie.Need-enum-told-3
 enum-told-3 c = search needs
 
-after-finish-requires : tie.Need-after-finish-requires
-after-finish-requires c κs = search needs
+finish-requires : tie.Need-finish-requires
+finish-requires c κs = search needs
+
+case-of-requires-12 : tie.Need-case-of-requires-12
+case-of-requires-12 c κs = search needs
 
 enum-told-4 : tie.Need-enum-told-4
 enum-told-4 c = search needs
 
 returns : tie.Need-returns
 unfolding asked afterAsked caseAfter
-returns c = simp (c .before .before .call .given .1, c .new .ensures)
+returns c = λ present e. rw (c .before .before .call .given .1) (c .new .ensures)
 
 returns-2 : tie.Need-returns-2
-unfolding asked afterAsked caseAfter
-returns-2 c = simp (c .before .before .call2 .given .1, c .after-pool .ensures)
+unfolding asked firstAnswerTo firstAnswer
+returns-2 c = rw (c .before .before .before .call2 .given .1) (λ present e. c .case-of .ensures ∙ handed (c .before .before .before .before .before .args .case) _ (λ z. absurd (omega arith)) _ (c .before .pool .ensures) present e)
 
 returns-3 : tie.Need-returns-3
-unfolding asked afterAsked caseAfter
-returns-3 c = simp (c .before .before .call3 .given .1, c .after-member .ensures)
+unfolding asked firstAnswerTo firstAnswer
+returns-3 c = rw (c .before .before .before .call3 .given .1) (λ present e. c .case-of2 .ensures ∙ handed (c .before .before .before .before .before .args .case) _ (λ z. absurd (omega arith)) _ (c .before .member .ensures) present e)
 
 returns-4 : tie.Need-returns-4
-unfolding asked afterAsked caseAfter
-returns-4 c = simp (c .before .before .before .before .before .before .call4 .given .1, c .after-round .ensures, c .before .before .before .before .reserve-if .ensures, c .before .before .before .reserve-if2 .ensures, c .before .before .reserve-if3 .ensures, c .before .reserve-if4 .ensures, reserve-at)
+returns-4 c =
+    let x = c .before .before .before .call4 .given .0 in
+    rw (c .before .before .before .call4 .given .1)
+    (λ present e.
+    c .case-of3 .ensures
+    ∙ handed (c .before .before .before .before .before .args .case) (asked (Round (x .0) (x .1 .0) (x .1 .1 .0) (x .1 .1 .1 .0) (x .1 .1 .1 .1 .0)))
+    (round-later (x .0) (x .1 .0) (x .1 .1 .0) (x .1 .1 .1 .0) (x .1 .1 .1 .1 .0)) _ (c .before .round .ensures) present e)
 
 returns-5 : tie.Need-returns-5
-unfolding asked afterAsked caseAfter
-returns-5 c = simp (c .before .before .call5 .given .1, c .after-bid .ensures)
+unfolding asked firstAnswerTo firstAnswer
+returns-5 c = rw (c .before .before .before .call5 .given .1) (λ present e. c .case-of4 .ensures ∙ handed (c .before .before .before .before .before .args .case) _ (λ z. absurd (omega arith)) _ (c .before .bid .ensures) present e)
 
 returns-6 : tie.Need-returns-6
-unfolding asked afterAsked caseAfter
-returns-6 c = simp (c .before .enum-told .given .1, c .after-close .ensures)
+unfolding asked firstAnswerTo firstAnswer
+returns-6 c = rw (c .before .before .enum-told .given .1) (λ present e. c .case-of5 .ensures ∙ handed (c .before .before .before .before .args .case) _ (λ z. absurd (omega arith)) _ (c .before .close .ensures) present e)
 
 returns-7 : tie.Need-returns-7
-unfolding asked afterAsked caseAfter
-returns-7 c = simp (c .before .before .call6 .given .1, c .after-allocate .ensures)
+unfolding asked firstAnswerTo firstAnswer
+returns-7 c = rw (c .before .before .before .call6 .given .1) (λ present e. c .case-of6 .ensures ∙ handed (c .before .before .before .before .before .args .case) _ (λ z. absurd (omega arith)) _ (c .before .allocate .ensures) present e)
 
 returns-8 : tie.Need-returns-8
-unfolding asked afterAsked caseAfter
-returns-8 c = simp (c .before .before .call7 .given .1, c .after-tear .ensures)
+unfolding asked firstAnswerTo firstAnswer
+returns-8 c = rw (c .before .before .before .call7 .given .1) (λ present e. c .case-of7 .ensures ∙ handed (c .before .before .before .before .before .args .case) _ (λ z. absurd (omega arith)) _ (c .before .tear .ensures) present e)
 
 returns-9 : tie.Need-returns-9
-unfolding asked afterAsked caseAfter
-returns-9 c = simp (c .before .enum-told2 .given .1, c .after-call .ensures)
+unfolding asked firstAnswerTo firstAnswer
+returns-9 c = rw (c .before .before .enum-told2 .given .1) (λ present e. c .case-of8 .ensures ∙ handed (c .before .before .before .before .args .case) _ (λ z. absurd (omega arith)) _ (c .before .call8 .ensures) present e)
 
 returns-10 : tie.Need-returns-10
-unfolding asked afterAsked caseAfter
-returns-10 c = simp (c .before .before .call8 .given .1, c .after-pay .ensures)
+unfolding asked firstAnswerTo firstAnswer
+returns-10 c = rw (c .before .before .before .call9 .given .1) (λ present e. c .case-of9 .ensures ∙ handed (c .before .before .before .before .before .args .case) _ (λ z. absurd (omega arith)) _ (c .before .pay .ensures) present e)
 
 returns-11 : tie.Need-returns-11
-unfolding asked afterAsked caseAfter
-returns-11 c = simp (c .before .before .call9 .given .1, c .after-move .ensures)
+unfolding asked firstAnswerTo firstAnswer
+returns-11 c = rw (c .before .before .before .call10 .given .1) (λ present e. c .case-of10 .ensures ∙ handed (c .before .before .before .before .before .args .case) _ (λ z. absurd (omega arith)) _ (c .before .move-units .ensures) present e)
 
 returns-12 : tie.Need-returns-12
-unfolding asked afterAsked caseAfter
-returns-12 c = simp (c .before .before .call10 .given .1, c .after-miss .ensures)
+unfolding asked firstAnswerTo firstAnswer
+returns-12 c = rw (c .before .before .before .call11 .given .1) (λ present e. c .case-of11 .ensures ∙ handed (c .before .before .before .before .before .args .case) _ (λ z. absurd (omega arith)) _ (c .before .miss .ensures) present e)
 
 returns-13 : tie.Need-returns-13
-unfolding asked afterAsked caseAfter
-returns-13 c = simp (c .before .enum-told3 .given .1, c .after-finish .ensures)
+unfolding asked firstAnswerTo firstAnswer
+returns-13 c = rw (c .before .before .enum-told3 .given .1) (λ present e. c .case-of12 .ensures ∙ handed (c .before .before .before .before .args .case) _ (λ z. absurd (omega arith)) _ (c .before .finish .ensures) present e)
 
 returns-14 : tie.Need-returns-14
 unfolding asked afterAsked
-returns-14 c = simp (c .enum-told4 .given .1)
+returns-14 c = λ present e. rw (c .enum-told4 .given .1)
 
 pub after-spec : {M : Type 1} → statement M
 after-spec =
@@ -162,33 +210,41 @@ after-spec =
     enum-known-call
     new-requires
     enum-known-call-2
-    after-pool-requires
+    pool-requires
+    case-of-requires
     enum-known-call-3
-    after-member-requires
+    member-requires
+    case-of-requires-2
     enum-known-call-4
-    reserve-if-requires
-    reserve-if-requires-2
-    reserve-if-requires-3
-    reserve-if-requires-4
-    after-round-requires
+    round-requires
+    case-of-requires-3
     enum-known-call-5
-    after-bid-requires
+    bid-requires
+    case-of-requires-4
     enum-told
-    after-close-requires
+    close-requires
+    case-of-requires-5
     enum-known-call-6
-    after-allocate-requires
+    allocate-requires
+    case-of-requires-6
     enum-known-call-7
-    after-tear-requires
+    tear-requires
+    case-of-requires-7
     enum-told-2
-    after-call-requires
+    call-requires
+    case-of-requires-8
     enum-known-call-8
-    after-pay-requires
+    pay-requires
+    case-of-requires-9
     enum-known-call-9
-    after-move-requires
+    move-units-requires
+    case-of-requires-10
     enum-known-call-10
-    after-miss-requires
+    miss-requires
+    case-of-requires-11
     enum-told-3
-    after-finish-requires
+    finish-requires
+    case-of-requires-12
     enum-told-4
     returns
     returns-2

@@ -1,10 +1,25 @@
 -- `case::answer_in` meets its contract. Assumes nothing.
+use mathlib.Core.Path.{_∙_}
 use Rattle.wire.specs.Asked.{asked}
-use Rattle.case.specs.Cases.{bookAnswer, bookAnswerTo}
-use Rattle.case.proofs.Outcomes.{round-answered}
+use Rattle.case.specs.Cases.{caseAnswer, caseAnswerTo}
+use Rattle.case.proofs.Outcomes.{reserves-answered}
 use borrow.Author.Needs.{needs}
 use Rattle.case.proofs.answer_in.Statement.{statement}
 use Rattle.case.proofs.answer_in.Tie as tie
+use Rattle.case.proofs.answer_in.Reads as reads
+use Rattle.case.proofs.answer_in.Lts as lts
+use Rattle.book.proofs.Book.allocate_answer.Reads as allocate-answer-reads
+use Rattle.book.proofs.Book.bid_answer.Reads as bid-answer-reads
+use Rattle.book.proofs.Book.call_answer.Reads as call-answer-reads
+use Rattle.book.proofs.Book.finish_answer.Reads as finish-answer-reads
+use Rattle.book.proofs.Book.member_answer.Reads as member-answer-reads
+use Rattle.book.proofs.Book.miss_answer.Reads as miss-answer-reads
+use Rattle.book.proofs.Book.move_answer.Reads as move-answer-reads
+use Rattle.book.proofs.Book.pay_answer.Reads as pay-answer-reads
+use Rattle.book.proofs.Book.pool_answer.Reads as pool-answer-reads
+use Rattle.book.proofs.Book.tear_answer.Reads as tear-answer-reads
+use Rattle.book.proofs.close_answer.Reads as close-answer-reads
+use Rattle.case.proofs.reserves_answer.Reads as reserves-answer-reads
 
 enum-told : tie.Need-enum-told
 enum-told c = search needs
@@ -24,23 +39,8 @@ member-answer-requires c κs = search needs
 enum-known-call-3 : tie.Need-enum-known-call-3
 enum-known-call-3 c = search needs
 
-at-most-four-requires : tie.Need-at-most-four-requires
-at-most-four-requires c κs = search needs
-
-reserve-if-requires : tie.Need-reserve-if-requires
-reserve-if-requires c κs = search needs
-
-reserve-if-requires-2 : tie.Need-reserve-if-requires-2
-reserve-if-requires-2 c κs = search needs
-
-reserve-if-requires-3 : tie.Need-reserve-if-requires-3
-reserve-if-requires-3 c κs = search needs
-
-reserve-if-requires-4 : tie.Need-reserve-if-requires-4
-reserve-if-requires-4 c κs = search needs
-
-round-answer-requires : tie.Need-round-answer-requires
-round-answer-requires c κs = search needs
+reserves-answer-requires : tie.Need-reserves-answer-requires
+reserves-answer-requires c κs = search needs
 
 enum-known-call-4 : tie.Need-enum-known-call-4
 enum-known-call-4 c = search needs
@@ -100,59 +100,58 @@ enum-told-5 : tie.Need-enum-told-5
 enum-told-5 c = search needs
 
 returns : tie.Need-returns
-unfolding asked bookAnswerTo bookAnswer
+unfolding asked caseAnswerTo caseAnswer
 returns c = simp (c .enum-told .given .1)
 
 returns-2 : tie.Need-returns-2
-unfolding asked bookAnswerTo bookAnswer
+unfolding asked caseAnswerTo caseAnswer
 returns-2 c = simp (c .before .before .call .given .1, c .pool-answer .ensures)
 
 returns-3 : tie.Need-returns-3
-unfolding asked bookAnswerTo bookAnswer
+unfolding asked caseAnswerTo caseAnswer
 returns-3 c = simp (c .before .before .call2 .given .1, c .member-answer .ensures)
 
 returns-4 : tie.Need-returns-4
-unfolding asked bookAnswerTo
-returns-4 c = simp (c .before .before .before .before .before .before .before .call3 .given .1, c .round-answer .ensures, c .before .before .before .before .before .at-most-four .ensures, c .before .before .before .before .reserve-if .ensures, c .before .before .before .reserve-if2 .ensures, c .before .before .reserve-if3 .ensures, c .before .reserve-if4 .ensures) (round-answered _ _ _ _ _ _)
+returns-4 c = rw (c .before .before .call3 .given .1) (c .reserves-answer .ensures ∙ reserves-answered _ _ _ _ _ _)
 
 returns-5 : tie.Need-returns-5
-unfolding asked bookAnswerTo bookAnswer
+unfolding asked caseAnswerTo caseAnswer
 returns-5 c = simp (c .before .before .call4 .given .1, c .bid-answer .ensures)
 
 returns-6 : tie.Need-returns-6
-unfolding asked bookAnswerTo bookAnswer
+unfolding asked caseAnswerTo caseAnswer
 returns-6 c = simp (c .before .enum-told2 .given .1, c .close-answer .ensures)
 
 returns-7 : tie.Need-returns-7
-unfolding asked bookAnswerTo bookAnswer
+unfolding asked caseAnswerTo caseAnswer
 returns-7 c = simp (c .before .before .call5 .given .1, c .allocate-answer .ensures)
 
 returns-8 : tie.Need-returns-8
-unfolding asked bookAnswerTo bookAnswer
+unfolding asked caseAnswerTo caseAnswer
 returns-8 c = simp (c .before .before .call6 .given .1, c .tear-answer .ensures)
 
 returns-9 : tie.Need-returns-9
-unfolding asked bookAnswerTo bookAnswer
+unfolding asked caseAnswerTo caseAnswer
 returns-9 c = simp (c .before .enum-told3 .given .1, c .call-answer .ensures)
 
 returns-10 : tie.Need-returns-10
-unfolding asked bookAnswerTo bookAnswer
+unfolding asked caseAnswerTo caseAnswer
 returns-10 c = simp (c .before .before .call7 .given .1, c .pay-answer .ensures)
 
 returns-11 : tie.Need-returns-11
-unfolding asked bookAnswerTo bookAnswer
+unfolding asked caseAnswerTo caseAnswer
 returns-11 c = simp (c .before .before .call8 .given .1, c .move-answer .ensures)
 
 returns-12 : tie.Need-returns-12
-unfolding asked bookAnswerTo bookAnswer
+unfolding asked caseAnswerTo caseAnswer
 returns-12 c = simp (c .before .before .call9 .given .1, c .miss-answer .ensures)
 
 returns-13 : tie.Need-returns-13
-unfolding asked bookAnswerTo bookAnswer
+unfolding asked caseAnswerTo caseAnswer
 returns-13 c = simp (c .before .enum-told4 .given .1, c .finish-answer .ensures)
 
 returns-14 : tie.Need-returns-14
-unfolding asked bookAnswerTo
+unfolding asked caseAnswerTo caseAnswer
 returns-14 c = simp (c .enum-told5 .given .1)
 
 pub answer-in-spec : {M : Type 1} → statement M
@@ -165,12 +164,7 @@ answer-in-spec =
     enum-known-call-2
     member-answer-requires
     enum-known-call-3
-    at-most-four-requires
-    reserve-if-requires
-    reserve-if-requires-2
-    reserve-if-requires-3
-    reserve-if-requires-4
-    round-answer-requires
+    reserves-answer-requires
     enum-known-call-4
     bid-answer-requires
     enum-told-2

@@ -2,7 +2,8 @@
 use native.Mathlib.Omega.{arith}
 use Prim.Native.Nat.{ℕ, _<_}
 use Rattle.lists.proofs.Each.{each-of}
-use Rattle.report.proofs.Printing.{prints-none, rest-lent, prints}
+use Rattle.case.proofs.Fronts.{rest-all}
+use Rattle.report.proofs.Printing.{prints-none, prints}
 use borrow.Author.Needs.{needs}
 use Rattle.report.proofs.print.Statement.{statement}
 use Rattle.report.proofs.print.Tie as tie
@@ -49,7 +50,7 @@ returns-3 c =
     (each-of (λ (b : ℕ). b < 256) input 0 (λ i h. omega (arith, c .before .before .before .before .before .before .before .before .before .before .before .before .before .before .before .before .before .before .shared-slice-known .given i)))
     (omega (arith, c .before .before .before .before .before .before .before .before .before .before .before .before .before .before .before .before .if1 .left, c .before .before .before .before .before .before .before .before .before .before .before .before .before .before .before .if2 .left))
     (rw (c .before .before .before .before .before .before .before .before .before .before .before .before .before .before .none .ensures) at (t .ensures))
-    (rw (rest-lent input (t .result .used)) at (c .before .before .before .before .before .before .write-cut .ensures))
+    (rw (rest-all input (t .result .used)) at (c .before .before .before .before .before .before .write-cut .ensures))
     (c .before .before .write-end .ensures)
 
 pub print-spec : {M : Type 1} → statement M

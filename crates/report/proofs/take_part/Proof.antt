@@ -1,130 +1,91 @@
--- `report::take_part` meets its contract. The invariant is `Taking`; its laws begin, keep and end it. Assumes nothing.
+-- `report::take_part` meets its contract. The invariant is `Taking`; its laws begin, keep and end it. The measure is the number of bytes left. Assumes nothing.
+use mathlib.Core.Path.{_≡_, refl, _∙_}
+use Prim.Native.Nat.{ℕ, _-_, _<_}
 use native.Mathlib.Omega.{arith}
-use borrow.Author.Needs.{needs}
-use Prim.Native.Nat.{_-_}
 use lib.ListN.{length}
-use Rattle.case.proofs.Running.{field-read, asked-declined, asked-after, asked-kept}
-use Rattle.report.proofs.Taking.{Taking, starts, takes, takes-none, ends-cut, first-cut, field-ends, field-some, sized, goes}
+use denote.Ref.{now}
+use Rattle.lists.proofs.Each.{each-of}
+use Rattle.case.specs.Claim.{Bytes}
+use Rattle.report.proofs.Taking.{Taking, starts, lent, goes, used-within, none-left, takes-none, takes, none-behind}
+use borrow.Author.Needs.{needs}
 use Rattle.report.proofs.take_part.Statement.{statement}
 use Rattle.report.proofs.take_part.Tie as tie
+use Rattle.report.proofs.take_part.Reads as reads
+use Rattle.report.proofs.take_part.Lts as lts
+use Rattle.case.proofs.take_fields.Reads as take-fields-reads
+use Rattle.report.proofs.write_answers.Reads as write-answers-reads
 
 abbrev Inv-loop : tie.InvT-loop
-Inv-loop input out₀ present₀ case₀ used₀ written₀ out present case used written =
-    Taking (record { present = present₀; case = case₀ }) input out₀ out (record { present = present; case = case }) used written
+Inv-loop input out₀ next₀ used₀ written₀ ends₀ answers₀ out next used written ends answers = Taking next₀ input out₀ out next used written × (length ends ≡ 256) × (length answers ≡ 256)
 
 abbrev μ-loop : tie.MeasureT-loop
-μ-loop input out₀ present₀ case₀ used₀ written₀ out present case used written = length input - used
+μ-loop input out₀ next₀ used₀ written₀ ends₀ answers₀ out next used written ends answers = length input - used
+
+-- what is read are bytes
+bytes : (c : tie.After-shared-slice-known Inv-loop μ-loop) → Bytes (now (c .before .args .input))
+bytes c = each-of (λ (b : ℕ). b < 256) (now (c .before .args .input)) 0 (λ i h. omega (arith, c .shared-slice-known .given i))
 
 returns : tie.Need-returns Inv-loop μ-loop
 returns c = takes-none _ _ _ (c .if1 .taken)
 
 loop-holds : tie.Need-loop-holds Inv-loop μ-loop
-loop-holds c = starts _ _ _ (omega arith)
+loop-holds c = (starts _ _ _ (omega (arith, c .if1 .left)), refl, refl)
 
-sub-whole-size : tie.Need-sub-whole-size Inv-loop μ-loop
-sub-whole-size c = search needs
+sub-rest : tie.Need-sub-rest Inv-loop μ-loop
+sub-rest c = let w = c .before .loop .inv .0 .place in search (needs, w)
 
-part-whole-size-start : tie.Need-part-whole-size-start Inv-loop μ-loop
-part-whole-size-start c = search needs
+part-rest-start : tie.Need-part-rest-start Inv-loop μ-loop
+part-rest-start c = let w = c .before .loop .inv .0 .place in search (needs, w)
 
-part-whole-size-end : tie.Need-part-whole-size-end Inv-loop μ-loop
-part-whole-size-end c = search needs
+part-rest-end : tie.Need-part-rest-end Inv-loop μ-loop
+part-rest-end c = search needs
 
-whole-size-requires : tie.Need-whole-size-requires Inv-loop μ-loop
-whole-size-requires c κs = search needs
+slice-aggregate-take-fields : tie.Need-slice-aggregate-take-fields Inv-loop μ-loop
+slice-aggregate-take-fields c = let w = c .before .before .before .loop .inv .1 in search (needs, w)
 
-same-length : tie.Need-same-length Inv-loop μ-loop
-same-length c = c .before .before .before .before .loop .inv .size
+slice-aggregate-take-fields-2 : tie.Need-slice-aggregate-take-fields-2 Inv-loop μ-loop
+slice-aggregate-take-fields-2 c = let w = c .before .before .before .before .loop .inv .2 in search (needs, w)
 
-returns-2 : tie.Need-returns-2 Inv-loop μ-loop
-returns-2 c = takes _ _ _ _ _ _ _ (c .before .before .before .before .loop .inv) (first-cut _ _ (sized (c .before .before .before .before .before .before .before .before .before .args .input .now) (c .before .before .before .before .loop .used) _ (c .before .whole-size .ensures)) (c .if2 .taken))
+take-fields-requires : tie.Need-take-fields-requires Inv-loop μ-loop
+take-fields-requires c κs = search needs
 
-add-end : tie.Need-add-end Inv-loop μ-loop
-add-end c =
-    omega (arith, field-ends _ _ _ _ _ _ _ (c .before .before .before .before .loop .inv) (c .before .before .before .loop-test .taken) _ (sized (c .before .before .before .before .before .before .before .before .before .args .input .now) (c .before .before .before .before .loop .used) _ (c .before .whole-size .ensures)) (c .if2 .left))
+slice-aggregate-write-answers : tie.Need-slice-aggregate-write-answers Inv-loop μ-loop
+slice-aggregate-write-answers c = let w = c .before .before .before .before .take-fields .kept .1 .1 .1 .0 ∙ c .before .before .before .before .before .before .before .before .before .loop .inv .1 in search (needs, w)
 
-sub-read-call : tie.Need-sub-read-call Inv-loop μ-loop
-sub-read-call c = search needs
+slice-aggregate-write-answers-2 : tie.Need-slice-aggregate-write-answers-2 Inv-loop μ-loop
+slice-aggregate-write-answers-2 c = let w = c .before .before .before .before .before .take-fields .kept .1 .1 .1 .1 .0 ∙ c .before .before .before .before .before .before .before .before .before .before .loop .inv .2 in search (needs, w)
 
-part-read-call-start : tie.Need-part-read-call-start Inv-loop μ-loop
-part-read-call-start c = search needs
+write-answers-requires : tie.Need-write-answers-requires Inv-loop μ-loop
+write-answers-requires c κs = search needs
 
-part-read-call-end : tie.Need-part-read-call-end Inv-loop μ-loop
-part-read-call-end c =
-    let h = field-ends _ _ _ _ _ _ _ (c .before .before .before .before .loop .inv) (c .before .before .before .loop-test .taken) _ (sized (c .before .before .before .before .before .before .before .before .before .args .input .now) (c .before .before .before .before .loop .used) _ (c .before .whole-size .ensures)) (c .if2 .left) in
-    search needs
-
-read-call-requires : tie.Need-read-call-requires Inv-loop μ-loop
-read-call-requires c κs = search needs
-
-answer-to-requires : tie.Need-answer-to-requires Inv-loop μ-loop
-answer-to-requires c κs = search needs
-
-shared-slice-read-write-answer : tie.Need-shared-slice-read-write-answer Inv-loop μ-loop
-shared-slice-read-write-answer c = search needs
-
-write-answer-requires : tie.Need-write-answer-requires Inv-loop μ-loop
-write-answer-requires c κs = search needs
-
-keeps-units-requires : tie.Need-keeps-units-requires Inv-loop μ-loop
-keeps-units-requires c κs = search needs
-
-book-after-requires : tie.Need-book-after-requires Inv-loop μ-loop
-book-after-requires c κs = search needs
+add-used : tie.Need-add-used Inv-loop μ-loop
+add-used c = let l = c .before .before .before .before .before .before .before .before .before .before .before .before .before .before .before .before .loop in omega (arith, used-within _ _ _ _ _ _ _ (l .inv .0) (bytes (c .before .before .before .before .before .before .before .before .before .before .before .before .before .before .before .before .before .before .before)) _ _ _ _ _ (lent _ (now (c .before .before .before .before .before .before .before .before .before .before .before .before .before .before .before .before .before .before .before .before .args .input)) (l .used) _ _ _ _ _ _ (c .before .before .before .before .before .before .before .before .before .before .before .take-fields .ensures)) .0, c .before .before .before .before .before .before .before .before .before .before .before .before .before .before .before .before .before .before .before .before .good .1 .0 .0)
 
 loop-less : tie.Need-loop-less Inv-loop μ-loop
-loop-less c =
-    omega (arith, field-some _ _ _ _ _ _ _ (c .before .before .before .before .before .before .before .before .before .before .before .before .before .before .before .before .before .before .loop .inv) (c .before .before .before .before .before .before .before .before .before .before .before .before .before .before .before .before .before .loop-test .taken) _ (sized (c .before .before .before .before .before .before .before .before .before .before .before .before .before .before .before .before .before .before .before .before .before .before .before .args .input .now) (c .before .before .before .before .before .before .before .before .before .before .before .before .before .before .before .before .before .before .loop .used) _ (c .before .before .before .before .before .before .before .before .before .before .before .before .before .before .before .whole-size .ensures)) (c .before .before .before .before .before .before .before .before .before .before .before .before .before .before .if2 .left))
+loop-less c = let l = c .before .before .before .before .before .before .before .before .before .before .before .before .before .before .before .before .loop in omega (arith, used-within _ _ _ _ _ _ _ (l .inv .0) (bytes (c .before .before .before .before .before .before .before .before .before .before .before .before .before .before .before .before .before .before .before)) _ _ _ _ _ (lent _ (now (c .before .before .before .before .before .before .before .before .before .before .before .before .before .before .before .before .before .before .before .before .args .input)) (l .used) _ _ _ _ _ _ (c .before .before .before .before .before .before .before .before .before .before .before .take-fields .ensures)), c .before .before .before .before .before .before .before .before .if2 .left)
 
 loop-again : tie.Need-loop-again Inv-loop μ-loop
 loop-again c =
-    let input = c .before .before .before .before .before .before .before .before .before .before .before .before .before .before .before .before .before .before .before .before .before .before .before .args .input .now in
-    let l = c .before .before .before .before .before .before .before .before .before .before .before .before .before .before .before .before .before .before .loop in
-    let size = c .before .before .before .before .before .before .before .before .before .before .before .before .before .before .before .whole-size .result in
-    goes _ _ _ _ _ _ _ (l .inv) (c .before .before .before .before .before .before .before .before .before .before .before .before .before .before .before .before .before .loop-test .taken) size (sized input (l .used) _ (c .before .before .before .before .before .before .before .before .before .before .before .before .before .before .before .whole-size .ensures)) (c .before .before .before .before .before .before .before .before .before .before .before .before .before .before .if2 .left) _
-    (asked-kept (record { present = l .present; case = l .case }) _ _ _ (c .before .before .before .before .before .before .before .before .before .before .answer-to .ensures) (field-read input (l .used) size _ (c .before .before .before .before .before .before .before .before .before .before .before .before .read-call .ensures)) _ _ (c .before .before .before .before .if3 .taken) (c .before .before .before .keeps-units .ensures) (c .before .before .if4 .taken) (c .book-after .ensures))
-    (let b = c .before .before .before .before .before .before .before .before .before .before .before .before .before .before .before .before .before .before .before .before .before .before .shared-slice-known .given (l .used) in omega arith)
-    (omega arith)
-    _ _ (c .before .before .before .before .before .before .before .write-answer .ensures)
+    let l = c .before .before .before .before .before .before .before .before .before .before .before .before .before .before .before .before .loop in
+    (
+      goes _ _ _ _ _ _ _ (l .inv .0) (bytes (c .before .before .before .before .before .before .before .before .before .before .before .before .before .before .before .before .before .before .before)) _ _ _ _ _ (lent _ (now (c .before .before .before .before .before .before .before .before .before .before .before .before .before .before .before .before .before .before .before .before .args .input)) (l .used) _ _ _ _ _ _ (c .before .before .before .before .before .before .before .before .before .before .before .take-fields .ensures)) _ _ (c .before .before .before .before .write-answers .ensures),
+      c .before .before .before .before .before .before .before .before .before .before .before .take-fields .kept .1 .1 .1 .0 ∙ l .inv .1,
+      c .before .before .before .before .before .before .before .before .before .before .before .take-fields .kept .1 .1 .1 .1 .0 ∙ l .inv .2,
+    )
 
-after-requires : tie.Need-after-requires Inv-loop μ-loop
-after-requires c κs = search needs
+same-length : tie.Need-same-length Inv-loop μ-loop
+same-length c = c .before .loop .inv .0 .size
 
-loop-less-2 : tie.Need-loop-less-2 Inv-loop μ-loop
-loop-less-2 c =
-    omega (arith, field-some _ _ _ _ _ _ _ (c .before .before .before .before .before .before .before .before .before .before .before .before .before .before .before .before .before .loop .inv) (c .before .before .before .before .before .before .before .before .before .before .before .before .before .before .before .before .loop-test .taken) _ (sized (c .before .before .before .before .before .before .before .before .before .before .before .before .before .before .before .before .before .before .before .before .before .before .args .input .now) (c .before .before .before .before .before .before .before .before .before .before .before .before .before .before .before .before .before .loop .used) _ (c .before .before .before .before .before .before .before .before .before .before .before .before .before .before .whole-size .ensures)) (c .before .before .before .before .before .before .before .before .before .before .before .before .before .if2 .left))
-
-loop-again-2 : tie.Need-loop-again-2 Inv-loop μ-loop
-loop-again-2 c =
-    let input = c .before .before .before .before .before .before .before .before .before .before .before .before .before .before .before .before .before .before .before .before .before .before .args .input .now in
-    let l = c .before .before .before .before .before .before .before .before .before .before .before .before .before .before .before .before .before .loop in
-    let size = c .before .before .before .before .before .before .before .before .before .before .before .before .before .before .whole-size .result in
-    goes _ _ _ _ _ _ _ (l .inv) (c .before .before .before .before .before .before .before .before .before .before .before .before .before .before .before .before .loop-test .taken) size (sized input (l .used) _ (c .before .before .before .before .before .before .before .before .before .before .before .before .before .before .whole-size .ensures)) (c .before .before .before .before .before .before .before .before .before .before .before .before .before .if2 .left) _
-    (asked-after (record { present = l .present; case = l .case }) _ _ _ (c .before .before .before .before .before .before .before .before .before .answer-to .ensures) (field-read input (l .used) size _ (c .before .before .before .before .before .before .before .before .before .before .before .read-call .ensures)) _ (c .before .before .before .if3 .taken) (c .after .ensures))
-    (let b = c .before .before .before .before .before .before .before .before .before .before .before .before .before .before .before .before .before .before .before .before .before .shared-slice-known .given (l .used) in omega arith)
-    (omega arith)
-    _ _ (c .before .before .before .before .before .before .write-answer .ensures)
-
-loop-less-3 : tie.Need-loop-less-3 Inv-loop μ-loop
-loop-less-3 c =
-    omega (arith, field-some _ _ _ _ _ _ _ (c .before .before .before .before .before .before .before .before .before .before .before .before .before .before .loop .inv) (c .before .before .before .before .before .before .before .before .before .before .before .before .before .loop-test .taken) _ (sized (c .before .before .before .before .before .before .before .before .before .before .before .before .before .before .before .before .before .before .before .args .input .now) (c .before .before .before .before .before .before .before .before .before .before .before .before .before .before .loop .used) _ (c .before .before .before .before .before .before .before .before .before .before .before .whole-size .ensures)) (c .before .before .before .before .before .before .before .before .before .before .if2 .left))
-
-loop-again-3 : tie.Need-loop-again-3 Inv-loop μ-loop
-loop-again-3 c =
-    let input = c .before .before .before .before .before .before .before .before .before .before .before .before .before .before .before .before .before .before .before .args .input .now in
-    let l = c .before .before .before .before .before .before .before .before .before .before .before .before .before .before .loop in
-    let size = c .before .before .before .before .before .before .before .before .before .before .before .whole-size .result in
-    goes _ _ _ _ _ _ _ (l .inv) (c .before .before .before .before .before .before .before .before .before .before .before .before .before .loop-test .taken) size (sized input (l .used) _ (c .before .before .before .before .before .before .before .before .before .before .before .whole-size .ensures)) (c .before .before .before .before .before .before .before .before .before .before .if2 .left) _
-    (asked-declined (record { present = l .present; case = l .case }) _ _ _ (c .before .before .before .before .before .before .answer-to .ensures) (field-read input (l .used) size _ (c .before .before .before .before .before .before .before .before .read-call .ensures)) (c .if3 .left))
-    (let b = c .before .before .before .before .before .before .before .before .before .before .before .before .before .before .before .before .before .before .shared-slice-known .given (l .used) in omega arith)
-    (omega arith)
-    _ _ (c .before .before .before .write-answer .ensures)
+returns-2 : tie.Need-returns-2 Inv-loop μ-loop
+returns-2 c = takes _ _ _ _ _ _ _ (c .before .loop .inv .0) (none-behind _ _ (c .loop-test .left))
 
 same-length-2 : tie.Need-same-length-2 Inv-loop μ-loop
-same-length-2 c = c .before .loop .inv .size
+same-length-2 c = c .before .before .before .before .before .before .before .before .loop .inv .0 .size
 
 returns-3 : tie.Need-returns-3 Inv-loop μ-loop
-returns-3 c = takes _ _ _ _ _ _ _ (c .before .loop .inv) (ends-cut _ _ (c .loop-test .left))
+returns-3 c =
+    let l = c .before .before .before .before .before .before .before .before .loop in
+    takes _ _ _ _ _ _ _ (l .inv .0) (none-left _ _ _ _ _ _ _ (l .inv .0) (bytes (c .before .before .before .before .before .before .before .before .before .before .before)) _ _ _ _ _ (lent _ (now (c .before .before .before .before .before .before .before .before .before .before .before .before .args .input)) (l .used) _ _ _ _ _ _ (c .before .before .before .take-fields .ensures)) (omega (arith, l .inv .2)) (omega (arith, l .inv .1)) (c .if2 .taken))
 
 pub take-part-spec : {M : Type 1} → statement M
 take-part-spec =
@@ -134,28 +95,19 @@ take-part-spec =
     μ-loop
     returns
     loop-holds
-    sub-whole-size
-    part-whole-size-start
-    part-whole-size-end
-    whole-size-requires
-    same-length
-    returns-2
-    add-end
-    sub-read-call
-    part-read-call-start
-    part-read-call-end
-    read-call-requires
-    answer-to-requires
-    shared-slice-read-write-answer
-    write-answer-requires
-    keeps-units-requires
-    book-after-requires
+    sub-rest
+    part-rest-start
+    part-rest-end
+    slice-aggregate-take-fields
+    slice-aggregate-take-fields-2
+    take-fields-requires
+    slice-aggregate-write-answers
+    slice-aggregate-write-answers-2
+    write-answers-requires
+    add-used
     loop-less
     loop-again
-    after-requires
-    loop-less-2
-    loop-again-2
-    loop-less-3
-    loop-again-3
+    same-length
+    returns-2
     same-length-2
     returns-3)

@@ -1,14 +1,18 @@
 -- `report::write_end` meets its contract. Assumes nothing.
-use mathlib.Core.Path.{ap, _∙_}
 use mathlib.Core.List.{List}
+use mathlib.Core.Path.{ap, _∙_}
+use Rattle.lists.specs.Lists.{tab}
 use Rattle.machine.specs.Printed.{Line}
+use Rattle.report.specs.Texts.{pLineOf, finishLines, placedLines}
 use Rattle.report.proofs.Placing.{lines-none, lines-then}
 use Rattle.report.proofs.Lines.{held-some, held-none}
-use Rattle.report.specs.Texts.{placedLines, pLineOf, finishLines}
-use Rattle.lists.specs.Lists.{tab}
 use borrow.Author.Needs.{needs}
 use Rattle.report.proofs.write_end.Statement.{statement}
 use Rattle.report.proofs.write_end.Tie as tie
+use Rattle.report.proofs.write_end.Reads as reads
+use Rattle.report.proofs.write_end.Lts as lts
+use Rattle.report.proofs.write_finish.Reads as write-finish-reads
+use Rattle.report.proofs.write_pools.Reads as write-pools-reads
 
 write-pools-requires : tie.Need-write-pools-requires
 write-pools-requires c κs = search needs
@@ -20,17 +24,10 @@ same-length : tie.Need-same-length
 same-length c = search needs
 
 returns : tie.Need-returns
-returns c =
-    let a = c .before .before .before .before .before .before .before .before .before .before .before .before .args in
-    let b = a .held .case .book in
-    lines-then (tab (b .pools .given) (pLineOf (a .held .case))) (finishLines b) (a .out .now) _ _ (a .at) _ _ (c .before .before .before .before .before .before .write-pools .ensures) (c .before .before .write-finish .ensures)
-    ∙ ap (λ (ls : List Line). placedLines ls (a .out .now) (a .at)) (held-some (a .held) (c .before .before .before .before .before .before .before .before .before .before .if1 .taken))
+returns c = let a = c .before .before .before .before .before .before .before .before .before .before .before .args in lines-then (tab (a .held .case .book .pools .given) (pLineOf (a .held .case))) (finishLines (a .held .case)) (a .out .now) _ _ (a .at) _ _ (c .before .before .before .before .before .before .write-pools .ensures) (c .before .before .write-finish .ensures) ∙ ap (λ (ls : List Line). placedLines ls (a .out .now) (a .at)) (held-some (a .held) (c .before .before .before .before .before .before .before .before .before .if1 .taken))
 
 returns-2 : tie.Need-returns-2
-returns-2 c =
-    let a = c .before .before .args in
-    lines-none (a .out .now) (a .at)
-    ∙ ap (λ (ls : List Line). placedLines ls (a .out .now) (a .at)) (held-none (a .held) (c .if1 .left))
+returns-2 c = let a = c .before .before .args in lines-none (a .out .now) (a .at) ∙ ap (λ (ls : List Line). placedLines ls (a .out .now) (a .at)) (held-none (a .held) (c .if1 .left))
 
 pub write-end-spec : {M : Type 1} → statement M
 write-end-spec =

@@ -6,6 +6,10 @@ use Rattle.report.proofs.Lines.{p-line}
 use borrow.Author.Needs.{needs}
 use Rattle.report.proofs.write_pool.Statement.{statement}
 use Rattle.report.proofs.write_pool.Tie as tie
+use Rattle.report.proofs.write_pool.Reads as reads
+use Rattle.report.proofs.write_pool.Lts as lts
+use Rattle.case.proofs.Case.count.Reads as count-reads
+use Rattle.lines.proofs.write_line.Reads as write-line-reads
 
 count-requires : tie.Need-count-requires
 count-requires c κs = search needs
@@ -29,10 +33,7 @@ same-length : tie.Need-same-length
 same-length c = search needs
 
 returns : tie.Need-returns
-returns c =
-    let a = c .before .before .before .before .before .before .before .before .before .before .before .args in
-    c .before .before .write-line .ensures
-    ∙ ap (λ (l : Line). placed (lineText l) (a .out .now) (a .at)) (p-line (a .case) (a .pool) _ _ _ _ _ (c .before .before .before .before .before .before .before .before .count .ensures) (c .before .before .before .before .before .before .before .count2 .ensures) (c .before .before .before .before .before .before .count3 .ensures) (c .before .before .before .before .before .count4 .ensures) (c .before .before .before .before .count5 .ensures))
+returns c = let a = c .before .before .before .before .before .before .before .before .before .before .args in c .before .before .write-line .ensures ∙ ap (λ (l : Line). placed (lineText l) (a .out .now) (a .at)) (p-line (a .case) (a .pool) _ _ _ _ _ (c .before .before .before .before .before .before .before .before .count .ensures) (c .before .before .before .before .before .before .before .count2 .ensures) (c .before .before .before .before .before .before .count3 .ensures) (c .before .before .before .before .before .count4 .ensures) (c .before .before .before .before .count5 .ensures))
 
 pub write-pool-spec : {M : Type 1} → statement M
 write-pool-spec =

@@ -7,7 +7,7 @@ use native.Mathlib.Omega.{arith}
 use lib.ListN.{length}
 use Rattle.machine.specs.Wire.{ROUND, price, callOf}
 use Rattle.wire.specs.Asked.{asked}
-use Rattle.wire.proofs.Numbers.{round-small, reserves-of}
+use Rattle.wire.proofs.Numbers.{round-small, round-count, reserves-of}
 use borrow.Author.Needs.{needs}
 use Rattle.wire.proofs.read_round.Statement.{statement}
 use Rattle.wire.proofs.read_round.Tie as tie
@@ -32,9 +32,10 @@ unfolding asked callOf
 returns c =
     let s = c .before .before .before .before .before in
     let v = s .args .v .now in
-    ap (λ (l : List ℕ). some (ROUND l))
+    rw (round-count (length v) (s .pre))
+    (ap (λ (l : List ℕ). some (ROUND l))
     (reserves-of (length v) (s .pre) (λ p. price (4 * p) v) _ _ _ _
-    (c .before .before .before .price-or-none .ensures) (c .before .before .price-or-none2 .ensures) (c .before .price-or-none3 .ensures) (c .price-or-none4 .ensures))
+    (c .before .before .before .price-or-none .ensures) (c .before .before .price-or-none2 .ensures) (c .before .price-or-none3 .ensures) (c .price-or-none4 .ensures)))
 
 pub read-round-spec : {M : Type 1} → statement M
 read-round-spec =

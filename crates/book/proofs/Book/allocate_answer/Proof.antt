@@ -1,9 +1,19 @@
 -- `book::Book::allocate_answer` meets its contract. The tests stand in the order of their numbers, and the dearest is asked last. Assumes nothing.
+use mathlib.Core.Path.{_≡_}
 use Rattle.lists.specs.Tests.{firstOf}
-use Rattle.book.proofs.InTwo.{short-from, allocate-declined, allocate-let-pass}
+use Rattle.book.specs.Books.{shortIn}
+use Rattle.book.proofs.InTwo.{allocateFirst, allocate-declined, allocate-let-pass}
 use borrow.Author.Needs.{needs}
 use Rattle.book.proofs.Book.allocate_answer.Statement.{statement}
 use Rattle.book.proofs.Book.allocate_answer.Tie as tie
+use Rattle.book.proofs.Book.allocate_answer.Reads as reads
+use Rattle.book.proofs.Book.allocate_answer.Lts as lts
+use Rattle.accounts.proofs.pools.Pools.mark.Reads as mark-reads
+use Rattle.book.proofs.Book.open_units.Reads as open-units-reads
+use Rattle.book.proofs.letter.Reads as letter-reads
+use Rattle.book.proofs.price_ok.Reads as price-ok-reads
+use Rattle.book.proofs.total_shortfall.Reads as total-shortfall-reads
+use Rattle.lists.proofs.decline_if.Reads as decline-if-reads
 
 letter-requires : tie.Need-letter-requires
 letter-requires c κs = search needs
@@ -32,22 +42,24 @@ decline-if-requires-4 c κs = search needs
 decline-if-requires-5 : tie.Need-decline-if-requires-5
 decline-if-requires-5 c κs = search needs
 
-returns : tie.Need-returns
+-- the tests that are asked first
+asked : (c : tie.After-decline-if5) → let a = c .before .before .before .before .before .before .before .before .before .before .before .before .args in c .decline-if5 .result ≡ firstOf (allocateFirst (a .stage) (a .self) (a .pool) (a .price) 0)
 unfolding firstOf
-returns c =
-    allocate-declined _ _ _ _
-    (simp (
-      c .before .decline-if5 .ensures,
-      c .before .before .decline-if4 .ensures,
-      c .before .before .before .before .decline-if3 .ensures,
-      c .before .before .before .before .before .decline-if2 .ensures,
-      c .before .before .before .before .before .before .decline-if .ensures,
-      c .before .before .before .before .before .before .before .price-ok .ensures,
-      c .before .before .before .before .before .before .before .before .open-units .ensures,
-      c .before .before .before .before .before .before .before .before .before .mark .ensures,
-      c .before .before .before .before .before .before .before .before .before .before .before .before .letter .ensures,
-    ))
-    (c .if1 .taken)
+asked c =
+    simp (
+      c .decline-if5 .ensures,
+      c .before .decline-if4 .ensures,
+      c .before .before .before .decline-if3 .ensures,
+      c .before .before .before .before .decline-if2 .ensures,
+      c .before .before .before .before .before .decline-if .ensures,
+      c .before .before .before .before .before .before .price-ok .ensures,
+      c .before .before .before .before .before .before .before .open-units .ensures,
+      c .before .before .before .before .before .before .before .before .mark .ensures,
+      c .before .before .before .before .before .before .before .before .before .before .before .letter .ensures,
+    )
+
+returns : tie.Need-returns
+returns c = let a = c .before .before .before .before .before .before .before .before .before .before .before .before .before .args in allocate-declined (a .stage) (a .self) (a .pool) (a .price) _ (asked (c .before)) (c .if1 .taken)
 
 total-shortfall-requires : tie.Need-total-shortfall-requires
 total-shortfall-requires c κs = search needs
@@ -56,23 +68,11 @@ decline-if-requires-6 : tie.Need-decline-if-requires-6
 decline-if-requires-6 c κs = search needs
 
 returns-2 : tie.Need-returns-2
-unfolding firstOf
+unfolding firstOf shortIn
 returns-2 c =
-    allocate-let-pass _ _ _ _
-    (simp (
-      c .before .before .before .before .before .before .before .decline-if5 .ensures,
-      c .before .before .before .before .before .before .before .before .decline-if4 .ensures,
-      c .before .before .before .before .before .before .before .before .before .before .decline-if3 .ensures,
-      c .before .before .before .before .before .before .before .before .before .before .before .decline-if2 .ensures,
-      c .before .before .before .before .before .before .before .before .before .before .before .before .decline-if .ensures,
-      c .before .before .before .before .before .before .before .before .before .before .before .before .before .price-ok .ensures,
-      c .before .before .before .before .before .before .before .before .before .before .before .before .before .before .open-units .ensures,
-      c .before .before .before .before .before .before .before .before .before .before .before .before .before .before .before .mark .ensures,
-      c .before .before .before .before .before .before .before .before .before .before .before .before .before .before .before .before .before .before .letter .ensures,
-    ))
-    (c .before .before .before .before .before .before .if1 .left)
-    _
-    (simp (c .decline-if6 .ensures, c .before .total-shortfall .ensures, short-from))
+    let a = c .before .before .before .before .before .before .before .before .before .before .before .before .before .before .before .before .before .before .before .args in
+    allocate-let-pass (a .stage) (a .self) (a .pool) (a .price) _ (asked (c .before .before .before .before .before .before .before)) (c .before .before .before .before .before .before .if1 .left) _
+    (simp (c .decline-if6 .ensures, c .before .total-shortfall .ensures))
 
 pub allocate-answer-spec : {M : Type 1} → statement M
 allocate-answer-spec =

@@ -4,6 +4,13 @@ use Rattle.book.specs.Answers.{bidAnswer}
 use borrow.Author.Needs.{needs}
 use Rattle.book.proofs.Book.bid_answer.Statement.{statement}
 use Rattle.book.proofs.Book.bid_answer.Tie as tie
+use Rattle.book.proofs.Book.bid_answer.Reads as reads
+use Rattle.book.proofs.Book.bid_answer.Lts as lts
+use Rattle.book.proofs.Book.open_units.Reads as open-units-reads
+use Rattle.book.proofs.bid_ok.Reads as bid-ok-reads
+use Rattle.book.proofs.letter.Reads as letter-reads
+use Rattle.lists.proofs.decline_if.Reads as decline-if-reads
+use Rattle.sets.proofs.has.Reads as has-reads
 
 letter-requires : tie.Need-letter-requires
 letter-requires c κs = search needs
@@ -40,20 +47,19 @@ decline-if-requires-7 c κs = search needs
 
 returns : tie.Need-returns
 unfolding bidAnswer firstOf
-returns c =
-    simp (
-      c .decline-if7 .ensures,
-      c .before .decline-if6 .ensures,
-      c .before .before .before .decline-if5 .ensures,
-      c .before .before .before .before .decline-if4 .ensures,
-      c .before .before .before .before .before .decline-if3 .ensures,
-      c .before .before .before .before .before .before .before .decline-if2 .ensures,
-      c .before .before .before .before .before .before .before .before .before .decline-if .ensures,
-      c .before .before .before .before .before .before .before .before .before .before .bid-ok .ensures,
-      c .before .before .before .before .before .before .before .before .before .before .before .open-units .ensures,
-      c .before .before .before .before .before .before .before .before .before .before .before .before .has .ensures,
-      c .before .before .before .before .before .before .before .before .before .before .before .before .before .before .before .letter .ensures,
-    )
+returns c = simp (
+  c .decline-if7 .ensures,
+  c .before .decline-if6 .ensures,
+  c .before .before .before .decline-if5 .ensures,
+  c .before .before .before .before .decline-if4 .ensures,
+  c .before .before .before .before .before .decline-if3 .ensures,
+  c .before .before .before .before .before .before .before .decline-if2 .ensures,
+  c .before .before .before .before .before .before .before .before .before .decline-if .ensures,
+  c .before .before .before .before .before .before .before .before .before .before .bid-ok .ensures,
+  c .before .before .before .before .before .before .before .before .before .before .before .open-units .ensures,
+  c .before .before .before .before .before .before .before .before .before .before .before .before .has .ensures,
+  c .before .before .before .before .before .before .before .before .before .before .before .before .before .before .before .letter .ensures,
+)
 
 pub bid-answer-spec : {M : Type 1} → statement M
 bid-answer-spec =

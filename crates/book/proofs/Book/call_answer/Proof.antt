@@ -4,6 +4,13 @@ use Rattle.book.proofs.InTwo.{call-declined, call-let-pass}
 use borrow.Author.Needs.{needs}
 use Rattle.book.proofs.Book.call_answer.Statement.{statement}
 use Rattle.book.proofs.Book.call_answer.Tie as tie
+use Rattle.book.proofs.Book.call_answer.Reads as reads
+use Rattle.book.proofs.Book.call_answer.Lts as lts
+use Rattle.book.proofs.Book.any_open.Reads as any-open-reads
+use Rattle.book.proofs.Book.prefunded.Reads as prefunded-reads
+use Rattle.book.proofs.Book.requirement.Reads as requirement-reads
+use Rattle.book.proofs.letter.Reads as letter-reads
+use Rattle.lists.proofs.decline_if.Reads as decline-if-reads
 
 letter-requires : tie.Need-letter-requires
 letter-requires c κs = search needs
@@ -19,7 +26,12 @@ decline-if-requires-2 c κs = search needs
 
 returns : tie.Need-returns
 unfolding firstOf
-returns c = call-declined _ _ (cc) (c .if1 .taken)
+returns c = call-declined _ _ _ (simp (
+  c .before .decline-if2 .ensures,
+  c .before .before .decline-if .ensures,
+  c .before .before .before .any-open .ensures,
+  c .before .before .before .before .letter .ensures,
+)) (c .if1 .taken)
 
 requirement-requires : tie.Need-requirement-requires
 requirement-requires c κs = search needs
@@ -32,7 +44,12 @@ decline-if-requires-3 c κs = search needs
 
 returns-2 : tie.Need-returns-2
 unfolding firstOf
-returns-2 c = call-let-pass _ _ (cc) (c .before .before .before .if1 .left) _ (cc)
+returns-2 c = call-let-pass _ _ _ (simp (
+  c .before .before .before .before .decline-if2 .ensures,
+  c .before .before .before .before .before .decline-if .ensures,
+  c .before .before .before .before .before .before .any-open .ensures,
+  c .before .before .before .before .before .before .before .letter .ensures,
+)) (c .before .before .before .if1 .left) _ (simp (c .decline-if3 .ensures, c .before .prefunded .ensures, c .before .before .requirement .ensures))
 
 pub call-answer-spec : {M : Type 1} → statement M
 call-answer-spec =

@@ -3,13 +3,16 @@ use Rattle.book.specs.Books.{contributionsIn}
 use borrow.Author.Needs.{needs}
 use Rattle.book.proofs.Book.contributions.Statement.{statement}
 use Rattle.book.proofs.Book.contributions.Tie as tie
+use Rattle.book.proofs.Book.contributions.Reads as reads
+use Rattle.book.proofs.Book.contributions.Lts as lts
+use Rattle.accounts.proofs.members.amounts.Reads as amounts-reads
 
 amounts-requires : tie.Need-amounts-requires
 amounts-requires c κs = search needs
 
 returns : tie.Need-returns
 unfolding contributionsIn
-returns c = c .amounts .ensures
+returns c = c .amounts .ensures .0
 
 pub contributions-spec : {M : Type 1} → statement M
 contributions-spec = tie.close (tie.spec amounts-requires returns)

@@ -1,9 +1,19 @@
--- `book::Book::finish_answer` meets its contract. The tests stand in the order of their numbers, and the dearest is asked last. Assumes nothing.
+-- `book::Book::finish_answer` meets its contract. The tests stand in the order of their numbers, and the dearest are asked last. Assumes nothing.
 use Rattle.lists.specs.Tests.{firstOf}
 use Rattle.book.proofs.InTwo.{finish-declined, finish-let-pass}
 use borrow.Author.Needs.{needs}
 use Rattle.book.proofs.Book.finish_answer.Statement.{statement}
 use Rattle.book.proofs.Book.finish_answer.Tie as tie
+use Rattle.book.proofs.Book.finish_answer.Reads as reads
+use Rattle.book.proofs.Book.finish_answer.Lts as lts
+use Rattle.accounts.proofs.members.Members.someone_owes.Reads as someone-owes-reads
+use Rattle.book.proofs.Book.any_open.Reads as any-open-reads
+use Rattle.book.proofs.Book.prefunded.Reads as prefunded-reads
+use Rattle.book.proofs.Book.requirement.Reads as requirement-reads
+use Rattle.book.proofs.letter.Reads as letter-reads
+use Rattle.lists.proofs.both.Reads as both-reads
+use Rattle.lists.proofs.decline_if.Reads as decline-if-reads
+use Rattle.lists.proofs.either.Reads as either-reads
 
 letter-requires : tie.Need-letter-requires
 letter-requires c κs = search needs
@@ -22,7 +32,7 @@ decline-if-requires-2 c κs = search needs
 
 returns : tie.Need-returns
 unfolding firstOf
-returns c = finish-declined _ _ (cc) (c .if1 .taken)
+returns c = finish-declined _ _ _ (cc) (c .if1 .taken)
 
 requirement-requires : tie.Need-requirement-requires
 requirement-requires c κs = search needs
@@ -44,7 +54,7 @@ decline-if-requires-4 c κs = search needs
 
 returns-2 : tie.Need-returns-2
 unfolding firstOf
-returns-2 c = finish-let-pass _ _ (cc) (c .before .before .before .before .before .before .before .if1 .left) _ (cc)
+returns-2 c = finish-let-pass _ _ _ (cc) (c .before .before .before .before .before .before .before .before .if1 .left) _ (cc)
 
 pub finish-answer-spec : {M : Type 1} → statement M
 finish-answer-spec =

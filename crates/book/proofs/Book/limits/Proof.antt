@@ -3,6 +3,10 @@ use Rattle.book.specs.Results.{limitsIn}
 use borrow.Author.Needs.{needs}
 use Rattle.book.proofs.Book.limits.Statement.{statement}
 use Rattle.book.proofs.Book.limits.Tie as tie
+use Rattle.book.proofs.Book.limits.Reads as reads
+use Rattle.book.proofs.Book.limits.Lts as lts
+use Rattle.accounts.proofs.members.amounts.Reads as amounts-reads
+use Rattle.book.proofs.Book.contributions.Reads as contributions-reads
 
 cast-house : tie.Need-cast-house
 cast-house c = search needs
@@ -27,7 +31,7 @@ sub-t11 c = search needs
 
 returns : tie.Need-returns
 unfolding limitsIn
-returns c = simp (c .before .before .amounts .ensures, c .before .before .before .before .contributions .ensures)
+returns c = simp (c .before .before .amounts .ensures .0, c .before .before .before .before .contributions .ensures)
 
 pub limits-spec : {M : Type 1} → statement M
 limits-spec =

@@ -4,6 +4,13 @@ use Rattle.book.specs.Answers.{memberAnswer}
 use borrow.Author.Needs.{needs}
 use Rattle.book.proofs.Book.member_answer.Statement.{statement}
 use Rattle.book.proofs.Book.member_answer.Tie as tie
+use Rattle.book.proofs.Book.member_answer.Reads as reads
+use Rattle.book.proofs.Book.member_answer.Lts as lts
+use Rattle.book.proofs.letter.Reads as letter-reads
+use Rattle.book.proofs.member_ok.Reads as member-ok-reads
+use Rattle.lists.proofs.decline_if.Reads as decline-if-reads
+use Rattle.lists.proofs.either.Reads as either-reads
+use Rattle.sets.proofs.has.Reads as has-reads
 
 letter-requires : tie.Need-letter-requires
 letter-requires c κs = search needs
@@ -31,7 +38,16 @@ decline-if-requires-3 c κs = search needs
 
 returns : tie.Need-returns
 unfolding memberAnswer firstOf
-returns c = cc
+returns c = simp (
+  c .decline-if3 .ensures,
+  c .before .decline-if2 .ensures,
+  c .before .before .either .ensures,
+  c .before .before .before .decline-if .ensures,
+  c .before .before .before .before .member-ok .ensures,
+  c .before .before .before .before .before .has2 .ensures,
+  c .before .before .before .before .before .before .has .ensures,
+  c .before .before .before .before .before .before .before .before .before .letter .ensures,
+)
 
 pub member-answer-spec : {M : Type 1} → statement M
 member-answer-spec =

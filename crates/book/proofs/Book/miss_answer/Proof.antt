@@ -4,6 +4,14 @@ use Rattle.book.specs.Answers.{missAnswer}
 use borrow.Author.Needs.{needs}
 use Rattle.book.proofs.Book.miss_answer.Statement.{statement}
 use Rattle.book.proofs.Book.miss_answer.Tie as tie
+use Rattle.book.proofs.Book.miss_answer.Reads as reads
+use Rattle.book.proofs.Book.miss_answer.Lts as lts
+use Rattle.book.proofs.Book.passed.Reads as passed-reads
+use Rattle.book.proofs.letter.Reads as letter-reads
+use Rattle.book.proofs.price_ok.Reads as price-ok-reads
+use Rattle.lists.proofs.decline_if.Reads as decline-if-reads
+use Rattle.lists.proofs.either.Reads as either-reads
+use Rattle.sets.proofs.has.Reads as has-reads
 
 letter-requires : tie.Need-letter-requires
 letter-requires c κs = search needs
@@ -34,18 +42,7 @@ decline-if-requires-4 c κs = search needs
 
 returns : tie.Need-returns
 unfolding missAnswer firstOf
-returns c =
-    simp (
-      c .decline-if4 .ensures,
-      c .before .either .ensures,
-      c .before .before .decline-if3 .ensures,
-      c .before .before .before .decline-if2 .ensures,
-      c .before .before .before .before .decline-if .ensures,
-      c .before .before .before .before .before .price-ok .ensures,
-      c .before .before .before .before .before .before .passed .ensures,
-      c .before .before .before .before .before .before .before .has .ensures,
-      c .before .before .before .before .before .before .before .before .before .letter .ensures,
-    )
+returns c = cc
 
 pub miss-answer-spec : {M : Type 1} → statement M
 miss-answer-spec =

@@ -3,6 +3,13 @@ use Rattle.book.specs.Books.{newBook}
 use borrow.Author.Needs.{needs}
 use Rattle.book.proofs.Book.new.Statement.{statement}
 use Rattle.book.proofs.Book.new.Tie as tie
+use Rattle.book.proofs.Book.new.Reads as reads
+use Rattle.book.proofs.Book.new.Lts as lts
+use Rattle.accounts.proofs.bids.Bids.new.Reads as bids-Bids-new-reads
+use Rattle.accounts.proofs.members.Members.new.Reads as members-Members-new-reads
+use Rattle.accounts.proofs.pools.Pools.new.Reads as pools-Pools-new-reads
+use Rattle.accounts.proofs.rounds.Rounds.new.Reads as rounds-Rounds-new-reads
+use Rattle.units.proofs.Units.new.Reads as Units-new-reads
 
 new-requires : tie.Need-new-requires
 new-requires c κs = search needs
@@ -16,15 +23,14 @@ new-requires-3 c κs = search needs
 new-requires-4 : tie.Need-new-requires-4
 new-requires-4 c κs = search needs
 
+new-requires-5 : tie.Need-new-requires-5
+new-requires-5 c κs = search needs
+
 returns : tie.Need-returns
 unfolding newBook
-returns c =
-    simp (
-      c .new4 .ensures,
-      c .before .new3 .ensures,
-      c .before .before .new2 .ensures,
-      c .before .before .before .new .ensures,
-    )
+returns c = cc
 
 pub new-spec : {M : Type 1} → statement M
-new-spec = tie.close (tie.spec new-requires new-requires-2 new-requires-3 new-requires-4 returns)
+new-spec =
+    tie.close
+    (tie.spec new-requires new-requires-2 new-requires-3 new-requires-4 new-requires-5 returns)

@@ -1,10 +1,19 @@
 -- `book::Book::result` meets its contract. The payments' shares are those that the split leaves in the run lent to it. Assumes nothing.
-use mathlib.Core.Path.{ap}
+use mathlib.Core.Path.{ap, _∙_}
 use Rattle.splitting.specs.Limits.{Answer}
-use Rattle.book.proofs.Finished.{result-of-parts}
+use Rattle.book.proofs.Parts.{result-of-parts}
 use borrow.Author.Needs.{needs}
 use Rattle.book.proofs.Book.result.Statement.{statement}
 use Rattle.book.proofs.Book.result.Tie as tie
+use Rattle.book.proofs.Book.result.Reads as reads
+use Rattle.book.proofs.Book.result.Lts as lts
+use Rattle.accounts.proofs.members.widened.Reads as widened-reads
+use Rattle.book.proofs.Book.limits.Reads as limits-reads
+use Rattle.book.proofs.Book.ranks.Reads as ranks-reads
+use Rattle.book.proofs.Book.requirement.Reads as requirement-reads
+use Rattle.splitting.proofs.split.Reads as split-reads
+use Rattle.waterfall.proofs.charge_by_rank.Reads as charge-by-rank-reads
+use Rattle.waterfall.proofs.charge_layers.Reads as charge-layers-reads
 
 requirement-requires : tie.Need-requirement-requires
 requirement-requires c κs = search needs
@@ -18,17 +27,23 @@ charge-layers-requires c κs = search needs
 ranks-requires : tie.Need-ranks-requires
 ranks-requires c κs = search needs
 
+widened-requires : tie.Need-widened-requires
+widened-requires c κs = search needs
+
 array-read-charge-by-rank : tie.Need-array-read-charge-by-rank
 array-read-charge-by-rank c = search needs
 
 charge-by-rank-requires : tie.Need-charge-by-rank-requires
 charge-by-rank-requires c κs = search needs
 
+widened-requires-2 : tie.Need-widened-requires-2
+widened-requires-2 c κs = search needs
+
 array-read-split : tie.Need-array-read-split
 array-read-split c = search needs
 
 slice-aggregate-split : tie.Need-slice-aggregate-split
-slice-aggregate-split c = search (needs, c .before .before .before .before .before .before .before .before .before .before .before .good .0 .1 .1 .1 .1 .1 .0)
+slice-aggregate-split c = search needs
 
 slice-aggregate-split-2 : tie.Need-slice-aggregate-split-2
 slice-aggregate-split-2 c = search needs
@@ -37,14 +52,7 @@ split-requires : tie.Need-split-requires
 split-requires c κs = search needs
 
 returns : tie.Need-returns
-returns c =
-    result-of-parts (c .before .before .before .before .before .before .before .before .before .before .before .before .before .before .args .self)
-    (c .before .before .before .before .before .before .before .before .before .before .before .requirement .ensures)
-    (c .before .before .before .before .before .before .before .before .before .before .limits .ensures)
-    (c .before .before .before .before .before .before .before .before .before .charge-layers .ensures)
-    (c .before .before .before .before .before .before .before .ranks .ensures)
-    (c .before .before .before .before .before .charge-by-rank .ensures)
-    (ap (λ (r : Answer). r .1) (c .before .split .ensures))
+returns c = result-of-parts (c .before .before .before .before .before .before .before .before .before .before .before .before .before .before .before .before .args .self) (c .before .before .before .before .before .before .before .before .before .before .before .before .before .requirement .ensures) (c .before .before .before .before .before .before .before .before .before .before .before .before .limits .ensures) (c .before .before .before .before .before .before .before .before .before .before .before .charge-layers .ensures) (c .before .before .before .before .before .before .before .before .before .ranks .ensures) (c .before .before .before .before .before .before .charge-by-rank .ensures ∙ rw (c .before .before .before .before .before .before .before .widened .ensures)) (ap (λ (r : Answer). r .1) (c .before .split .ensures) ∙ rw (c .before .before .before .before .widened2 .ensures))
 
 pub result-spec : {M : Type 1} → statement M
 result-spec =
@@ -54,8 +62,10 @@ result-spec =
     limits-requires
     charge-layers-requires
     ranks-requires
+    widened-requires
     array-read-charge-by-rank
     charge-by-rank-requires
+    widened-requires-2
     array-read-split
     slice-aggregate-split
     slice-aggregate-split-2

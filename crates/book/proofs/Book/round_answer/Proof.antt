@@ -4,6 +4,15 @@ use Rattle.book.specs.Answers.{roundAnswer}
 use borrow.Author.Needs.{needs}
 use Rattle.book.proofs.Book.round_answer.Statement.{statement}
 use Rattle.book.proofs.Book.round_answer.Tie as tie
+use Rattle.book.proofs.Book.round_answer.Reads as reads
+use Rattle.book.proofs.Book.round_answer.Lts as lts
+use Rattle.book.proofs.Book.any_open.Reads as any-open-reads
+use Rattle.book.proofs.letter.Reads as letter-reads
+use Rattle.book.proofs.reserves_ok.Reads as reserves-ok-reads
+use Rattle.book.proofs.round_of.Reads as round-of-reads
+use Rattle.lists.proofs.both.Reads as both-reads
+use Rattle.lists.proofs.decline_if.Reads as decline-if-reads
+use Rattle.lists.proofs.either.Reads as either-reads
 
 letter-requires : tie.Need-letter-requires
 letter-requires c κs = search needs
@@ -46,22 +55,21 @@ decline-if-requires-5 c κs = search needs
 
 returns : tie.Need-returns
 unfolding roundAnswer firstOf
-returns c =
-    simp (
-      c .decline-if5 .ensures,
-      c .before .before .decline-if4 .ensures,
-      c .before .before .before .either2 .ensures,
-      c .before .before .before .before .both2 .ensures,
-      c .before .before .before .before .before .decline-if3 .ensures,
-      c .before .before .before .before .before .before .decline-if2 .ensures,
-      c .before .before .before .before .before .before .before .both .ensures,
-      c .before .before .before .before .before .before .before .before .decline-if .ensures,
-      c .before .before .before .before .before .before .before .before .before .either .ensures,
-      c .before .before .before .before .before .before .before .before .before .before .before .before .before .before .reserves-ok .ensures,
-      c .before .before .before .before .before .before .before .before .before .before .before .before .before .before .before .any-open .ensures,
-      c .before .before .before .before .before .before .before .before .before .before .before .before .before .before .before .before .before .before .before .round-of .ensures,
-      c .before .before .before .before .before .before .before .before .before .before .before .before .before .before .before .before .before .before .before .before .letter .ensures,
-    )
+returns c = simp (
+  c .decline-if5 .ensures,
+  c .before .before .decline-if4 .ensures,
+  c .before .before .before .either2 .ensures,
+  c .before .before .before .before .both2 .ensures,
+  c .before .before .before .before .before .decline-if3 .ensures,
+  c .before .before .before .before .before .before .decline-if2 .ensures,
+  c .before .before .before .before .before .before .before .both .ensures,
+  c .before .before .before .before .before .before .before .before .decline-if .ensures,
+  c .before .before .before .before .before .before .before .before .before .either .ensures,
+  c .before .before .before .before .before .before .before .before .before .before .before .before .before .before .reserves-ok .ensures,
+  c .before .before .before .before .before .before .before .before .before .before .before .before .before .before .before .any-open .ensures,
+  c .before .before .before .before .before .before .before .before .before .before .before .before .before .before .before .before .before .before .before .round-of .ensures,
+  c .before .before .before .before .before .before .before .before .before .before .before .before .before .before .before .before .before .before .before .before .letter .ensures,
+)
 
 pub round-answer-spec : {M : Type 1} → statement M
 round-answer-spec =

@@ -1,16 +1,18 @@
 -- `book::Book::short` meets its contract. Assumes nothing.
-use Rattle.accounts.specs.Members.{shortfallAt, shortfallsOf, shortfallFrom, shortfallsFrom}
 use Rattle.book.specs.Books.{shortIn}
 use borrow.Author.Needs.{needs}
 use Rattle.book.proofs.Book.short.Statement.{statement}
 use Rattle.book.proofs.Book.short.Tie as tie
+use Rattle.book.proofs.Book.short.Reads as reads
+use Rattle.book.proofs.Book.short.Lts as lts
+use Rattle.book.proofs.total_shortfall.Reads as total-shortfall-reads
 
 total-shortfall-requires : tie.Need-total-shortfall-requires
 total-shortfall-requires c κs = search needs
 
 returns : tie.Need-returns
-unfolding shortIn shortfallsOf shortfallAt shortfallsFrom shortfallFrom
-returns c = c .total-shortfall .ensures
+unfolding shortIn
+returns c = simp (c .total-shortfall .ensures)
 
 pub short-spec : {M : Type 1} → statement M
 short-spec = tie.close (tie.spec total-shortfall-requires returns)

@@ -3,16 +3,16 @@ use Rattle.book.specs.Books.{bidBook}
 use borrow.Author.Needs.{needs}
 use Rattle.book.proofs.Book.take_bid.Statement.{statement}
 use Rattle.book.proofs.Book.take_bid.Tie as tie
-
-round-of-requires : tie.Need-round-of-requires
-round-of-requires c κs = search needs
+use Rattle.book.proofs.Book.take_bid.Reads as reads
+use Rattle.book.proofs.Book.take_bid.Lts as lts
+use Rattle.accounts.proofs.bids.Bids.put.Reads as put-reads
 
 put-requires : tie.Need-put-requires
 put-requires c κs = search needs
 
 returns : tie.Need-returns
 unfolding bidBook
-returns c = simp (c .put .ensures, c .before .round-of .ensures)
+returns c = simp (c .put .ensures)
 
 pub take-bid-spec : {M : Type 1} → statement M
-take-bid-spec = tie.close (tie.spec round-of-requires put-requires returns)
+take-bid-spec = tie.close (tie.spec put-requires returns)

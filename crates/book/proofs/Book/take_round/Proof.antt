@@ -3,6 +3,10 @@ use Rattle.book.specs.Books.{roundBook}
 use borrow.Author.Needs.{needs}
 use Rattle.book.proofs.Book.take_round.Statement.{statement}
 use Rattle.book.proofs.Book.take_round.Tie as tie
+use Rattle.book.proofs.Book.take_round.Reads as reads
+use Rattle.book.proofs.Book.take_round.Lts as lts
+use Rattle.accounts.proofs.rounds.Rounds.put.Reads as put-reads
+use Rattle.book.proofs.Book.open_units.Reads as open-units-reads
 
 open-units-requires : tie.Need-open-units-requires
 open-units-requires c κs = search needs
@@ -19,24 +23,15 @@ open-units-requires-4 c κs = search needs
 put-requires : tie.Need-put-requires
 put-requires c κs = search needs
 
-round-of-requires : tie.Need-round-of-requires
-round-of-requires c κs = search needs
-
-next-round-requires : tie.Need-next-round-requires
-next-round-requires c κs = search needs
-
 returns : tie.Need-returns
 unfolding roundBook
-returns c =
-    simp (
-      c .next-round .ensures,
-      c .before .round-of .ensures,
-      c .before .before .put .ensures,
-      c .before .before .before .open-units4 .ensures,
-      c .before .before .before .before .open-units3 .ensures,
-      c .before .before .before .before .before .open-units2 .ensures,
-      c .before .before .before .before .before .before .open-units .ensures,
-    )
+returns c = simp (
+  c .put .ensures,
+  c .before .open-units4 .ensures,
+  c .before .before .open-units3 .ensures,
+  c .before .before .before .open-units2 .ensures,
+  c .before .before .before .before .open-units .ensures,
+)
 
 pub take-round-spec : {M : Type 1} → statement M
 take-round-spec =
@@ -47,6 +42,4 @@ take-round-spec =
     open-units-requires-3
     open-units-requires-4
     put-requires
-    round-of-requires
-    next-round-requires
     returns)

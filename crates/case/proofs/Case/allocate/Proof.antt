@@ -1,24 +1,47 @@
 -- `case::Case::allocate` meets its contract. Assumes nothing.
-use Rattle.case.specs.Cases.{bookAnswer, caseAfter}
+use mathlib.Core.Path.{refl, ap}
+use mathlib.Core.Option.{some}
+use Rattle.machine.specs.Wire.{ALLOCATE}
+use Rattle.book.specs.declared.Book.{Book}
+use Rattle.case.specs.Cases.{caseOf, caseAnswerTo, caseAnswer, afterAsked, caseAfter}
 use Rattle.case.proofs.Outcomes.{declined, accepted}
 use borrow.Author.Needs.{needs}
 use Rattle.case.proofs.Case.allocate.Statement.{statement}
 use Rattle.case.proofs.Case.allocate.Tie as tie
+use Rattle.case.proofs.Case.allocate.Reads as reads
+use Rattle.case.proofs.Case.allocate.Lts as lts
+use Rattle.book.proofs.Book.allocate_answer.Reads as allocate-answer-reads
+use Rattle.book.proofs.Book.take_allocate.Reads as take-allocate-reads
+use Rattle.case.proofs.Case.accepted.Reads as accepted-reads
+use Rattle.case.proofs.Case.declined.Reads as declined-reads
 
 allocate-answer-requires : tie.Need-allocate-answer-requires
 allocate-answer-requires c κs = search needs
 
-returns : tie.Need-returns
-unfolding bookAnswer
-returns c = declined _ _ _ (c .before .allocate-answer .ensures) (c .if1 .taken)
+declined-requires : tie.Need-declined-requires
+declined-requires c κs = search needs
 
-after-allocate-requires : tie.Need-after-allocate-requires
-after-allocate-requires c κs = search needs
+returns : tie.Need-returns
+unfolding caseAnswerTo caseAnswer
+returns c = declined (c .before .before .before .before .args .self) (some (ALLOCATE (c .before .before .before .before .args .pool) (c .before .before .before .before .args .price))) _ (c .before .before .allocate-answer .ensures) (c .before .if1 .taken) _ (c .declined .ensures)
+
+take-allocate-requires : tie.Need-take-allocate-requires
+take-allocate-requires c κs = search needs
+
+accepted-requires : tie.Need-accepted-requires
+accepted-requires c κs = search needs
 
 returns-2 : tie.Need-returns-2
-unfolding bookAnswer caseAfter
-returns-2 c = accepted _ _ _ _ (c .before .before .allocate-answer .ensures) (c .before .if1 .left) (c .after-allocate .ensures)
+unfolding caseAnswerTo caseAnswer afterAsked caseAfter
+returns-2 c = accepted (c .before .before .before .before .before .args .self) (some (ALLOCATE (c .before .before .before .before .before .args .pool) (c .before .before .before .before .before .args .price))) _ (c .before .before .before .allocate-answer .ensures) (c .before .before .if1 .left) _ (ap (caseOf (c .before .before .before .before .before .args .self .stage)) (c .before .take-allocate .ensures)) _ (c .accepted .ensures)
 
 pub allocate-spec : {M : Type 1} → statement M
 allocate-spec =
-    tie.close (tie.spec allocate-answer-requires returns after-allocate-requires returns-2)
+    tie.close
+    (tie.spec
+    allocate-answer-requires
+    declined-requires
+    returns
+    take-allocate-requires
+    accepted-requires
+    returns-2)

@@ -1,23 +1,53 @@
+use mathlib.Core.Path.{_∙_}
 -- `case::Case::bid` meets its contract. Assumes nothing.
-use Rattle.case.specs.Cases.{bookAnswer, caseAfter}
+use mathlib.Core.Path.{refl, ap}
+use mathlib.Core.Option.{some}
+use Rattle.machine.specs.Wire.{BID}
+use Rattle.book.specs.declared.Book.{Book}
+use Rattle.case.specs.Cases.{caseOf, caseAnswerTo, caseAnswer, afterAsked, caseAfter}
 use Rattle.case.proofs.Outcomes.{declined, accepted}
 use borrow.Author.Needs.{needs}
 use Rattle.case.proofs.Case.bid.Statement.{statement}
 use Rattle.case.proofs.Case.bid.Tie as tie
+use Rattle.case.proofs.Case.bid.Reads as reads
+use Rattle.case.proofs.Case.bid.Lts as lts
+use Rattle.book.proofs.Book.bid_answer.Reads as bid-answer-reads
+use Rattle.book.proofs.Book.take_bid.Reads as take-bid-reads
+use Rattle.book.proofs.round_of.Reads as round-of-reads
+use Rattle.case.proofs.Case.accepted.Reads as accepted-reads
+use Rattle.case.proofs.Case.declined.Reads as declined-reads
 
 bid-answer-requires : tie.Need-bid-answer-requires
 bid-answer-requires c κs = search needs
 
-returns : tie.Need-returns
-unfolding bookAnswer
-returns c = declined _ _ _ (c .before .bid-answer .ensures) (c .if1 .taken)
+declined-requires : tie.Need-declined-requires
+declined-requires c κs = search needs
 
-after-bid-requires : tie.Need-after-bid-requires
-after-bid-requires c κs = search needs
+returns : tie.Need-returns
+unfolding caseAnswerTo caseAnswer
+returns c = declined (c .before .before .before .before .args .self) (some (BID (c .before .before .before .before .args .pool) (c .before .before .before .before .args .m) (c .before .before .before .before .args .units) (c .before .before .before .before .args .price))) _ (c .before .before .bid-answer .ensures) (c .before .if1 .taken) _ (c .declined .ensures)
+
+round-of-requires : tie.Need-round-of-requires
+round-of-requires c κs = search needs
+
+take-bid-requires : tie.Need-take-bid-requires
+take-bid-requires c κs = search needs
+
+accepted-requires : tie.Need-accepted-requires
+accepted-requires c κs = search needs
 
 returns-2 : tie.Need-returns-2
-unfolding bookAnswer caseAfter
-returns-2 c = accepted _ _ _ _ (c .before .before .bid-answer .ensures) (c .before .if1 .left) (c .after-bid .ensures)
+unfolding caseAnswerTo caseAnswer afterAsked caseAfter
+returns-2 c = accepted (c .before .before .before .before .before .before .args .self) (some (BID (c .before .before .before .before .before .before .args .pool) (c .before .before .before .before .before .before .args .m) (c .before .before .before .before .before .before .args .units) (c .before .before .before .before .before .before .args .price))) _ (c .before .before .before .before .bid-answer .ensures) (c .before .before .before .if1 .left) _ (ap (caseOf (c .before .before .before .before .before .before .args .self .stage)) (c .before .take-bid .ensures ∙ rw (c .before .before .round-of .ensures))) _ (c .accepted .ensures)
 
 pub bid-spec : {M : Type 1} → statement M
-bid-spec = tie.close (tie.spec bid-answer-requires returns after-bid-requires returns-2)
+bid-spec =
+    tie.close
+    (tie.spec
+    bid-answer-requires
+    declined-requires
+    returns
+    round-of-requires
+    take-bid-requires
+    accepted-requires
+    returns-2)

@@ -1,23 +1,48 @@
+use Rattle.book.specs.declared.Stage.the-variants.{CallsOut}
 -- `case::Case::call` meets its contract. Assumes nothing.
-use Rattle.case.specs.Cases.{bookAnswer, caseAfter}
+use mathlib.Core.Path.{refl, ap}
+use mathlib.Core.Option.{some}
+use Rattle.machine.specs.Wire.{CALL}
+use Rattle.book.specs.declared.Book.{Book}
+use Rattle.case.specs.Cases.{caseOf, caseAnswerTo, caseAnswer, afterAsked, caseAfter}
 use Rattle.case.proofs.Outcomes.{declined, accepted}
 use borrow.Author.Needs.{needs}
 use Rattle.case.proofs.Case.call.Statement.{statement}
 use Rattle.case.proofs.Case.call.Tie as tie
+use Rattle.case.proofs.Case.call.Reads as reads
+use Rattle.case.proofs.Case.call.Lts as lts
+use Rattle.book.proofs.Book.call_answer.Reads as call-answer-reads
+use Rattle.book.proofs.Book.take_call.Reads as take-call-reads
+use Rattle.case.proofs.Case.accepted.Reads as accepted-reads
+use Rattle.case.proofs.Case.declined.Reads as declined-reads
 
 call-answer-requires : tie.Need-call-answer-requires
 call-answer-requires c κs = search needs
 
-returns : tie.Need-returns
-unfolding bookAnswer
-returns c = declined _ _ _ (c .before .call-answer .ensures) (c .if1 .taken)
+declined-requires : tie.Need-declined-requires
+declined-requires c κs = search needs
 
-after-call-requires : tie.Need-after-call-requires
-after-call-requires c κs = search needs
+returns : tie.Need-returns
+unfolding caseAnswerTo caseAnswer
+returns c = declined (c .before .before .before .before .args .self) (some CALL) _ (c .before .before .call-answer .ensures) (c .before .if1 .taken) _ (c .declined .ensures)
+
+take-call-requires : tie.Need-take-call-requires
+take-call-requires c κs = search needs
+
+accepted-requires : tie.Need-accepted-requires
+accepted-requires c κs = search needs
 
 returns-2 : tie.Need-returns-2
-unfolding bookAnswer caseAfter
-returns-2 c = accepted _ _ _ _ (c .before .before .call-answer .ensures) (c .before .if1 .left) (c .after-call .ensures)
+unfolding caseAnswerTo caseAnswer afterAsked caseAfter
+returns-2 c = accepted (c .before .before .before .before .before .args .self) (some CALL) _ (c .before .before .before .call-answer .ensures) (c .before .before .if1 .left) _ (ap (caseOf CallsOut) (c .before .take-call .ensures)) _ (c .accepted .ensures)
 
 pub call-spec : {M : Type 1} → statement M
-call-spec = tie.close (tie.spec call-answer-requires returns after-call-requires returns-2)
+call-spec =
+    tie.close
+    (tie.spec
+    call-answer-requires
+    declined-requires
+    returns
+    take-call-requires
+    accepted-requires
+    returns-2)

@@ -1,23 +1,52 @@
 -- `case::Case::close` meets its contract. Assumes nothing.
-use Rattle.case.specs.Cases.{bookAnswer, caseAfter}
+use mathlib.Core.Path.{refl, ap}
+use mathlib.Core.Option.{some}
+use Rattle.machine.specs.Wire.{CLOSE}
+use Rattle.book.specs.declared.Book.{Book}
+use Rattle.case.specs.Cases.{caseOf, caseAnswerTo, caseAnswer, afterAsked, caseAfter}
 use Rattle.case.proofs.Outcomes.{declined, accepted}
 use borrow.Author.Needs.{needs}
 use Rattle.case.proofs.Case.close.Statement.{statement}
 use Rattle.case.proofs.Case.close.Tie as tie
+use Rattle.case.proofs.Case.close.Reads as reads
+use Rattle.case.proofs.Case.close.Lts as lts
+use Rattle.book.proofs.Book.take_close.Reads as take-close-reads
+use Rattle.book.proofs.close_answer.Reads as close-answer-reads
+use Rattle.book.proofs.round_of.Reads as round-of-reads
+use Rattle.case.proofs.Case.accepted.Reads as accepted-reads
+use Rattle.case.proofs.Case.declined.Reads as declined-reads
 
 close-answer-requires : tie.Need-close-answer-requires
 close-answer-requires c κs = search needs
 
-returns : tie.Need-returns
-unfolding bookAnswer
-returns c = declined _ _ _ (c .before .close-answer .ensures) (c .if1 .taken)
+declined-requires : tie.Need-declined-requires
+declined-requires c κs = search needs
 
-after-close-requires : tie.Need-after-close-requires
-after-close-requires c κs = search needs
+returns : tie.Need-returns
+unfolding caseAnswerTo caseAnswer
+returns c = declined (c .before .before .before .before .args .self) (some CLOSE) _ (c .before .before .close-answer .ensures) (c .before .if1 .taken) _ (c .declined .ensures)
+
+round-of-requires : tie.Need-round-of-requires
+round-of-requires c κs = search needs
+
+take-close-requires : tie.Need-take-close-requires
+take-close-requires c κs = search needs
+
+accepted-requires : tie.Need-accepted-requires
+accepted-requires c κs = search needs
 
 returns-2 : tie.Need-returns-2
-unfolding bookAnswer caseAfter
-returns-2 c = accepted _ _ _ _ (c .before .before .close-answer .ensures) (c .before .if1 .left) (c .after-close .ensures)
+unfolding caseAnswerTo caseAnswer afterAsked caseAfter
+returns-2 c = accepted (c .before .before .before .before .before .before .args .self) (some CLOSE) _ (c .before .before .before .before .close-answer .ensures) (c .before .before .before .if1 .left) _ (rw (c .before .take-close .ensures, c .before .before .round-of .ensures)) _ (c .accepted .ensures)
 
 pub close-spec : {M : Type 1} → statement M
-close-spec = tie.close (tie.spec close-answer-requires returns after-close-requires returns-2)
+close-spec =
+    tie.close
+    (tie.spec
+    close-answer-requires
+    declined-requires
+    returns
+    round-of-requires
+    take-close-requires
+    accepted-requires
+    returns-2)

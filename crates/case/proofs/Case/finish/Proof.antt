@@ -1,23 +1,37 @@
 -- `case::Case::finish` meets its contract. Assumes nothing.
-use Rattle.case.specs.Cases.{bookAnswer, caseAfter}
+use mathlib.Core.Path.{refl, ap}
+use mathlib.Core.Option.{some}
+use Rattle.machine.specs.Wire.{FINISH}
+use Rattle.book.specs.declared.Book.{Book}
+use Rattle.case.specs.Cases.{caseOf, caseAnswerTo, caseAnswer, afterAsked, caseAfter}
 use Rattle.case.proofs.Outcomes.{declined, accepted}
 use borrow.Author.Needs.{needs}
 use Rattle.case.proofs.Case.finish.Statement.{statement}
 use Rattle.case.proofs.Case.finish.Tie as tie
+use Rattle.case.proofs.Case.finish.Reads as reads
+use Rattle.case.proofs.Case.finish.Lts as lts
+use Rattle.book.proofs.Book.finish_answer.Reads as finish-answer-reads
+use Rattle.case.proofs.Case.accepted.Reads as accepted-reads
+use Rattle.case.proofs.Case.declined.Reads as declined-reads
 
 finish-answer-requires : tie.Need-finish-answer-requires
 finish-answer-requires c κs = search needs
 
-returns : tie.Need-returns
-unfolding bookAnswer
-returns c = declined _ _ _ (c .before .finish-answer .ensures) (c .if1 .taken)
+declined-requires : tie.Need-declined-requires
+declined-requires c κs = search needs
 
-after-finish-requires : tie.Need-after-finish-requires
-after-finish-requires c κs = search needs
+returns : tie.Need-returns
+unfolding caseAnswerTo caseAnswer
+returns c = declined (c .before .before .before .before .args .self) (some FINISH) _ (c .before .before .finish-answer .ensures) (c .before .if1 .taken) _ (c .declined .ensures)
+
+accepted-requires : tie.Need-accepted-requires
+accepted-requires c κs = search needs
 
 returns-2 : tie.Need-returns-2
-unfolding bookAnswer caseAfter
-returns-2 c = accepted _ _ _ _ (c .before .before .finish-answer .ensures) (c .before .if1 .left) (c .after-finish .ensures)
+unfolding caseAnswerTo caseAnswer afterAsked caseAfter
+returns-2 c = accepted (c .before .before .before .before .args .self) (some FINISH) _ (c .before .before .finish-answer .ensures) (c .before .if1 .left) _ refl _ (c .accepted .ensures)
 
 pub finish-spec : {M : Type 1} → statement M
-finish-spec = tie.close (tie.spec finish-answer-requires returns after-finish-requires returns-2)
+finish-spec =
+    tie.close
+    (tie.spec finish-answer-requires declined-requires returns accepted-requires returns-2)

@@ -1,23 +1,48 @@
 -- `case::Case::member` meets its contract. Assumes nothing.
-use Rattle.case.specs.Cases.{bookAnswer, caseAfter}
+use mathlib.Core.Path.{refl, ap}
+use mathlib.Core.Option.{some}
+use mathlib.Core.List.{[], _∷_}
+use Rattle.machine.specs.Wire.{MEMBER}
+use Rattle.book.specs.declared.Book.{Book}
+use Rattle.case.specs.Cases.{caseOf, caseAnswerTo, caseAnswer, afterAsked, caseAfter}
 use Rattle.case.proofs.Outcomes.{declined, accepted}
 use borrow.Author.Needs.{needs}
 use Rattle.case.proofs.Case.member.Statement.{statement}
 use Rattle.case.proofs.Case.member.Tie as tie
+use Rattle.case.proofs.Case.member.Reads as reads
+use Rattle.case.proofs.Case.member.Lts as lts
+use Rattle.book.proofs.Book.member_answer.Reads as member-answer-reads
+use Rattle.book.proofs.Book.take_member.Reads as take-member-reads
+use Rattle.case.proofs.Case.accepted.Reads as accepted-reads
+use Rattle.case.proofs.Case.declined.Reads as declined-reads
 
 member-answer-requires : tie.Need-member-answer-requires
 member-answer-requires c κs = search needs
 
-returns : tie.Need-returns
-unfolding bookAnswer
-returns c = declined _ _ _ (c .before .member-answer .ensures) (c .if1 .taken)
+declined-requires : tie.Need-declined-requires
+declined-requires c κs = search needs
 
-after-member-requires : tie.Need-after-member-requires
-after-member-requires c κs = search needs
+returns : tie.Need-returns
+unfolding caseAnswerTo caseAnswer
+returns c = declined (c .before .before .before .before .args .self) (some (MEMBER (c .before .before .before .before .args .m) (c .before .before .before .before .args .contribution) (c .before .before .before .before .args .p ∷ c .before .before .before .before .args .q ∷ c .before .before .before .before .args .r ∷ c .before .before .before .before .args .s ∷ []))) _ (c .before .before .member-answer .ensures) (c .before .if1 .taken) _ (c .declined .ensures)
+
+take-member-requires : tie.Need-take-member-requires
+take-member-requires c κs = search needs
+
+accepted-requires : tie.Need-accepted-requires
+accepted-requires c κs = search needs
 
 returns-2 : tie.Need-returns-2
-unfolding bookAnswer caseAfter
-returns-2 c = accepted _ _ _ _ (c .before .before .member-answer .ensures) (c .before .if1 .left) (c .after-member .ensures)
+unfolding caseAnswerTo caseAnswer afterAsked caseAfter
+returns-2 c = accepted (c .before .before .before .before .before .args .self) (some (MEMBER (c .before .before .before .before .before .args .m) (c .before .before .before .before .before .args .contribution) (c .before .before .before .before .before .args .p ∷ c .before .before .before .before .before .args .q ∷ c .before .before .before .before .before .args .r ∷ c .before .before .before .before .before .args .s ∷ []))) _ (c .before .before .before .member-answer .ensures) (c .before .before .if1 .left) _ (ap (caseOf (c .before .before .before .before .before .args .self .stage)) (c .before .take-member .ensures)) _ (c .accepted .ensures)
 
 pub member-spec : {M : Type 1} → statement M
-member-spec = tie.close (tie.spec member-answer-requires returns after-member-requires returns-2)
+member-spec =
+    tie.close
+    (tie.spec
+    member-answer-requires
+    declined-requires
+    returns
+    take-member-requires
+    accepted-requires
+    returns-2)

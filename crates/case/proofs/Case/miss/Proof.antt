@@ -1,23 +1,47 @@
 -- `case::Case::miss` meets its contract. Assumes nothing.
-use Rattle.case.specs.Cases.{bookAnswer, caseAfter}
+use mathlib.Core.Path.{refl, ap}
+use mathlib.Core.Option.{some}
+use Rattle.machine.specs.Wire.{MISS}
+use Rattle.book.specs.declared.Book.{Book}
+use Rattle.case.specs.Cases.{caseOf, caseAnswerTo, caseAnswer, afterAsked, caseAfter}
 use Rattle.case.proofs.Outcomes.{declined, accepted}
 use borrow.Author.Needs.{needs}
 use Rattle.case.proofs.Case.miss.Statement.{statement}
 use Rattle.case.proofs.Case.miss.Tie as tie
+use Rattle.case.proofs.Case.miss.Reads as reads
+use Rattle.case.proofs.Case.miss.Lts as lts
+use Rattle.book.proofs.Book.miss_answer.Reads as miss-answer-reads
+use Rattle.book.proofs.Book.take_miss.Reads as take-miss-reads
+use Rattle.case.proofs.Case.accepted.Reads as accepted-reads
+use Rattle.case.proofs.Case.declined.Reads as declined-reads
 
 miss-answer-requires : tie.Need-miss-answer-requires
 miss-answer-requires c κs = search needs
 
-returns : tie.Need-returns
-unfolding bookAnswer
-returns c = declined _ _ _ (c .before .miss-answer .ensures) (c .if1 .taken)
+declined-requires : tie.Need-declined-requires
+declined-requires c κs = search needs
 
-after-miss-requires : tie.Need-after-miss-requires
-after-miss-requires c κs = search needs
+returns : tie.Need-returns
+unfolding caseAnswerTo caseAnswer
+returns c = declined (c .before .before .before .before .args .self) (some (MISS (c .before .before .before .before .args .m) (c .before .before .before .before .args .price))) _ (c .before .before .miss-answer .ensures) (c .before .if1 .taken) _ (c .declined .ensures)
+
+take-miss-requires : tie.Need-take-miss-requires
+take-miss-requires c κs = search needs
+
+accepted-requires : tie.Need-accepted-requires
+accepted-requires c κs = search needs
 
 returns-2 : tie.Need-returns-2
-unfolding bookAnswer caseAfter
-returns-2 c = accepted _ _ _ _ (c .before .before .miss-answer .ensures) (c .before .if1 .left) (c .after-miss .ensures)
+unfolding caseAnswerTo caseAnswer afterAsked caseAfter
+returns-2 c = accepted (c .before .before .before .before .before .args .self) (some (MISS (c .before .before .before .before .before .args .m) (c .before .before .before .before .before .args .price))) _ (c .before .before .before .miss-answer .ensures) (c .before .before .if1 .left) _ (ap (caseOf (c .before .before .before .before .before .args .self .stage)) (c .before .take-miss .ensures)) _ (c .accepted .ensures)
 
 pub miss-spec : {M : Type 1} → statement M
-miss-spec = tie.close (tie.spec miss-answer-requires returns after-miss-requires returns-2)
+miss-spec =
+    tie.close
+    (tie.spec
+    miss-answer-requires
+    declined-requires
+    returns
+    take-miss-requires
+    accepted-requires
+    returns-2)

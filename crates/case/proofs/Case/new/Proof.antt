@@ -3,16 +3,16 @@ use Rattle.case.specs.Cases.{newCase}
 use borrow.Author.Needs.{needs}
 use Rattle.case.proofs.Case.new.Statement.{statement}
 use Rattle.case.proofs.Case.new.Tie as tie
+use Rattle.case.proofs.Case.new.Reads as reads
+use Rattle.case.proofs.Case.new.Lts as lts
+use Rattle.book.proofs.Book.new.Reads as new-reads
 
 new-requires : tie.Need-new-requires
 new-requires c κs = search needs
 
-new-requires-2 : tie.Need-new-requires-2
-new-requires-2 c κs = search needs
-
 returns : tie.Need-returns
 unfolding newCase
-returns c = rw (c .before .new .ensures, c .new2 .ensures)
+returns c = rw (c .new .ensures)
 
 pub new-spec : {M : Type 1} → statement M
-new-spec = tie.close (tie.spec new-requires new-requires-2 returns)
+new-spec = tie.close (tie.spec new-requires returns)

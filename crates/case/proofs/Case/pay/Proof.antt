@@ -1,23 +1,47 @@
 -- `case::Case::pay` meets its contract. Assumes nothing.
-use Rattle.case.specs.Cases.{bookAnswer, caseAfter}
+use mathlib.Core.Path.{refl, ap}
+use mathlib.Core.Option.{some}
+use Rattle.machine.specs.Wire.{PAY}
+use Rattle.book.specs.declared.Book.{Book}
+use Rattle.case.specs.Cases.{caseOf, caseAnswerTo, caseAnswer, afterAsked, caseAfter}
 use Rattle.case.proofs.Outcomes.{declined, accepted}
 use borrow.Author.Needs.{needs}
 use Rattle.case.proofs.Case.pay.Statement.{statement}
 use Rattle.case.proofs.Case.pay.Tie as tie
+use Rattle.case.proofs.Case.pay.Reads as reads
+use Rattle.case.proofs.Case.pay.Lts as lts
+use Rattle.book.proofs.Book.pay_answer.Reads as pay-answer-reads
+use Rattle.book.proofs.Book.take_pay.Reads as take-pay-reads
+use Rattle.case.proofs.Case.accepted.Reads as accepted-reads
+use Rattle.case.proofs.Case.declined.Reads as declined-reads
 
 pay-answer-requires : tie.Need-pay-answer-requires
 pay-answer-requires c κs = search needs
 
-returns : tie.Need-returns
-unfolding bookAnswer
-returns c = declined _ _ _ (c .before .pay-answer .ensures) (c .if1 .taken)
+declined-requires : tie.Need-declined-requires
+declined-requires c κs = search needs
 
-after-pay-requires : tie.Need-after-pay-requires
-after-pay-requires c κs = search needs
+returns : tie.Need-returns
+unfolding caseAnswerTo caseAnswer
+returns c = declined (c .before .before .before .before .args .self) (some (PAY (c .before .before .before .before .args .m) (c .before .before .before .before .args .amount))) _ (c .before .before .pay-answer .ensures) (c .before .if1 .taken) _ (c .declined .ensures)
+
+take-pay-requires : tie.Need-take-pay-requires
+take-pay-requires c κs = search needs
+
+accepted-requires : tie.Need-accepted-requires
+accepted-requires c κs = search needs
 
 returns-2 : tie.Need-returns-2
-unfolding bookAnswer caseAfter
-returns-2 c = accepted _ _ _ _ (c .before .before .pay-answer .ensures) (c .before .if1 .left) (c .after-pay .ensures)
+unfolding caseAnswerTo caseAnswer afterAsked caseAfter
+returns-2 c = accepted (c .before .before .before .before .before .args .self) (some (PAY (c .before .before .before .before .before .args .m) (c .before .before .before .before .before .args .amount))) _ (c .before .before .before .pay-answer .ensures) (c .before .before .if1 .left) _ (ap (caseOf (c .before .before .before .before .before .args .self .stage)) (c .before .take-pay .ensures)) _ (c .accepted .ensures)
 
 pub pay-spec : {M : Type 1} → statement M
-pay-spec = tie.close (tie.spec pay-answer-requires returns after-pay-requires returns-2)
+pay-spec =
+    tie.close
+    (tie.spec
+    pay-answer-requires
+    declined-requires
+    returns
+    take-pay-requires
+    accepted-requires
+    returns-2)

@@ -1,23 +1,47 @@
 -- `case::Case::pool` meets its contract. Assumes nothing.
-use Rattle.case.specs.Cases.{bookAnswer, caseAfter}
+use mathlib.Core.Path.{refl, ap}
+use mathlib.Core.Option.{some}
+use Rattle.machine.specs.Wire.{POOL}
+use Rattle.book.specs.declared.Book.{Book}
+use Rattle.case.specs.Cases.{caseOf, caseAnswerTo, caseAnswer, afterAsked, caseAfter}
 use Rattle.case.proofs.Outcomes.{declined, accepted}
 use borrow.Author.Needs.{needs}
 use Rattle.case.proofs.Case.pool.Statement.{statement}
 use Rattle.case.proofs.Case.pool.Tie as tie
+use Rattle.case.proofs.Case.pool.Reads as reads
+use Rattle.case.proofs.Case.pool.Lts as lts
+use Rattle.book.proofs.Book.pool_answer.Reads as pool-answer-reads
+use Rattle.book.proofs.Book.take_pool.Reads as take-pool-reads
+use Rattle.case.proofs.Case.accepted.Reads as accepted-reads
+use Rattle.case.proofs.Case.declined.Reads as declined-reads
 
 pool-answer-requires : tie.Need-pool-answer-requires
 pool-answer-requires c κs = search needs
 
-returns : tie.Need-returns
-unfolding bookAnswer
-returns c = declined _ _ _ (c .before .pool-answer .ensures) (c .if1 .taken)
+declined-requires : tie.Need-declined-requires
+declined-requires c κs = search needs
 
-after-pool-requires : tie.Need-after-pool-requires
-after-pool-requires c κs = search needs
+returns : tie.Need-returns
+unfolding caseAnswerTo caseAnswer
+returns c = declined (c .before .before .before .before .args .self) (some (POOL (c .before .before .before .before .args .pool) (c .before .before .before .before .args .units) (c .before .before .before .before .args .mark))) _ (c .before .before .pool-answer .ensures) (c .before .if1 .taken) _ (c .declined .ensures)
+
+take-pool-requires : tie.Need-take-pool-requires
+take-pool-requires c κs = search needs
+
+accepted-requires : tie.Need-accepted-requires
+accepted-requires c κs = search needs
 
 returns-2 : tie.Need-returns-2
-unfolding bookAnswer caseAfter
-returns-2 c = accepted _ _ _ _ (c .before .before .pool-answer .ensures) (c .before .if1 .left) (c .after-pool .ensures)
+unfolding caseAnswerTo caseAnswer afterAsked caseAfter
+returns-2 c = accepted (c .before .before .before .before .before .args .self) (some (POOL (c .before .before .before .before .before .args .pool) (c .before .before .before .before .before .args .units) (c .before .before .before .before .before .args .mark))) _ (c .before .before .before .pool-answer .ensures) (c .before .before .if1 .left) _ (ap (caseOf (c .before .before .before .before .before .args .self .stage)) (c .before .take-pool .ensures)) _ (c .accepted .ensures)
 
 pub pool-spec : {M : Type 1} → statement M
-pool-spec = tie.close (tie.spec pool-answer-requires returns after-pool-requires returns-2)
+pool-spec =
+    tie.close
+    (tie.spec
+    pool-answer-requires
+    declined-requires
+    returns
+    take-pool-requires
+    accepted-requires
+    returns-2)

@@ -12,8 +12,7 @@ use Rattle.accounts.proofs.bids.Bids.units_in.Statement.{statement}
 use Rattle.accounts.proofs.bids.Bids.units_in.Tie as tie
 
 abbrev Inv-loop : tie.InvT-loop
-Inv-loop round pool self out₀ i₀ out i =
-    (i ≤ 256) × (length out ≡ 256) × ((k : ℕ) → k < i → getD out k 0 ≡ (if inAuctionAt self round pool k then getD (self .units) k 0 else 0))
+Inv-loop round pool self out₀ i₀ out i = (i ≤ 256) × (length out ≡ 256) × ((k : ℕ) → k < i → getD out k 0 ≡ (if inAuctionAt self round pool k then getD (self .units) k 0 else 0))
 
 abbrev μ-loop : tie.MeasureT-loop
 μ-loop round pool self out₀ i₀ out i = 256 - i
@@ -30,11 +29,14 @@ element-copy-out-is-in-2 c = search needs
 is-in-requires : tie.Need-is-in-requires Inv-loop μ-loop
 is-in-requires c κs = search needs
 
-mul-number-if : tie.Need-mul-number-if Inv-loop μ-loop
-mul-number-if c = search needs
+mul-wide16 : tie.Need-mul-wide16 Inv-loop μ-loop
+mul-wide16 c = search needs
 
-element-copy-out-number-if : tie.Need-element-copy-out-number-if Inv-loop μ-loop
-element-copy-out-number-if c = search needs
+element-copy-out-wide16 : tie.Need-element-copy-out-wide16 Inv-loop μ-loop
+element-copy-out-wide16 c = search needs
+
+wide16-requires : tie.Need-wide16-requires Inv-loop μ-loop
+wide16-requires c κs = search needs
 
 number-if-requires : tie.Need-number-if-requires Inv-loop μ-loop
 number-if-requires c κs = search needs
@@ -53,8 +55,7 @@ loop-less c = search needs
 
 loop-again : tie.Need-loop-again Inv-loop μ-loop
 unfolding inAuctionAt
-loop-again c =
-    let at = c .before .before .before .before .before .before .loop in
+loop-again c = let at = c .before .before .before .before .before .before .before .loop in
     (omega arith, simp length-set (omega arith), filled-next _ 0 (at .out) (at .i) _ (omega arith) (at .inv .2) (cc))
 
 returns : tie.Need-returns Inv-loop μ-loop
@@ -71,8 +72,9 @@ units-in-spec =
     element-copy-out-is-in
     element-copy-out-is-in-2
     is-in-requires
-    mul-number-if
-    element-copy-out-number-if
+    mul-wide16
+    element-copy-out-wide16
+    wide16-requires
     number-if-requires
     mul-out
     array-write-out

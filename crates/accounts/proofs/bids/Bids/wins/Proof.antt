@@ -20,8 +20,7 @@ allot-requires : tie.Need-allot-requires
 allot-requires c κs = search needs
 
 returns : tie.Need-returns
-returns c =
-    let a = c .before .before .before .before .before .before .before .args in
+returns c = let a = c .before .before .before .before .before .before .before .args in
     wins-left (a .self) (a .round) (a .pool) (a .open-units) (a .reserve) _ (c .before .allot .result) _
     (c .before .before .before .before .before .before .units-in .ensures) (c .before .allot .ensures)
 

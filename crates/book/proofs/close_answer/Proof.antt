@@ -1,0 +1,23 @@
+-- `book::close_answer` meets its contract. Assumes nothing.
+use Rattle.lists.specs.Tests.{firstOf}
+use Rattle.book.specs.Answers.{closeAnswer}
+use borrow.Author.Needs.{needs}
+use Rattle.book.proofs.close_answer.Statement.{statement}
+use Rattle.book.proofs.close_answer.Tie as tie
+use Rattle.book.proofs.close_answer.Reads as reads
+use Rattle.book.proofs.close_answer.Lts as lts
+use Rattle.book.proofs.letter.Reads as letter-reads
+use Rattle.lists.proofs.decline_if.Reads as decline-if-reads
+
+letter-requires : tie.Need-letter-requires
+letter-requires c κs = search needs
+
+decline-if-requires : tie.Need-decline-if-requires
+decline-if-requires c κs = search needs
+
+returns : tie.Need-returns
+unfolding closeAnswer firstOf
+returns c = cc
+
+pub close-answer-spec : {M : Type 1} → statement M
+close-answer-spec = tie.close (tie.spec letter-requires decline-if-requires returns)

@@ -1,0 +1,308 @@
+-- What is read of the units is what the roll shows. Assumes nothing.
+use mathlib.Core.Path.{_≡_, refl, sym, ap, _∙_}
+use mathlib.Core.Bool.{Bool, true, false, _&&_, not, and-true, and-false, and-comm, false≢true}
+use mathlib.Core.Logic.{⊎-elim}
+use mathlib.Core.List.{List, [], _∷_, map}
+use Prim.Native.Nat.{ℕ, zero, suc, _+_, _*_, _%_, _≤_, _<_}
+use native.Mathlib.Nat.{mul-zero, mul-one}
+use native.Mathlib.Omega.{arith}
+use lib.Dec.{ltb, eqb}
+use lib.ListN.{length, getD}
+use borrow.Author.Tests.{lt-ltb, le-ltb, ltb-true, eqb-true, eqb-false, eq-eqb, ne-eqb}
+use Rattle.lists.specs.Lists.{if_then_else_, sum, sumTo, oneIf, count, any, keep, tab}
+use Rattle.lists.proofs.Bools.{cases, lt-or-le, eqb-same, same-choice}
+use Rattle.lists.proofs.Sums.{sumTo-ext, sumTo-zero, sumTo-add}
+use Rattle.lists.proofs.Counts.{any-count, count-none}
+use Rattle.lists.proofs.Keep.{sumTo-one}
+use Rattle.lists.proofs.Each.{Each, each-more}
+use Rattle.auction.specs.Price.{zeroPrice}
+use Rattle.machine.specs.Roll.{UnitState, Open, Sold, Allocated, Moved, Torn, Entry, Bid, noBid, kind, isOpen, priceOf, heldBy, passedTo, anyOpen, prices}
+use Rattle.machine.specs.Run.{fiveCounts, holding}
+use Rattle.units.specs.declared.Units.{Units}
+use Rattle.units.specs.Places.{allocatedAt, soldAt, movedAt, unitAt, over, weigh}
+use Rattle.units.specs.Steps.{zeroSum}
+use Rattle.units.specs.Shown.{column, soldIn, kindOf, countOf, soldFor, holdingOf, passedOf, zeroPrices, pricesOf}
+use Rattle.units.proofs.Places.{unit-open, unit-allocated, unit-sold, unit-moved, unit-torn, weigh-parts, sum-rows}
+use Rattle.units.proofs.Over.{count-over}
+use Rattle.units.proofs.Tied.{inPool, priceIn, in-it, not-in-it}
+use Rattle.units.proofs.Kept.{Kept}
+
+-- ---- sums of what passes a test
+
+times-if : (b : Bool) (n : ℕ) → n * oneIf b ≡ (if b then n else 0)
+unfolding oneIf
+times-if true n = mul-one n
+times-if false n = mul-zero n
+
+-- two tests that agree where there is something to count
+if-same : (a b : Bool) (n : ℕ) → (0 < n → a ≡ b) → (if a then n else 0) ≡ (if b then n else 0)
+if-same a b zero same = same-choice {A = ℕ} a 0 ∙ sym (same-choice {A = ℕ} b 0)
+if-same a b (suc n) same = rw (same (omega arith))
+
+sum-nothing : (n : ℕ) (f : ℕ → ℕ) → ((k : ℕ) → k < n → f k ≡ 0) → sumTo n f ≡ 0
+sum-nothing n f h = sumTo-ext n f (λ k. 0) h ∙ sumTo-zero n
+
+-- one place of several
+sum-one : (n j : ℕ) (f : ℕ → ℕ) → j < n → ((k : ℕ) → k < n → (k ≡ j → ⊥) → f k ≡ 0) → sumTo n f ≡ f j
+sum-one n j f l others =
+    sumTo-ext n f (λ k. if eqb k j then f j else 0)
+    (λ k h. cases (eqb k j) _ (λ t. rw (t, eqb-true k j t)) (λ t. rw t (others k h (eqb-false k j t))))
+    ∙ sumTo-one n j (f j) l
+
+module _ (u : Units) (bids : List Bid) (roll : List Entry) (kept : Kept u bids roll) where
+  abbrev c : ℕ → ℕ
+  c k = getD (u .counts) k 0
+
+  -- how many entries pass a test, kind by kind
+  by-parts : (t : Entry → Bool) → count t roll
+      ≡ sumTo 4 (λ p. if t (record { pool = p; state = Open }) then c p else 0)
+      + sumTo 32 (λ m. sumTo 4 (λ p. if t (record { pool = p; state = Allocated m (getD (u .allocation) p 0) }) then c (allocatedAt p m) else 0))
+      + sumTo 256 (λ b. if t (record { pool = getD bids b noBid .pool; state = Sold b }) then c (soldAt b) else 0)
+      + sumTo 32 (λ m. sumTo 4 (λ p. if t (record { pool = p; state = Moved m }) then c (movedAt p m) else 0))
+      + sumTo 260 (λ i. if t (record { pool = i % 4; state = Torn (getD (u .tearup) i 0) }) then c (516 + i) else 0)
+  by-parts t =
+      let a = u .allocation in
+      let r = u .tearup in
+      let unit = unitAt a r bids in
+      let v : ℕ → ℕ = λ k. oneIf (t (unit k)) in
+      omega (
+        arith,
+        count-over t roll,
+        kept .tied .counted .all (λ e. oneIf (t e)),
+        weigh-parts (u .counts) v,
+        sumTo-ext 4 (λ p. c p * v p) (λ p. if t (record { pool = p; state = Open }) then c p else 0) (λ p l. rw (unit-open a r bids p l) (times-if _ (c p))),
+        sumTo-ext 32 (λ m. sumTo 4 (λ p. c (allocatedAt p m) * v (allocatedAt p m)))
+            (λ m. sumTo 4 (λ p. if t (record { pool = p; state = Allocated m (getD a p 0) }) then c (allocatedAt p m) else 0))
+            (λ m lm. sumTo-ext 4 _ _ (λ p lp. rw (unit-allocated a r bids p m lp lm) (times-if _ (c (allocatedAt p m))))),
+        sumTo-ext 256 (λ b. c (soldAt b) * v (soldAt b)) (λ b. if t (record { pool = getD bids b noBid .pool; state = Sold b }) then c (soldAt b) else 0)
+            (λ b l. rw (unit-sold a r bids b l) (times-if _ (c (soldAt b)))),
+        sumTo-ext 32 (λ m. sumTo 4 (λ p. c (movedAt p m) * v (movedAt p m)))
+            (λ m. sumTo 4 (λ p. if t (record { pool = p; state = Moved m }) then c (movedAt p m) else 0))
+            (λ m lm. sumTo-ext 4 _ _ (λ p lp. rw (unit-moved a r bids p m lp lm) (times-if _ (c (movedAt p m))))),
+        sumTo-ext 260 (λ i. c (516 + i) * v (516 + i)) (λ i. if t (record { pool = i % 4; state = Torn (getD r i 0) }) then c (516 + i) else 0)
+            (λ i l. rw (unit-torn a r bids i l) (times-if _ (c (516 + i)))),
+      )
+
+  -- ---- the five counts
+
+  module _ (pools : List ℕ) (lent : (b : ℕ) → b < 256 → 0 < c (soldAt b) → getD pools b 0 ≡ getD bids b noBid .pool) (pool : ℕ) (l : pool < 4) where
+    -- one pool of four
+    row : (g : ℕ → ℕ) (b : Bool) → sumTo 4 (λ p. if eqb p pool && b then g p else 0) ≡ (if b then g pool else 0)
+    row g b =
+        sum-one 4 pool (λ p. if eqb p pool && b then g p else 0) l (λ p lp a. rw (ne-eqb p pool a)) ∙ rw (eq-eqb pool pool refl)
+
+    -- a number of rows of four
+    rows : (n first : ℕ) (b : Bool) → sumTo n (λ m. sumTo 4 (λ p. if eqb p pool && b then c (first + (4 * m + p)) else 0)) ≡ (if b then column (u .counts) (first + pool) n else 0)
+    unfolding column
+    rows n first true =
+        sumTo-ext n _ _
+        (λ m lm. row (λ p. c (first + (4 * m + p))) true ∙ (let e : first + (4 * m + pool) ≡ first + pool + 4 * m = omega arith in ap c e))
+    rows n first false = sum-nothing n _ (λ m lm. row (λ p. c (first + (4 * m + p))) false)
+
+    open-part : (b : Bool) → sumTo 4 (λ p. if eqb p pool && b then c p else 0) ≡ (if b then column (u .counts) pool 1 else 0)
+    unfolding column sumTo
+    open-part true = row c true ∙ (let e : pool ≡ pool + 4 * 0 = omega arith in omega (arith, ap c e))
+    open-part false = row c false
+
+    sold-part : (b : Bool) → sumTo 256 (λ i. if eqb (getD bids i noBid .pool) pool && b then c (soldAt i) else 0) ≡ (if b then soldIn (u .counts) pools pool else 0)
+    unfolding soldIn
+    sold-part true =
+        sumTo-ext 256 _ _
+        (λ i li. if-same (eqb (getD bids i noBid .pool) pool && true) (eqb (getD pools i 0) pool) (c (soldAt i)) (λ some. and-true (eqb (getD bids i noBid .pool) pool) ∙ rw (lent i li some)))
+    sold-part false = sum-nothing 256 _ (λ i li. rw (and-false (eqb (getD bids i noBid .pool) pool)))
+
+    torn-part : (b : Bool) → sumTo 260 (λ i. if eqb (i % 4) pool && b then c (516 + i) else 0) ≡ (if b then column (u .counts) (516 + pool) 65 else 0)
+    torn-part b =
+        sum-rows 65 (λ i. if eqb (i % 4) pool && b then c (516 + i) else 0)
+        ∙ sumTo-ext 65 _ _ (λ r lr. sumTo-ext 4 _ _ (λ p lp. let e : (4 * r + p) % 4 ≡ p = omega arith in rw e))
+        ∙ rows 65 516 b
+
+    kind-count : (k : ℕ) → count (λ e. eqb (e .pool) pool && eqb (kind (e .state)) k) roll ≡ kindOf u pools pool k
+    unfolding kind
+    kind-count k =
+        by-parts (λ e. eqb (e .pool) pool && eqb (kind (e .state)) k)
+        ∙ rw (open-part (eqb 0 k), rows 32 4 (eqb 2 k), sold-part (eqb 1 k), rows 32 388 (eqb 3 k), torn-part (eqb 4 k)) (go k)
+      where
+        go : (k : ℕ) → (if eqb 0 k then column (u .counts) pool 1 else 0) + (if eqb 2 k then column (u .counts) (4 + pool) 32 else 0) + (if eqb 1 k then soldIn (u .counts) pools pool else 0)
+            + (if eqb 3 k then column (u .counts) (388 + pool) 32 else 0) + (if eqb 4 k then column (u .counts) (516 + pool) 65 else 0) ≡ kindOf u pools pool k
+        go zero = omega arith
+        go (suc zero) = omega arith
+        go (suc (suc zero)) = omega arith
+        go (suc (suc (suc zero))) = omega arith
+        go (suc (suc (suc (suc zero)))) = omega arith
+        go (suc (suc (suc (suc (suc k))))) =
+            let n = suc (suc (suc (suc (suc k)))) in
+            rw (ne-eqb 0 n (omega arith), ne-eqb 1 n (omega arith), ne-eqb 2 n (omega arith), ne-eqb 3 n (omega arith), ne-eqb 4 n (omega arith))
+
+    pub five-shown : tab 5 (countOf u pools pool) ≡ fiveCounts roll pool
+    unfolding fiveCounts countOf tab
+    five-shown = rw (lt-ltb pool 4 l, kind-count 0, kind-count 1, kind-count 2, kind-count 3, kind-count 4)
+
+  -- ---- holdings
+
+  module _ (members pools prices' : List ℕ)
+      (lent : (b : ℕ) → b < 256 → 0 < c (soldAt b) → (getD members b 0 ≡ getD bids b noBid .member) × (getD pools b 0 ≡ getD bids b noBid .pool) × (getD prices' b 0 ≡ getD bids b noBid .price))
+      (m pool price : ℕ) (lm : m < 32) (lp : pool < 4) where
+    -- one member and pool
+    held-one : (g : ℕ → ℕ → ℕ) (b : ℕ → Bool)
+        → sumTo 32 (λ a. sumTo 4 (λ p. if eqb p pool && eqb a m && b p then g p a else 0)) ≡ (if b pool then g pool m else 0)
+    held-one g b =
+        sum-one 32 m (λ a. sumTo 4 (λ p. if eqb p pool && eqb a m && b p then g p a else 0)) lm
+        (λ a la no. sum-nothing 4 _ (λ p l. rw (ne-eqb a m no, and-false (eqb p pool))))
+        ∙ sum-one 4 pool (λ p. if eqb p pool && eqb m m && b p then g p m else 0) lp (λ p l no. rw (ne-eqb p pool no))
+        ∙ rw (eq-eqb pool pool refl, eq-eqb m m refl)
+
+    sold-to : sumTo 256 (λ b. if eqb (getD bids b noBid .pool) pool && eqb (getD bids b noBid .member) m && eqb (getD bids b noBid .price) price then c (soldAt b) else 0)
+        ≡ soldFor (u .counts) members pools prices' m pool price
+    unfolding soldFor
+    sold-to =
+        sumTo-ext 256 _ _
+        (λ i li.
+        let p = getD bids i noBid .pool in
+        let who = getD bids i noBid .member in
+        let at = getD bids i noBid .price in
+        if-same (eqb p pool && eqb who m && eqb at price) (eqb (getD members i 0) m && eqb (getD pools i 0) pool && eqb (getD prices' i 0) price) (c (soldAt i))
+        (λ some. let e = lent i li some in rw (e .0, e .1, e .2) (ap (λ (b : Bool). b && eqb at price) (and-comm (eqb p pool) (eqb who m)))))
+
+    pub holding-shown : holdingOf u members pools prices' m pool price ≡ holding bids roll m pool price
+    unfolding holding holdingOf heldBy priceOf
+    holding-shown =
+        let a = u .allocation in
+        rw (lt-ltb pool 4 lp, lt-ltb m 32 lm)
+        (sym (by-parts (λ e. eqb (e .pool) pool && heldBy bids m (e .state) && eqb (priceOf bids (e .state)) price)
+        ∙ omega (
+          arith,
+          sum-nothing 4 (λ p. if eqb p pool && false && eqb zeroPrice price then c p else 0) (λ p l. rw (and-false (eqb p pool))),
+          held-one (λ p x. c (allocatedAt p x)) (λ p. eqb (getD a p 0) price),
+          sold-to,
+          held-one (λ p x. c (movedAt p x)) (λ p. eqb zeroPrice price),
+          same-price,
+          sum-nothing 260 (λ i. if eqb (i % 4) pool && false && eqb (getD (u .tearup) i 0) price then c (516 + i) else 0) (λ i l. rw (and-false (eqb (i % 4) pool))),
+        )))
+      where
+        same-price : (if eqb zeroPrice price then c (movedAt pool m) else 0) ≡ (if eqb price zeroPrice then c (movedAt pool m) else 0)
+        same-price = rw (eqb-same zeroPrice price price zeroPrice (λ e. sym e) (λ e. sym e))
+
+  -- ---- units allocated or moved to a member
+
+  pub passed-shown : (m : ℕ) → m < 32 → count (λ e. passedTo m (e .state)) roll ≡ passedOf u m
+  unfolding passedTo passedOf
+  passed-shown m lm =
+      rw (lt-ltb m 32 lm)
+      (by-parts (λ e. passedTo m (e .state))
+      ∙ omega (
+        arith,
+        sum-nothing 4 (λ p. if false then c p else 0) (λ p l. refl),
+        one (λ p a. c (allocatedAt p a)),
+        sum-nothing 256 (λ b. if false then c (soldAt b) else 0) (λ b l. refl),
+        one (λ p a. c (movedAt p a)),
+        sum-nothing 260 (λ i. if false then c (516 + i) else 0) (λ i l. refl),
+      ))
+    where
+      one : (g : ℕ → ℕ → ℕ) → sumTo 32 (λ a. sumTo 4 (λ p. if eqb a m then g p a else 0)) ≡ sumTo 4 (λ p. g p m)
+      one g =
+          sum-one 32 m (λ a. sumTo 4 (λ p. if eqb a m then g p a else 0)) lm (λ a la no. sum-nothing 4 _ (λ p l. rw (ne-eqb a m no)))
+          ∙ sumTo-ext 4 _ _ (λ p l. rw (eq-eqb m m refl))
+
+  -- ---- open units in any pool
+
+  open-count : count isOpen roll ≡ sumTo 4 c
+  unfolding isOpen kind
+  open-count =
+      by-parts isOpen
+      ∙ omega (
+        arith,
+        sum-nothing 32 (λ m. sumTo 4 (λ p. if false then c (allocatedAt p m) else 0)) (λ m l. sum-nothing 4 _ (λ p lp. refl)),
+        sum-nothing 256 (λ b. if false then c (soldAt b) else 0) (λ b l. refl),
+        sum-nothing 32 (λ m. sumTo 4 (λ p. if false then c (movedAt p m) else 0)) (λ m l. sum-nothing 4 _ (λ p lp. refl)),
+        sum-nothing 260 (λ i. if false then c (516 + i) else 0) (λ i l. refl),
+      )
+
+  pub any-open-shown : anyOpen roll ≡ ltb 0 (sumTo 4 c)
+  unfolding anyOpen
+  any-open-shown = any-count isOpen roll ∙ ap (ltb 0) open-count
+
+-- ---- the sum of prices
+
+-- an entry is in one of the four pools
+in-one : (bids : List Bid) (e : Entry) → e .pool < 4
+    → (inPool 0 e + inPool 1 e + inPool 2 e + inPool 3 e ≡ 1) × (priceIn bids 0 e + priceIn bids 1 e + priceIn bids 2 e + priceIn bids 3 e ≡ priceOf bids (e .state))
+in-one bids e l = go (e .pool) refl l
+  where
+    yes : (q : ℕ) → e .pool ≡ q → (inPool q e ≡ 1) × (priceIn bids q e ≡ priceOf bids (e .state))
+    yes q h = in-it bids q e h
+
+    no : (p q : ℕ) → e .pool ≡ p → (p ≡ q → ⊥) → (inPool q e ≡ 0) × (priceIn bids q e ≡ 0)
+    no p q h a = not-in-it bids q e (λ x. a (sym h ∙ x))
+
+    go : (p : ℕ) → e .pool ≡ p → p < 4 → (inPool 0 e + inPool 1 e + inPool 2 e + inPool 3 e ≡ 1) × (priceIn bids 0 e + priceIn bids 1 e + priceIn bids 2 e + priceIn bids 3 e ≡ priceOf bids (e .state))
+    go zero h l =
+        let a = yes 0 h in
+        let b = no 0 1 h (λ x. absurd (omega arith)) in
+        let c = no 0 2 h (λ x. absurd (omega arith)) in
+        let d = no 0 3 h (λ x. absurd (omega arith)) in
+        (omega (arith, a .0, b .0, c .0, d .0), omega (arith, a .1, b .1, c .1, d .1))
+    go (suc zero) h l =
+        let a = no 1 0 h (λ x. absurd (omega arith)) in
+        let b = yes 1 h in
+        let c = no 1 2 h (λ x. absurd (omega arith)) in
+        let d = no 1 3 h (λ x. absurd (omega arith)) in
+        (omega (arith, a .0, b .0, c .0, d .0), omega (arith, a .1, b .1, c .1, d .1))
+    go (suc (suc zero)) h l =
+        let a = no 2 0 h (λ x. absurd (omega arith)) in
+        let b = no 2 1 h (λ x. absurd (omega arith)) in
+        let c = yes 2 h in
+        let d = no 2 3 h (λ x. absurd (omega arith)) in
+        (omega (arith, a .0, b .0, c .0, d .0), omega (arith, a .1, b .1, c .1, d .1))
+    go (suc (suc (suc zero))) h l =
+        let a = no 3 0 h (λ x. absurd (omega arith)) in
+        let b = no 3 1 h (λ x. absurd (omega arith)) in
+        let c = no 3 2 h (λ x. absurd (omega arith)) in
+        let d = yes 3 h in
+        (omega (arith, a .0, b .0, c .0, d .0), omega (arith, a .1, b .1, c .1, d .1))
+    go (suc (suc (suc (suc p)))) h l = absurd (omega arith)
+
+-- an open entry counts as one at price 0
+open-price : (bids : List Bid) (e : Entry) → isOpen e ≡ true → priceOf bids (e .state) ≡ zeroPrice
+unfolding isOpen kind priceOf
+open-price bids e h = go (e .state) h
+  where
+    go : (s : UnitState) → eqb (kind s) 0 ≡ true → priceOf bids s ≡ zeroPrice
+    go Open h = refl
+    go (Sold b) h = absurd (false≢true h)
+    go (Allocated m price) h = absurd (false≢true h)
+    go (Moved m) h = absurd (false≢true h)
+    go (Torn price) h = absurd (false≢true h)
+
+prices-open : (bids : List Bid) (e : Entry) (es : List Entry) → isOpen e ≡ true → prices bids (e ∷ es) ≡ prices bids es
+unfolding prices keep
+prices-open bids e es h = rw h
+
+prices-more : (bids : List Bid) (e : Entry) (es : List Entry) → isOpen e ≡ false → prices bids (e ∷ es) ≡ priceOf bids (e .state) ∷ prices bids es
+unfolding prices keep
+prices-more bids e es h = rw h
+
+prices-none : (bids : List Bid) → prices bids [] ≡ []
+unfolding prices keep
+prices-none bids = refl
+
+-- so the open ones fall out of units and prices alike
+priced-roll : (bids : List Bid) (roll : List Entry) → Each (λ e. e .pool < 4) roll
+    → over roll (priceIn bids 0) + over roll (priceIn bids 1) + over roll (priceIn bids 2) + over roll (priceIn bids 3) + zeroPrice * length (prices bids roll)
+    ≡ zeroPrice * (over roll (inPool 0) + over roll (inPool 1) + over roll (inPool 2) + over roll (inPool 3)) + sum (prices bids roll)
+unfolding sum
+priced-roll bids [] h = rw (prices-none bids) (omega arith)
+priced-roll bids (e ∷ es) h =
+    let one = in-one bids e (h .0) in
+    let rest = priced-roll bids es (h .1) in
+    cases (isOpen e) _
+    (λ t. rw (prices-open bids e es t) (omega (arith, one .0, one .1, open-price bids e t, rest)))
+    (λ t. rw (prices-more bids e es t) (omega (arith, one .0, one .1, rest)))
+
+module _ (u : Units) (bids : List Bid) (roll : List Entry) (kept : Kept u bids roll) (below : Each (λ e. e .pool < 4) roll) where
+  -- the sum that is held is 4,000,000,000 too high, each price 1,000,000
+  pub prices-shown : pricesOf u + zeroPrice * length (prices bids roll) ≡ zeroPrices + sum (prices bids roll)
+  unfolding pricesOf sumTo
+  prices-shown =
+      let s = kept .tied .summed in
+      omega (arith, priced-roll bids roll below, s 0 (omega arith), s 1 (omega arith), s 2 (omega arith), s 3 (omega arith))

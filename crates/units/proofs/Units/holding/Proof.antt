@@ -1,0 +1,119 @@
+-- `units::Units::holding` meets its contract. Assumes nothing.
+use native.Mathlib.Omega.{arith}
+use mathlib.Core.Bool.{and-false}
+use lib.Dec.{ltb, eqb}
+use lib.ListN.{getD}
+use borrow.Author.Tests.{lt-ltb, le-ltb}
+use Rattle.lists.specs.Adding.{most16}
+use Rattle.units.specs.Shown.{holdingOf}
+use Rattle.units.proofs.Numbers.{if-le}
+use borrow.Author.Needs.{needs}
+use Rattle.units.proofs.Units.holding.Statement.{statement}
+use Rattle.units.proofs.Units.holding.Tie as tie
+use Rattle.units.proofs.Units.holding.Reads as reads
+use Rattle.units.proofs.Units.holding.Lts as lts
+use Rattle.lists.proofs.number_if.Reads as number-if-reads
+use Rattle.lists.proofs.place.Reads as place-reads
+use Rattle.lists.proofs.wide16.Reads as wide16-reads
+use Rattle.units.proofs.sold_for.Reads as sold-for-reads
+
+returns : tie.Need-returns
+unfolding holdingOf
+returns c = rw (le-ltb (c .before .args .pool) 4 (omega arith))
+
+returns-2 : tie.Need-returns-2
+unfolding holdingOf
+returns-2 c = rw (le-ltb (c .before .before .args .m) 32 (omega arith), and-false (ltb (c .before .before .args .pool) 4))
+
+place-requires : tie.Need-place-requires
+place-requires c κs = search needs
+
+place-requires-2 : tie.Need-place-requires-2
+place-requires-2 c κs = search needs
+
+mul-k : tie.Need-mul-k
+mul-k c = search needs
+
+add-k : tie.Need-add-k
+add-k c = search needs
+
+sold-for-requires : tie.Need-sold-for-requires
+sold-for-requires c κs = search needs
+
+mul-number-if : tie.Need-mul-number-if
+mul-number-if c = search needs
+
+array-read-number-if : tie.Need-array-read-number-if
+array-read-number-if c = search needs
+
+add-wide16 : tie.Need-add-wide16
+add-wide16 c = search needs
+
+mul-wide16 : tie.Need-mul-wide16
+mul-wide16 c = search needs
+
+array-read-wide16 : tie.Need-array-read-wide16
+array-read-wide16 c = search needs
+
+wide16-requires : tie.Need-wide16-requires
+wide16-requires c κs = search needs
+
+number-if-requires : tie.Need-number-if-requires
+number-if-requires c κs = search needs
+
+add-wide16-2 : tie.Need-add-wide16-2
+add-wide16-2 c = search needs
+
+mul-wide16-2 : tie.Need-mul-wide16-2
+mul-wide16-2 c = search needs
+
+array-read-wide16-2 : tie.Need-array-read-wide16-2
+array-read-wide16-2 c = search needs
+
+wide16-requires-2 : tie.Need-wide16-requires-2
+wide16-requires-2 c κs = search needs
+
+number-if-requires-2 : tie.Need-number-if-requires-2
+number-if-requires-2 c κs = search needs
+
+add-result : tie.Need-add-result
+add-result c = let a = c .before .before .before .before .before .before .before .before .before .before .before .before .args in
+    let small = if-le (eqb (getD (a .self .allocation) (c .before .before .before .before .before .before .before .before .before .place .result) 0) (a .price)) _ _ most16 (c .before .before .number-if .ensures) (c .before .before .before .wide16 .ensures .1) in
+    record { fits = omega arith }
+
+add-result-2 : tie.Need-add-result-2
+add-result-2 c = let a = c .before .before .before .before .before .before .before .before .before .before .before .before .args in
+    let small = if-le (eqb (getD (a .self .allocation) (c .before .before .before .before .before .before .before .before .before .place .result) 0) (a .price)) _ _ most16 (c .before .before .number-if .ensures) (c .before .before .before .wide16 .ensures .1) in
+    let fewer = if-le (eqb (a .price) 1000000) _ _ most16 (c .number-if2 .ensures) (c .before .wide162 .ensures .1) in
+    record { fits = omega arith }
+
+returns-3 : tie.Need-returns-3
+unfolding holdingOf
+returns-3 c = rw (lt-ltb (c .before .before .before .before .before .before .before .before .before .before .before .before .args .pool) 4 (omega arith), lt-ltb (c .before .before .before .before .before .before .before .before .before .before .before .before .args .m) 32 (omega arith)) (cc)
+
+pub holding-spec : {M : Type 1} → statement M
+holding-spec =
+    tie.close
+    (tie.spec
+    returns
+    returns-2
+    place-requires
+    place-requires-2
+    mul-k
+    add-k
+    sold-for-requires
+    mul-number-if
+    array-read-number-if
+    add-wide16
+    mul-wide16
+    array-read-wide16
+    wide16-requires
+    number-if-requires
+    add-wide16-2
+    mul-wide16-2
+    array-read-wide16-2
+    wide16-requires-2
+    number-if-requires-2
+    add-result
+    add-result-2
+    returns-3)

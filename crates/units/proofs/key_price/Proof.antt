@@ -1,0 +1,15 @@
+-- `units::key_price` meets its contract. Assumes nothing.
+use native.Mathlib.Omega.{arith}
+use mathlib.Core.Path.{refl}
+use Rattle.units.specs.Groups.{keyPrice}
+use Rattle.units.proofs.key_price.Statement.{statement}
+use Rattle.units.proofs.key_price.Tie as tie
+use Rattle.units.proofs.key_price.Reads as reads
+use Rattle.units.proofs.key_price.Lts as lts
+
+returns : tie.Need-returns
+unfolding keyPrice
+returns c = (refl, omega arith)
+
+pub key-price-spec : {M : Type 1} → statement M
+key-price-spec = tie.close (tie.spec returns)

@@ -1,0 +1,15 @@
+-- `units::live_key` meets its contract. Assumes nothing.
+use borrow.Author.Tests.{eq-eqb, ne-eqb}
+use Rattle.units.proofs.live_key.Statement.{statement}
+use Rattle.units.proofs.live_key.Tie as tie
+use Rattle.units.proofs.live_key.Reads as reads
+use Rattle.units.proofs.live_key.Lts as lts
+
+returns : tie.Need-returns
+returns c = rw (eq-eqb _ _ (c .if1 .taken))
+
+returns-2 : tie.Need-returns-2
+returns-2 c = rw (ne-eqb _ _ (c .if1 .left))
+
+pub live-key-spec : {M : Type 1} → statement M
+live-key-spec = tie.close (tie.spec returns returns-2)

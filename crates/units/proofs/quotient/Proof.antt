@@ -1,0 +1,20 @@
+use mathlib.Core.Path.{sym}
+use native.Mathlib.Nat.{div-zero}
+-- `units::quotient` meets its contract. Assumes nothing.
+use borrow.Author.Needs.{needs}
+use Rattle.units.proofs.quotient.Statement.{statement}
+use Rattle.units.proofs.quotient.Tie as tie
+use Rattle.units.proofs.quotient.Reads as reads
+use Rattle.units.proofs.quotient.Lts as lts
+
+div-result : tie.Need-div-result
+div-result c = search needs
+
+returns : tie.Need-returns
+returns c = rw (c .if1 .taken) (sym (div-zero _))
+
+returns-2 : tie.Need-returns-2
+returns-2 c = search needs
+
+pub quotient-spec : {M : Type 1} → statement M
+quotient-spec = tie.close (tie.spec div-result returns returns-2)

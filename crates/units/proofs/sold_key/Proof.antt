@@ -1,0 +1,37 @@
+-- `units::sold_key` meets its contract. Assumes nothing.
+use native.Mathlib.Omega.{arith}
+use borrow.Author.Tests.{lt-ltb, le-ltb}
+use Rattle.units.specs.Groups.{soldKey}
+use borrow.Author.Needs.{needs}
+use Rattle.units.proofs.sold_key.Statement.{statement}
+use Rattle.units.proofs.sold_key.Tie as tie
+use Rattle.units.proofs.sold_key.Reads as reads
+use Rattle.units.proofs.sold_key.Lts as lts
+
+mul-result : tie.Need-mul-result
+mul-result c = search needs
+
+cast-result : tie.Need-cast-result
+cast-result c = search needs
+
+sub-result : tie.Need-sub-result
+sub-result c = search needs
+
+add-result : tie.Need-add-result
+add-result c = search needs
+
+add-result-2 : tie.Need-add-result-2
+add-result-2 c = search needs
+
+returns : tie.Need-returns
+unfolding soldKey
+returns c = rw (lt-ltb (c .before .args .price) 1000000 (omega arith))
+
+returns-2 : tie.Need-returns-2
+unfolding soldKey
+returns-2 c = rw (le-ltb (c .before .args .price) 1000000 (omega arith))
+
+pub sold-key-spec : {M : Type 1} → statement M
+sold-key-spec =
+    tie.close
+    (tie.spec mul-result cast-result sub-result add-result add-result-2 returns returns-2)

@@ -1,0 +1,54 @@
+use mathlib.Core.Path.{ap}
+use Prim.Native.Nat.{ℕ, _/_}
+-- `units::units_needed` meets its contract. Assumes nothing.
+use native.Mathlib.Omega.{arith}
+use Rattle.units.specs.Groups.{needed}
+use borrow.Author.Needs.{needs}
+use Rattle.units.proofs.units_needed.Statement.{statement}
+use Rattle.units.proofs.units_needed.Tie as tie
+use Rattle.units.proofs.units_needed.Reads as reads
+use Rattle.units.proofs.units_needed.Lts as lts
+use Rattle.lists.proofs.less.Reads as less-reads
+use Rattle.lists.proofs.narrow16.Reads as narrow16-reads
+use Rattle.lists.proofs.smaller.Reads as smaller-reads
+use Rattle.lists.proofs.wide16.Reads as wide16-reads
+use Rattle.units.proofs.quotient.Reads as quotient-reads
+
+wide16-requires : tie.Need-wide16-requires
+wide16-requires c κs = search needs
+
+less-requires : tie.Need-less-requires
+less-requires c κs = search needs
+
+quotient-requires : tie.Need-quotient-requires
+quotient-requires c κs = search needs
+
+add-smaller : tie.Need-add-smaller
+add-smaller c = search needs
+
+smaller-requires : tie.Need-smaller-requires
+smaller-requires c κs = search needs
+
+narrow16-requires : tie.Need-narrow16-requires
+narrow16-requires c κs = search needs
+
+returns : tie.Need-returns
+unfolding needed
+returns c = omega (arith, c .before .before .before .quotient .ensures, ap (λ (x : ℕ). x / c .before .before .before .before .before .before .args .saving) (c .before .before .before .before .less .ensures))
+
+returns-2 : tie.Need-returns-2
+unfolding needed
+returns-2 c = omega (arith, c .before .quotient .ensures, ap (λ (x : ℕ). x / c .before .before .before .before .args .saving) (c .before .before .less .ensures))
+
+pub units-needed-spec : {M : Type 1} → statement M
+units-needed-spec =
+    tie.close
+    (tie.spec
+    wide16-requires
+    less-requires
+    quotient-requires
+    add-smaller
+    smaller-requires
+    narrow16-requires
+    returns
+    returns-2)
