@@ -189,11 +189,11 @@ fn first_owing(book: Book) -> u8 {
     let head = book.head;
     let mut left = head.set;
     while left != 0 {
-        let m = sets::next(left) as u8;
-        if 0 < members.owes(m) {
-            return m;
-        }
+        let m = sets::next(left);
         left = sets::without_least(left);
+        if 0 < members.owes(m as u8) {
+            return m as u8;
+        }
     }
     32
 }

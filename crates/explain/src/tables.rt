@@ -277,6 +277,24 @@ fn money_row(a: u64, b: u64, c: u64, d: u64, out: &mut [u8], at: usize) -> usize
     end_line(out, fourth)
 }
 
+// The members' contributions.
+fn contributions(members: Members) -> [u64; 32] {
+    let xs = members.contribution;
+    widened(xs)
+}
+
+// What is called from the members.
+fn called_amounts(members: Members) -> [u64; 32] {
+    let xs = members.called;
+    widened(xs)
+}
+
+// What the members have paid.
+fn paid_amounts(members: Members) -> [u64; 32] {
+    let xs = members.paid;
+    widened(xs)
+}
+
 // The units won and expected, and the excess, of a member.
 fn member_units(members: Members, m: u8, out: &mut [u8], at: usize) -> usize {
     let table = members.won;
@@ -288,8 +306,8 @@ fn member_units(members: Members, m: u8, out: &mut [u8], at: usize) -> usize {
 
 // The money of a member, and what is charged of it.
 fn member_money(members: Members, result: Result, m: u8, out: &mut [u8], at: usize) -> usize {
-    let contribution = widened(members.contribution);
-    let paid = widened(members.paid);
+    let contribution = contributions(members);
+    let paid = paid_amounts(members);
     let charged = result.contributions;
     let taken = result.payments;
     money_row(
@@ -322,8 +340,8 @@ fn units_total(members: Members, out: &mut [u8], at: usize) -> usize {
 
 // The money of all members, and what is charged of it.
 fn money_total(members: Members, result: Result, out: &mut [u8], at: usize) -> usize {
-    let contribution = widened(members.contribution);
-    let paid = widened(members.paid);
+    let contribution = contributions(members);
+    let paid = paid_amounts(members);
     let charged = result.contributions;
     let taken = result.payments;
     money_row(
@@ -349,18 +367,18 @@ fn member_rows(members: Members, result: Result, set: u32, out: &mut [u8], at: u
     let mut to = at;
     let mut left = set;
     while left != 0 {
-        let m = sets::next(left) as u8;
+        let m = sets::next(left);
         left = sets::without_least(left);
-        to = member_row(members, result, m, out, to);
+        to = member_row(members, result, m as u8, out, to);
     }
     to
 }
 
 // The row of a member before FINISH, when nothing is charged and nobody is ranked.
 fn early_row(members: Members, m: u8, out: &mut [u8], at: usize) -> usize {
-    let contribution = widened(members.contribution);
-    let called = widened(members.called);
-    let paid = widened(members.paid);
+    let contribution = contributions(members);
+    let called = called_amounts(members);
+    let paid = paid_amounts(members);
     let named = number_right(out, at, 8, m as u64);
     let units = member_units(members, m, out, named);
     money_row(
@@ -378,9 +396,9 @@ fn early_rows(members: Members, set: u32, out: &mut [u8], at: usize) -> usize {
     let mut to = at;
     let mut left = set;
     while left != 0 {
-        let m = sets::next(left) as u8;
+        let m = sets::next(left);
         left = sets::without_least(left);
-        to = early_row(members, m, out, to);
+        to = early_row(members, m as u8, out, to);
     }
     to
 }
@@ -549,9 +567,9 @@ fn held_rows(case: Case, set: u32, rows: Rows, out: &mut [u8]) -> Rows {
     let mut next = rows;
     let mut left = set;
     while left != 0 {
-        let m = sets::next(left) as u8;
+        let m = sets::next(left);
         left = sets::without_least(left);
-        next = pool_rows(case, m, next, out);
+        next = pool_rows(case, m as u8, next, out);
     }
     next
 }
