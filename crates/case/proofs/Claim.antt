@@ -11,7 +11,7 @@ use borrow.Author.Tests.{eqb-true, not-false}
 use Rattle.lists.specs.Lists.{if_then_else_}
 use Rattle.lists.proofs.Bools.{same-choice}
 use Rattle.lists.proofs.Each.{Each}
-use Rattle.lists.proofs.Passed.{Passed}
+use Rattle.lists.specs.Tests.{Passed}
 use Rattle.machine.specs.Wire.{Head, Call, HEAD, decode}
 use Rattle.machine.specs.State as M
 use Rattle.machine.specs.Calls.{accepted}

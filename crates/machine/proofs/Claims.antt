@@ -9,7 +9,7 @@ use lib.IntN.{pos, _-ℤ_}
 use lib.ListN.{length, getD}
 use Rattle.lists.specs.Lists.{sum, count, keep}
 use Rattle.lists.proofs.Each.{Each, each-at}
-use Rattle.lists.proofs.Passed.{Passed, First}
+use Rattle.lists.specs.Tests.{Passed, First}
 use Rattle.auction.specs.Price.{priceLimit, atLeast0}
 use Rattle.machine.specs.Wire.{Call, ALLOCATE, FINISH, decode}
 use Rattle.machine.specs.Roll.{Entry, Sold, Allocated, Moved, noBid, openUnits, priceOf}
