@@ -11,6 +11,7 @@ use Rattle.auction.specs.Auction.{allot}
 use Rattle.machine.specs.Roll.{prices}
 use Rattle.machine.specs.State.{Case, theCase}
 use Rattle.machine.specs.Requirement.{firstTranche, secondTranche}
+use Rattle.machine.specs.Machine.{step}
 use Rattle.machine.specs.Run.{Observed, run, runFrom, fiveCounts}
 use Rattle.machine.specs.Printed.{printed}
 use Rattle.machine.specs.Computing.{computing}
@@ -22,6 +23,10 @@ answers calls = map (λ (o : Observed). o .answer) (run calls)
 -- the case after a list of calls
 abbrev pub caseAfter : List (List ℕ) → Case
 caseAfter calls = theCase (runFrom none calls)
+
+-- the answers to some calls after a list of calls, each asked by itself
+abbrev pub answersAfter : List (List ℕ) → List (List ℕ) → List ℕ
+answersAfter calls asked = map (λ (call : List ℕ). step (runFrom none calls) call .answer) asked
 
 -- an example: what the definitions give, and what the paper says
 pub record Example : Type 0 where

@@ -1,5 +1,9 @@
 pub mod Examples
 pub mod Worked
+pub mod CallBytes
+pub mod WorkedDebts
+pub mod WorkedRanks
+pub mod WorkedStages
 pub mod Answers
 pub mod RollChanges
 pub mod Giving
