@@ -4,6 +4,7 @@ pub mod CallBytes
 pub mod WorkedDebts
 pub mod WorkedRanks
 pub mod WorkedStages
+pub mod WorkedRanges
 pub mod Answers
 pub mod RollChanges
 pub mod Giving
