@@ -18,9 +18,11 @@ use Rattle.machine.specs.Requirement.{requirement, contributions, prefun
 use Rattle.machine.specs.Calls.{reserve, inAuction, bidsAfter, wonByMember, shortfall, totalShortfall, allocation, calls, afterClose, afterAllocate, accepted}
 use Rattle.machine.specs.Refusals.{tests}
 use Rattle.machine.specs.Machine.{step}
+use Rattle.machine.specs.Table.{ByTable}
 use Rattle.machine.specs.Result.{worstReserve, standing, rank, payments, limits, charge, spent, onContribution, onPayments}
 use Rattle.machine.specs.Run.{Result, MemberResult, runFrom, fiveCounts, sumOfPrices, resultOf, observed}
 use Rattle.machine.proofs.Answers as A
+use Rattle.machine.proofs.Tables as T
 use Rattle.machine.proofs.Invariant.{CaseOk}
 use Rattle.machine.proofs.RollChanges.{soldTo}
 use Rattle.machine.proofs.CallsKept as K
@@ -57,6 +59,10 @@ module _ (s : State) (bytes : List ℕ) where
 
     pub answer-least : Each (λ t. t .1 ≡ true → step s bytes .answer ≤ t .0) (tests s (theCase s) call)
     answer-least = rw (A.call-answer s bytes call is) (A.refusal-least s call)
+
+-- a step is answered 1 or 2 exactly where 01's table of stages says so, and an accepted call leaves the case in the table's stage
+pub step-by-table : (s : State) (bytes : List ℕ) → ByTable s bytes
+step-by-table = T.by-table
 
 -- ---- the roll, in any state
 

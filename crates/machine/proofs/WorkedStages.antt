@@ -1,8 +1,12 @@
 -- Worked answers: each of the thirteen calls asked in each stage, by the column "stages" of document 01's table. "2. The stage doesn't allow the
 -- call." Where the stage allows it, the answer is 0 or a later number. Assumes nothing.
-use mathlib.Core.Path.{refl}
-use mathlib.Core.List.{List, [], _∷_, _++_}
+use mathlib.Core.Path.{_≡_, refl}
+use mathlib.Core.List.{List, [], _∷_, _++_, map}
+use mathlib.Core.Option.{none}
 use Prim.Native.Nat.{ℕ}
+use Rattle.machine.specs.Run.{runFrom}
+use Rattle.machine.specs.Table.{letterIn}
+use Rattle.machine.specs.Table as T
 use Rattle.machine.specs.Computing.{computing}
 use Rattle.machine.proofs.Examples.{answersAfter, Example, _says_, AllHold}
 use Rattle.machine.proofs.CallBytes.{−_, head, pool, member, round, bid, close, allocate, tear, call, pay, move, miss, finish}
@@ -62,6 +66,13 @@ C = A2 ++ (allocate 0 (− 1) ∷ call ∷ [])
 -- FINISH: "A, C; makes F"
 abbrev F : List (List ℕ)
 F = C ++ (pay 0 2 ∷ finish ∷ [])
+
+-- every stage of the table of stages is reached
+pub letters-reached :
+    map (λ (calls : List (List ℕ)). letterIn (runFrom none calls)) ([] ∷ S ∷ B1 ∷ B2 ∷ A1 ∷ A2 ∷ C ∷ F ∷ [])
+    ≡ T.N ∷ T.S ∷ T.B1 ∷ T.B2 ∷ T.A1 ∷ T.A2 ∷ T.C ∷ T.F ∷ []
+unfolding computing
+letters-reached = refl
 
 -- ---- the answers
 
