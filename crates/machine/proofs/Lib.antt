@@ -20,5 +20,6 @@ pub mod Bounds
 pub mod RollSteps
 pub mod Later
 pub mod Bytes
+pub mod Prices
 pub mod Finish
 pub mod Claims

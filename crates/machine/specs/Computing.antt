@@ -1,5 +1,5 @@
 -- Written by tools/computing.py. Under the line `unfolding computing` every definition of these specs computes.
-use Rattle.machine.specs.Wire.{bigEndian as Wire·bigEndian, number as Wire·number, price as Wire·price, rightLength as Wire·rightLength, callOf as Wire·callOf, decode as Wire·decode}
+use Rattle.machine.specs.Wire.{bigEndian as Wire·bigEndian, number as Wire·number, signed as Wire·signed, price as Wire·price, rightLength as Wire·rightLength, callOf as Wire·callOf, decode as Wire·decode}
 use Rattle.machine.specs.Roll.{kind as Roll·kind, isOpen as Roll·isOpen, openIn as Roll·openIn, priceOf as Roll·priceOf, heldBy as Roll·heldBy, passedTo as Roll·passedTo, putUp as Roll·putUp, giveLowest as Roll·giveLowest, openUnits as Roll·openUnits, anyOpen as Roll·anyOpen, prices as Roll·prices}
 use Rattle.machine.specs.State.{roundOf as State·roundOf, letter as State·letter, letterOf as State·letterOf, memberAt as State·memberAt}
 use Rattle.machine.specs.Requirement.{requirement as Requirement·requirement, firstTranche as Requirement·firstTranche, secondTranche as Requirement·secondTranche, contributions as Requirement·contributions, prefunded as Requirement·prefunded, owes as Requirement·owes}
@@ -18,5 +18,5 @@ use Rattle.auction.specs.Computing.{computing as auction·computing}
 use Rattle.waterfall.specs.Computing.{computing as waterfall·computing}
 
 unfoldable pub computing : Unit {0}
-unfolding Wire·bigEndian Wire·number Wire·price Wire·rightLength Wire·callOf Wire·decode Roll·kind Roll·isOpen Roll·openIn Roll·priceOf Roll·heldBy Roll·passedTo Roll·putUp Roll·giveLowest Roll·openUnits Roll·anyOpen Roll·prices State·roundOf State·letter State·letterOf State·memberAt Requirement·requirement Requirement·firstTranche Requirement·secondTranche Requirement·contributions Requirement·prefunded Requirement·owes Move·mayMove Move·turn Move·later Move·better Move·nextFrom Move·moveUnits Move·moveAll Calls·afterPool Calls·afterMember Calls·newRound Calls·afterRound Calls·afterBid Calls·reserve Calls·inAuction Calls·wonIn Calls·wonGiven Calls·bidsAfter Calls·sell Calls·afterClose Calls·wonByMember Calls·shortfall Calls·totalShortfall Calls·allocation Calls·giveShares Calls·alsoAllocated Calls·afterAllocate Calls·afterTear Calls·calls Calls·afterCall Calls·afterPay Calls·afterMove Calls·afterMiss Calls·accepted Refusals·headOk Refusals·poolOk Refusals·memberOk Refusals·bidOk Refusals·paymentOk Refusals·notInCase Refusals·notInSet Refusals·noneOpen Refusals·marked Refusals·notGiven Refusals·someoneOwes Refusals·nonePassed Refusals·tests Refusals·refusal Machine·answered Machine·step Table·letterOfStage Table·letterIn Table·row Table·stageTable Table·wrongReserves Table·wrongLength Table·declined Table·earlyAnswer Result·worstReserve Result·standing Result·rank Result·payments Result·limits Result·sixCharges Result·charge Result·uncoveredRest Result·spent Result·onContribution Result·onPayments Run·fiveCounts Run·holding Run·sumOfPrices Run·resultOf Run·observed Run·runFrom Run·observedFrom Run·run Printed·fieldsIn Printed·sLine Printed·pLine Printed·lLine Printed·mLine Printed·endLines Printed·linesFrom Printed·decimal Printed·numbersText Printed·text Printed·printed lists·computing sets·computing splitting·computing auction·computing waterfall·computing
+unfolding Wire·bigEndian Wire·number Wire·signed Wire·price Wire·rightLength Wire·callOf Wire·decode Roll·kind Roll·isOpen Roll·openIn Roll·priceOf Roll·heldBy Roll·passedTo Roll·putUp Roll·giveLowest Roll·openUnits Roll·anyOpen Roll·prices State·roundOf State·letter State·letterOf State·memberAt Requirement·requirement Requirement·firstTranche Requirement·secondTranche Requirement·contributions Requirement·prefunded Requirement·owes Move·mayMove Move·turn Move·later Move·better Move·nextFrom Move·moveUnits Move·moveAll Calls·afterPool Calls·afterMember Calls·newRound Calls·afterRound Calls·afterBid Calls·reserve Calls·inAuction Calls·wonIn Calls·wonGiven Calls·bidsAfter Calls·sell Calls·afterClose Calls·wonByMember Calls·shortfall Calls·totalShortfall Calls·allocation Calls·giveShares Calls·alsoAllocated Calls·afterAllocate Calls·afterTear Calls·calls Calls·afterCall Calls·afterPay Calls·afterMove Calls·afterMiss Calls·accepted Refusals·headOk Refusals·poolOk Refusals·memberOk Refusals·bidOk Refusals·paymentOk Refusals·notInCase Refusals·notInSet Refusals·noneOpen Refusals·marked Refusals·notGiven Refusals·someoneOwes Refusals·nonePassed Refusals·tests Refusals·refusal Machine·answered Machine·step Table·letterOfStage Table·letterIn Table·row Table·stageTable Table·wrongReserves Table·wrongLength Table·declined Table·earlyAnswer Result·worstReserve Result·standing Result·rank Result·payments Result·limits Result·sixCharges Result·charge Result·uncoveredRest Result·spent Result·onContribution Result·onPayments Run·fiveCounts Run·holding Run·sumOfPrices Run·resultOf Run·observed Run·runFrom Run·observedFrom Run·run Printed·fieldsIn Printed·sLine Printed·pLine Printed·lLine Printed·mLine Printed·endLines Printed·linesFrom Printed·decimal Printed·numbersText Printed·text Printed·printed lists·computing sets·computing splitting·computing auction·computing waterfall·computing
 computing = tt
