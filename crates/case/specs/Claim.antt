@@ -76,26 +76,26 @@ OneOfFive =
 
 -- ---- the calls as methods
 
--- numbers that fit the types of a method: a set of 32 bits, units expected in four pools, at most four reserves
-abbrev pub Fits : Call → Type 0
-Fits (HEAD h) = h .set < 2 ^ 32
-Fits (POOL pool units mark) = Unit {0}
-Fits (MEMBER m contribution expected) = length expected ≡ 4
-Fits (ROUND reserves) = length reserves ≤ 4
-Fits (BID pool m units price) = Unit {0}
-Fits CLOSE = Unit {0}
-Fits (ALLOCATE pool price) = Unit {0}
-Fits (TEAR pool price) = Unit {0}
-Fits CALL = Unit {0}
-Fits (PAY m amount) = Unit {0}
-Fits (MOVE m) = Unit {0}
-Fits (MISS m price) = Unit {0}
-Fits FINISH = Unit {0}
+-- a call as it is read, or as the types of a method give it: a set of 32 bits, units expected in four pools, at most four reserves
+abbrev pub Read : Call → Type 0
+Read (HEAD h) = h .set < 2 ^ 32
+Read (POOL pool units mark) = Unit {0}
+Read (MEMBER m contribution expected) = length expected ≡ 4
+Read (ROUND reserves) = length reserves ≤ 4
+Read (BID pool m units price) = Unit {0}
+Read CLOSE = Unit {0}
+Read (ALLOCATE pool price) = Unit {0}
+Read (TEAR pool price) = Unit {0}
+Read CALL = Unit {0}
+Read (PAY m amount) = Unit {0}
+Read (MOVE m) = Unit {0}
+Read (MISS m price) = Unit {0}
+Read FINISH = Unit {0}
 
 -- a method of a case that a list of calls has led to answers as the machine, and what is then observed of the case is what is observed of the machine
 abbrev pub MethodsAgree : Type 0
 MethodsAgree =
-    (calls : List (List ℕ)) → Each Bytes calls → (c : M.Case) → runFrom none calls ≡ some c → (call : Call) → Fits call
+    (calls : List (List ℕ)) → Each Bytes calls → (c : M.Case) → runFrom none calls ≡ some c → (call : Call) → Read call
     → let o = outcomeOf (ledgerAfter noHeld calls .case) (some call) in
     let a = answered (some c) (some call) in
     seen (o .answer) (record { present = true; case = o .case }) ≡ observed (a .answer) (a .state)
