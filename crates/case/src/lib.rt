@@ -5,7 +5,7 @@ ghost use mathlib.Core.List.{[], _∷_};
 ghost use mathlib.Core.Option.{some};
 ghost use Prim.Native.Nat.{_<_, _^_, min};
 ghost use lib.IntN.{subℕ};
-ghost use lib.ListN.{length, set};
+ghost use lib.ListN.{set};
 ghost use Rattle.machine.specs.Wire.{POOL, MEMBER, BID, CLOSE, ALLOCATE, TEAR, CALL, PAY, MOVE, MISS, FINISH};
 ghost use Rattle.wire.specs.Asked.{asked};
 ghost use Rattle.wire.specs.declared.Call.the-variants.{Round};

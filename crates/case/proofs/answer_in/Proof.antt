@@ -6,20 +6,6 @@ use Rattle.case.proofs.Outcomes.{reserves-answered}
 use borrow.Author.Needs.{needs}
 use Rattle.case.proofs.answer_in.Statement.{statement}
 use Rattle.case.proofs.answer_in.Tie as tie
-use Rattle.case.proofs.answer_in.Reads as reads
-use Rattle.case.proofs.answer_in.Lts as lts
-use Rattle.book.proofs.Book.allocate_answer.Reads as allocate-answer-reads
-use Rattle.book.proofs.Book.bid_answer.Reads as bid-answer-reads
-use Rattle.book.proofs.Book.call_answer.Reads as call-answer-reads
-use Rattle.book.proofs.Book.finish_answer.Reads as finish-answer-reads
-use Rattle.book.proofs.Book.member_answer.Reads as member-answer-reads
-use Rattle.book.proofs.Book.miss_answer.Reads as miss-answer-reads
-use Rattle.book.proofs.Book.move_answer.Reads as move-answer-reads
-use Rattle.book.proofs.Book.pay_answer.Reads as pay-answer-reads
-use Rattle.book.proofs.Book.pool_answer.Reads as pool-answer-reads
-use Rattle.book.proofs.Book.tear_answer.Reads as tear-answer-reads
-use Rattle.book.proofs.close_answer.Reads as close-answer-reads
-use Rattle.case.proofs.reserves_answer.Reads as reserves-answer-reads
 
 enum-told : tie.Need-enum-told
 enum-told c = search needs

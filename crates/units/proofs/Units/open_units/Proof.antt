@@ -5,9 +5,6 @@ use Rattle.units.specs.Shown.{openOf}
 use borrow.Author.Needs.{needs}
 use Rattle.units.proofs.Units.open_units.Statement.{statement}
 use Rattle.units.proofs.Units.open_units.Tie as tie
-use Rattle.units.proofs.Units.open_units.Reads as reads
-use Rattle.units.proofs.Units.open_units.Lts as lts
-use Rattle.lists.proofs.place.Reads as place-reads
 
 returns : tie.Need-returns
 unfolding openOf
