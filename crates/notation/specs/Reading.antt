@@ -1,7 +1,7 @@
 -- A line of text as a call: one call a line, its name and then each number behind its key; '#' begins a comment. Capital and small letters are not told apart.
 -- Money has a point and two digits behind it; units and counts have none. A line is read from the left, byte by byte, and refused at the first place at
 -- which it can't be a call.
-use mathlib.Core.Bool.{Bool, _&&_, _||_, not}
+use mathlib.Core.Bool.{Bool, true, false, _&&_, _||_, not}
 use mathlib.Core.List.{List, [], _∷_}
 use mathlib.Core.Option.{Option, none}
 use Prim.Native.Nat.{ℕ, suc, _+_, _-_, _*_, _%_, _^_, min}
@@ -171,7 +171,7 @@ returned t at = if eqb (t .phase) 8 then t else inWord t 9 at (t .value)
 unfoldable pub behind : Scan → (byte place : ℕ) → Scan
 behind s b at =
     if eqb (s .phase) 7 && eqb b 13 then returned s at
-    else if eqb (s .phase) 9 && not (eqb b 10) then refused s (s .start) 10
+    else if leb 9 (s .phase) && not (eqb b 10) then refused s (s .start) 10
     else s
 
 -- a sign, a digit or a letter
@@ -245,3 +245,8 @@ unfoldable pub askedBy : Read → Option Wire.Call
 askedBy Nothing = none
 askedBy (Called call) = asked call
 askedBy (Refused at reason tag item) = none
+
+unfoldable pub isRefused : Read → Bool
+isRefused Nothing = false
+isRefused (Called call) = false
+isRefused (Refused at reason tag item) = true

@@ -622,7 +622,7 @@ fn on_rest(s: Scan, b: u8, at: usize) -> Scan
     ensures { λ r. ⌜ r ≡ behind s b at ⌝ }
 {
     let first = lists::both(s.phase == 7, b == 13);
-    let other = lists::both(s.phase == 9, b != 10);
+    let other = lists::both(9 <= s.phase, b != 10);
     let no = refuse(s, s.start, 10);
     let yes = return_at(s, at);
     let rest = pick(other, no, s);
