@@ -452,7 +452,7 @@ fn answer_in(case: Case, call: Call) -> u8
 }
 
 // The case that an accepted call hands back: HEAD makes a new one, the others are methods of the one held.
-fn after(case: Case, call: Call) -> Case
+pub fn after(case: Case, call: Call) -> Case
     ensures { λ r. ⌜ ((present : Bool) → answerTo present case (asked call) ≡ 0 → r ≡ afterAsked case (asked call)) ⌝ }
 {
     match call {
@@ -521,7 +521,7 @@ pub fn apply(held: Held, bytes: &[u8]) -> Applied
 // ---- many calls
 
 // Where a string ends: an end below its begin or above the number of bytes is held to them.
-fn cut_at(at: usize, n: usize, end: usize) -> usize
+pub fn cut_at(at: usize, n: usize, end: usize) -> usize
     ensures { λ r. ⌜ r ≡ cutAt at n end ⌝ }
 {
     if end < at {
