@@ -1,9 +1,9 @@
 //! Each call of the largest case (4 pools of 1,000 units, 256 bids, 32 members), timed by itself: in the loop of `case::replay`, which takes it again and again from the
-//! case that the calls before it lead to, and in the model that holds counts, over ledgers that took the same calls.
+//! case that the calls before it lead to, and in the model that holds counts, over ledgers that took the same calls. A word after the program's name picks the calls
+//! that have it in their names.
 use model::write::{self, Head};
 use model::{Counts, Ledger};
 use std::hint::black_box;
-use std::time::Instant;
 
 /// Rounds of the two in turn; the least time counts.
 const ROUNDS: usize = 15;
@@ -13,7 +13,14 @@ const SECONDS: f64 = 0.005;
 /// The model's ledgers in a round.
 const LEDGERS: usize = 32;
 
+/// Of Linux's <time.h>.
+const CLOCK_THREAD_CPUTIME_ID: i32 = 3;
+
 mod c {
+    unsafe extern "C" {
+        pub fn clock_gettime(clock: i32, seconds_and_nanoseconds: *mut i64) -> i32;
+    }
+
     #[link(name = "timing", kind = "static")]
     unsafe extern "C" {
         pub fn ledger_each(
@@ -30,6 +37,13 @@ mod c {
             m: usize,
         );
     }
+}
+
+/// The seconds of processor time that this thread has had: other work on the machine counts less than by the clock.
+fn seconds() -> f64 {
+    let mut time = [0i64; 2];
+    assert_eq!(unsafe { c::clock_gettime(CLOCK_THREAD_CPUTIME_ID, time.as_mut_ptr()) }, 0);
+    time[0] as f64 + time[1] as f64 * 1e-9
 }
 
 /// Byte strings one behind the other, and where each ends.
@@ -63,7 +77,7 @@ impl Strings {
 
 /// `timing::ledger_each`, and the seconds that it takes.
 fn proved(before: &Strings, calls: &Strings, result: bool, numbers: &mut [u64]) -> f64 {
-    let start = Instant::now();
+    let start = seconds();
     unsafe {
         c::ledger_each(
             before.bytes.as_ptr(),
@@ -79,7 +93,7 @@ fn proved(before: &Strings, calls: &Strings, result: bool, numbers: &mut [u64]) 
             numbers.len(),
         )
     }
-    start.elapsed().as_secs_f64()
+    seconds() - start
 }
 
 fn counts(before: &Strings) -> Counts {
@@ -91,11 +105,11 @@ fn counts(before: &Strings) -> Counts {
 /// The seconds that the model takes for the call, once in each of some ledgers.
 fn counted(before: &Strings, call: &[u8]) -> f64 {
     let mut ledgers: Vec<Counts> = (0..LEDGERS).map(|_| counts(before)).collect();
-    let start = Instant::now();
+    let start = seconds();
     for ledger in &mut ledgers {
         black_box(ledger.call(black_box(call)));
     }
-    start.elapsed().as_secs_f64() / LEDGERS as f64
+    (seconds() - start) / LEDGERS as f64
 }
 
 /// What `timing::ledger_each` has to tell of the call: the answer, or else the open units of pool 0 or the smaller charge of member 0.
@@ -103,7 +117,10 @@ fn expected(ledger: &mut Counts, call: &[u8], result: bool) -> (u8, u64) {
     let answer = ledger.call(call);
     let number = match (answer, result) {
         (0, false) => ledger.counts(0)[0],
-        (0, true) => ledger.result().map(|r| r.members[0].contribution_charge.min(r.members[0].payment_charge)).expect("finished"),
+        (0, true) => ledger
+            .result()
+            .map(|r| r.members[0].contribution_charge.min(r.members[0].payment_charge))
+            .expect("finished"),
         _ => u64::from(answer),
     };
     (answer, number)
@@ -111,6 +128,9 @@ fn expected(ledger: &mut Counts, call: &[u8], result: bool) -> (u8, u64) {
 
 /// Times a call; `most` is what it may take, in nanoseconds.
 fn time(name: &str, before: &Strings, call: &[u8], result: bool, most: f64) {
+    if std::env::args().nth(1).is_some_and(|word| !name.contains(&word)) {
+        return;
+    }
     let (answer, number) = expected(&mut counts(before), call, result);
     let alone = (0..ROUNDS).map(|_| proved(before, &Strings::default(), result, &mut [])).fold(f64::MAX, f64::min);
     let mut times = 64;
@@ -127,7 +147,9 @@ fn time(name: &str, before: &Strings, call: &[u8], result: bool, most: f64) {
     }
     assert!(numbers.iter().all(|n| *n == number), "{name}: the model has {number}");
     let mark = if ours <= most { "" } else { "  ABOVE" };
-    println!("{name:<34} answer {answer:>2} {times:>8} times {ours:>10.0} ns {theirs:>8.0} ns   at most {most:>7.0}{mark}");
+    println!(
+        "{name:<34} answer {answer:>2} {times:>8} times {ours:>10.0} ns {theirs:>8.0} ns   at most {most:>7.0}{mark}"
+    );
 }
 
 const DECLINED: f64 = 70.0;
@@ -148,7 +170,16 @@ fn many_bids(pools: u32, prices: u32) -> impl Iterator<Item = Vec<u8>> {
 }
 
 fn main() {
-    let head = Head { pools: 4, least_bid: 1, set: u32::MAX, hedge_loss: 2_000_000_000, other_loss: 0, margin: 0, fund: 0, house: 0 };
+    let head = Head {
+        pools: 4,
+        least_bid: 1,
+        set: u32::MAX,
+        hedge_loss: 2_000_000_000,
+        other_loss: 0,
+        margin: 0,
+        fund: 0,
+        house: 0,
+    };
     let member = |m: u8| write::member(m, 1_000_000, [1000; 4]);
     let one = |call: Vec<u8>| std::iter::once(call);
     println!("{:<57} {:>13} {:>11}", "", "proved", "counts");
@@ -167,7 +198,12 @@ fn main() {
     let round = set_up.with(one(write::round(&[-1000; 4])));
     time("BID, pool not in the case", &round, &write::bid(7, 1, 1, 0), false, DECLINED);
     time("BID", &round, &write::bid(0, 1, 1, -7), false, SMALL);
-    for (name, pools, prices) in [("4 pools, 40 prices", 4, 40), ("1 pool, 40 prices", 1, 40), ("4 pools, 1 price", 4, 1), ("1 pool, 1 price", 1, 1)] {
+    for (name, pools, prices) in [
+        ("4 pools, 40 prices", 4, 40),
+        ("1 pool, 40 prices", 1, 40),
+        ("4 pools, 1 price", 4, 1),
+        ("1 pool, 1 price", 1, 1),
+    ] {
         time(&format!("CLOSE, 256 bids, {name}"), &round.with(many_bids(pools, prices)), &write::close(), false, CLOSE);
     }
     let first = round.with(bids());
@@ -195,6 +231,9 @@ fn main() {
     time("FINISH", &paid, &write::finish(), false, SMALL);
     time("FINISH and its result", &paid, &write::finish(), true, CLOSE);
 
-    let few = round.with((0..4).map(|pool| write::bid(pool, pool, 1000, -1))).with(one(write::close())).with(one(write::call()));
+    let few = round
+        .with((0..4).map(|pool| write::bid(pool, pool, 1000, -1)))
+        .with(one(write::close()))
+        .with(one(write::call()));
     time("MOVE, 4,000 units of 4 groups", &few, &write::move_units(3), false, MOVE);
 }

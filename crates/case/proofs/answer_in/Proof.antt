@@ -124,7 +124,7 @@ returns-6 c = simp (c .before .enum-told2 .given .1, c .close-answer .ensures)
 
 returns-7 : tie.Need-returns-7
 unfolding asked caseAnswerTo caseAnswer
-returns-7 c = simp (c .before .before .call5 .given .1, c .allocate-answer .ensures)
+returns-7 c = simp (c .before .before .before .call5 .given .1, c .allocate-answer .ensures)
 
 returns-8 : tie.Need-returns-8
 unfolding asked caseAnswerTo caseAnswer
