@@ -5,7 +5,7 @@ ghost use mathlib.Core.List.{[], _∷_};
 ghost use mathlib.Core.Option.{some};
 ghost use Prim.Native.Nat.{_<_, _^_, min};
 ghost use lib.IntN.{subℕ};
-ghost use lib.ListN.{length, set};
+ghost use lib.ListN.{set};
 ghost use Rattle.machine.specs.Wire.{POOL, MEMBER, BID, CLOSE, ALLOCATE, TEAR, CALL, PAY, MOVE, MISS, FINISH};
 ghost use Rattle.wire.specs.Asked.{asked};
 ghost use Rattle.wire.specs.declared.Call.the-variants.{Round};
@@ -415,7 +415,7 @@ fn first_answer(call: Call) -> u8
     }
 }
 
-// The answer to a call where a case is held. What ALLOCATE asks is not compiled in place, and its arm alone copies the book for it.
+// The answer to a call where a case is held. The book is read in place: one in a local of its own would be a copy for every call.
 fn answer_in(case: Case, call: Call) -> u8
     ensures { λ r. ⌜ r ≡ caseAnswerTo case (asked call) ⌝ }
 {
@@ -440,10 +440,7 @@ fn answer_in(case: Case, call: Call) -> u8
             price,
         } => case.book.bid_answer(stage, pool, member, units, price),
         Call::Close => book::close_answer(stage),
-        Call::Allocate { pool, price } => {
-            let book = case.book;
-            book.allocate_answer(stage, pool, price)
-        }
+        Call::Allocate { pool, price } => case.book.allocate_answer(stage, pool, price),
         Call::Tear { pool, price } => case.book.tear_answer(stage, pool, price),
         Call::Call => case.book.call_answer(stage),
         Call::Pay { member, amount } => case.book.pay_answer(stage, member, amount),

@@ -6,20 +6,6 @@ use Rattle.case.proofs.Outcomes.{reserves-answered}
 use borrow.Author.Needs.{needs}
 use Rattle.case.proofs.answer_in.Statement.{statement}
 use Rattle.case.proofs.answer_in.Tie as tie
-use Rattle.case.proofs.answer_in.Reads as reads
-use Rattle.case.proofs.answer_in.Lts as lts
-use Rattle.book.proofs.Book.allocate_answer.Reads as allocate-answer-reads
-use Rattle.book.proofs.Book.bid_answer.Reads as bid-answer-reads
-use Rattle.book.proofs.Book.call_answer.Reads as call-answer-reads
-use Rattle.book.proofs.Book.finish_answer.Reads as finish-answer-reads
-use Rattle.book.proofs.Book.member_answer.Reads as member-answer-reads
-use Rattle.book.proofs.Book.miss_answer.Reads as miss-answer-reads
-use Rattle.book.proofs.Book.move_answer.Reads as move-answer-reads
-use Rattle.book.proofs.Book.pay_answer.Reads as pay-answer-reads
-use Rattle.book.proofs.Book.pool_answer.Reads as pool-answer-reads
-use Rattle.book.proofs.Book.tear_answer.Reads as tear-answer-reads
-use Rattle.book.proofs.close_answer.Reads as close-answer-reads
-use Rattle.case.proofs.reserves_answer.Reads as reserves-answer-reads
 
 enum-told : tie.Need-enum-told
 enum-told c = search needs
@@ -124,7 +110,7 @@ returns-6 c = simp (c .before .enum-told2 .given .1, c .close-answer .ensures)
 
 returns-7 : tie.Need-returns-7
 unfolding asked caseAnswerTo caseAnswer
-returns-7 c = simp (c .before .before .before .call5 .given .1, c .allocate-answer .ensures)
+returns-7 c = simp (c .before .before .call5 .given .1, c .allocate-answer .ensures)
 
 returns-8 : tie.Need-returns-8
 unfolding asked caseAnswerTo caseAnswer
