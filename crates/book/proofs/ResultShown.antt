@@ -11,7 +11,7 @@ use Rattle.lists.proofs.Places.{getD-tab}
 use Rattle.sets.specs.Set.{member}
 use Rattle.splitting.specs.Limits.{splitInto, amountLimit, weightLimit}
 use Rattle.waterfall.specs.Seniority.{Standing}
-use Rattle.waterfall.specs.Charging.{charged, uncovered, chargedByRank}
+use Rattle.waterfall.specs.Charging.{charged, uncovered}
 use Rattle.waterfall.specs.Limits.{standingAt, Within, chargesOf}
 use Rattle.waterfall.proofs.Layers.{charge-le}
 use Rattle.waterfall.proofs.Exact.{ranks-exact, charges-exact}
@@ -111,15 +111,18 @@ module _ (stage : Stage) (b : Book) (roll : List Entry) (s : Sound stage b roll)
   contribution-small : (m : ℕ) → contributionOf (viewOf stage b roll) m ≤ weightLimit
   contribution-small m = let o = member-ok (viewOf stage b roll) ok m in omega (arith, o .contribution-most)
 
-  pub on-contribution-shown : (m : ℕ) → member (b .head .set) m ≡ true → getD (resultIn b .contributions) m 0 ≡ onContribution (viewOf stage b roll) m
+  pub on-contributions-shown : resultIn b .contributions ≡ tab 32 (onContribution (viewOf stage b roll))
   unfolding resultIn onContribution
-  on-contribution-shown m on =
+  on-contributions-shown =
       let c = viewOf stage b roll in
-      ap (λ (q : ℕ). getD (chargesOf q (ranksIn b) (b .members .contribution) (b .head .set)) m 0) (charge-shown 3)
-      ∙ ap (λ (xs : List ℕ). getD xs m 0)
-      (charges-exact (charge c 3) (ranksIn b) (b .members .contribution) (b .head .set) (rank c) (contributionOf c)
-      (λ k l e. rank-at k l) (λ k l e. contribution-at k l) (λ k l e. contribution-small k) contributions-charge)
-      ∙ getD-tab 32 (chargedByRank (b .head .set) (rank c) (contributionOf c) (charge c 3)) m 0 (in-set-below c ok (s .set) m on)
+      ap (λ (q : ℕ). chargesOf q (ranksIn b) (b .members .contribution) (b .head .set)) (charge-shown 3)
+      ∙ charges-exact (charge c 3) (ranksIn b) (b .members .contribution) (b .head .set) (rank c) (contributionOf c)
+      (λ k l e. rank-at k l) (λ k l e. contribution-at k l) (λ k l e. contribution-small k) contributions-charge
+
+  pub on-contribution-shown : (m : ℕ) → member (b .head .set) m ≡ true → getD (resultIn b .contributions) m 0 ≡ onContribution (viewOf stage b roll) m
+  on-contribution-shown m on =
+      ap (λ (xs : List ℕ). getD xs m 0) on-contributions-shown
+      ∙ getD-tab 32 (onContribution (viewOf stage b roll)) m 0 (in-set-below (viewOf stage b roll) ok (s .set) m on)
 
   paid-light : (k : ℕ) → getD (b .members .paid) k 0 ≤ weightLimit
   paid-light =

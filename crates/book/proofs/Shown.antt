@@ -1,15 +1,15 @@
 -- What is read of a book is what the machine reads of the case that the stage, the book and the roll show. Assumes nothing.
 use mathlib.Core.Path.{_≡_, refl, sym, ap, _∙_}
-use mathlib.Core.Bool.{Bool, true, false, not}
+use mathlib.Core.Bool.{Bool, false, not}
 use mathlib.Core.Logic.{⊎-elim}
-use mathlib.Core.List.{List, map}
+use mathlib.Core.List.{List}
 use Prim.Native.Nat.{ℕ, zero, suc, _+_, _*_, _≤_, _<_}
 use native.Mathlib.Omega.{arith}
 use lib.Dec.{ltb, eqb}
 use lib.IntN.{subℕ}
 use lib.ListN.{length, getD}
 use borrow.Author.Tests.{lt-ltb, le-ltb, ne-eqb}
-use Rattle.lists.specs.Lists.{sum, sumTo, count}
+use Rattle.lists.specs.Lists.{sum, count}
 use Rattle.lists.proofs.Bools.{and-false, lt-or-le}
 use Rattle.lists.proofs.Each.{Each, each-more}
 use Rattle.lists.proofs.Sums.{sumTo-ext}

@@ -1,20 +1,19 @@
 -- BID and CLOSE, accepted: the program's case shows the machine's. Assumes nothing.
-use mathlib.Core.Path.{_≡_, refl, sym, ap, subst, _∙_}
+use mathlib.Core.Path.{_≡_, refl, sym, ap, _∙_}
 use mathlib.Core.Bool.{true, _&&_}
-use mathlib.Core.List.{List, [], _∷_}
+use mathlib.Core.List.{List}
 use mathlib.Core.Option.{some}
-use Prim.Native.Nat.{ℕ, _≤_, _<_}
+use Prim.Native.Nat.{ℕ, _<_}
 use native.Mathlib.Omega.{arith}
 use lib.Dec.{leb}
 use lib.ListN.{length, getD}
 use borrow.Author.Tests.{leb-true, leb-false, not-false}
 use Rattle.lists.specs.Lists.{between}
 use Rattle.lists.proofs.Bools.{and-left, and-right}
-use Rattle.lists.proofs.Passed.{Passed}
+use Rattle.lists.specs.Tests.{Passed}
 use Rattle.auction.specs.Price.{priceOk, priceLimit}
-use Rattle.auction.specs.Limits.{unitLimit}
 use Rattle.machine.specs.Wire as Wire
-use Rattle.machine.specs.Roll.{Entry, Bid, noBid, openUnits}
+use Rattle.machine.specs.Roll.{Entry, Bid, noBid}
 use Rattle.machine.specs.State as M
 use Rattle.machine.specs.State.{letterOf}
 use Rattle.machine.specs.Calls.{reserve, bidsAfter, afterBid, afterClose, accepted}
@@ -22,19 +21,16 @@ use Rattle.machine.specs.Refusals.{tests, bidOk}
 use Rattle.machine.proofs.Invariant.{CaseOk}
 use Rattle.machine.proofs.Bounds.{won-le-units, pool-ok, reserve-ok}
 use Rattle.machine.proofs.Stages.{letter-is, bidding-stage}
-use Rattle.units.specs.declared.Units.{Units}
-use Rattle.units.specs.Steps.{sellUnits}
 use Rattle.units.proofs.Kept.{Lent}
-use Rattle.units.proofs.Right.{Right, bid-right, close-right}
+use Rattle.units.proofs.Right.{bid-right, close-right}
 use Rattle.accounts.specs.declared.bids.Bids.{Bids}
-use Rattle.accounts.specs.Bids.{putBid, withWins, wonTable, viewBids}
+use Rattle.accounts.specs.Bids.{withWins, wonTable, viewBids}
 use Rattle.accounts.specs.Rounds.{reserveOf}
 use Rattle.accounts.proofs.ViewMembers.{win-long}
 use Rattle.accounts.proofs.ViewRounds as Y
 use Rattle.accounts.proofs.ViewBids as Z
 use Rattle.accounts.proofs.Tables.{won-table-put, won-table-long}
 use Rattle.accounts.proofs.Taking.{Closing, view-closed}
-use Rattle.book.specs.declared.Stage.the-variants.{After}
 use Rattle.book.specs.Stages.{roundOf}
 use Rattle.book.specs.Books.{openIn, bidBook, bidsClosed, closeBook}
 use Rattle.book.proofs.Sound.{Sound}

@@ -1,26 +1,25 @@
 -- CALL, PAY, MOVE, MISS and FINISH, accepted: the program's case shows the machine's. Assumes nothing.
-use mathlib.Core.Path.{_≡_, refl, sym, ap, _∙_}
+use mathlib.Core.Path.{refl, ap, _∙_}
 use mathlib.Core.List.{List}
 use mathlib.Core.Option.{some}
-use Prim.Native.Nat.{ℕ, _+_, _-_, _≤_, _<_}
+use Prim.Native.Nat.{ℕ, _+_, _-_, _≤_}
 use native.Mathlib.Omega.{arith}
-use lib.ListN.{length, getD}
+use lib.ListN.{getD}
 use borrow.Author.Tests.{ltb-false, not-false}
 use Rattle.lists.specs.Lists.{mapFrom}
 use Rattle.lists.specs.Adding.{most32}
 use Rattle.lists.proofs.Bools.{either}
-use Rattle.lists.proofs.Passed.{Passed}
+use Rattle.lists.specs.Tests.{Passed}
 use Rattle.machine.specs.Wire as Wire
 use Rattle.machine.specs.Roll.{Entry}
 use Rattle.machine.specs.State as M
 use Rattle.machine.specs.Requirement.{owes}
-use Rattle.machine.specs.Calls.{calls, afterCall, afterPay, afterMove, afterMiss, accepted}
+use Rattle.machine.specs.Calls.{afterCall, afterPay, afterMove, afterMiss, accepted}
 use Rattle.machine.specs.Refusals.{tests, notInSet}
 use Rattle.machine.proofs.Invariant.{CaseOk}
 use Rattle.machine.proofs.Bounds.{in-set-below, member-ok}
 use Rattle.units.proofs.Right.{call-right, pay-right, move-right, miss-right, finish-right}
-use Rattle.accounts.specs.Members.{withMove, viewMembers}
-use Rattle.accounts.specs.Bids.{viewBids}
+use Rattle.accounts.specs.Members.{viewMembers}
 use Rattle.accounts.proofs.ViewMembers as X
 use Rattle.book.specs.Books.{callsIn, callBook, payBook, moveBook, missBook}
 use Rattle.book.proofs.Sound.{Sound}

@@ -1,17 +1,16 @@
 -- The fields at an input's front: one after the other, some and then the rest, and where they end. Assumes nothing.
 use mathlib.Core.Path.{_≡_, refl, sym, ap, ap₂, _∙_}
-use mathlib.Core.Bool.{Bool, true, false, _&&_, false≢true}
+use mathlib.Core.Bool.{Bool, true, false, false≢true}
 use mathlib.Core.Logic.{_⊎_, ⊎-elim}
 use mathlib.Core.List.{List, [], _∷_, _++_, append-assoc, append-nil}
-use Prim.Native.Nat.{ℕ, zero, suc, _+_, _-_, _*_, _≤_, _<_, min}
+use Prim.Native.Nat.{ℕ, zero, suc, _+_, _-_, _≤_, _<_, min}
 use native.Mathlib.Nat.{zero-add}
 use native.Mathlib.Omega.{arith}
 use lib.Dec.{leb, eqb}
 use lib.ListN.{length, getD, set, take, drop, length-set, length-take, length-drop, length-append}
-use lib.Seq.{take-length, take-all, drop-length, drop-drop, drop-cons}
-use borrow.Author.Tests.{le-leb, lt-leb, leb-true, leb-false, eqb-true, eqb-false, ne-eqb, eq-eqb}
-use Rattle.lists.specs.Lists.{if_then_else_}
-use Rattle.lists.proofs.Bools.{cases, either, and-left, and-right, and-both, and-false, lt-or-le}
+use lib.Seq.{take-all, drop-drop}
+use borrow.Author.Tests.{leb-true, leb-false, eqb-true, eqb-false, ne-eqb, eq-eqb}
+use Rattle.lists.proofs.Bools.{cases, either, and-right, and-both, lt-or-le}
 use Rattle.machine.specs.Printed.{fieldsIn}
 use Rattle.case.specs.declared.Held.{Held}
 use Rattle.case.specs.Strings.{cutAt, stringsFrom, stringsIn, inFront, endsFrom, bytesOf}

@@ -39,13 +39,13 @@ module _ (c : Case) (roll : List R.Entry) (sound : Sound (c .stage) (c .book) ro
 
   -- ---- the counts
 
-  pub counts-at : (pool : ℕ) → pool < c .book .pools .given → countsIn c pool ≡ fiveCounts roll pool
+  pub counts-at : (pool : ℕ) → pool < 4 → countsIn c pool ≡ fiveCounts roll pool
   unfolding countsIn
-  counts-at pool l = counts-read (view c roll) ok (sound .set) units (sound .units) _ _ _ lent pool (omega (arith, sound .pools .few))
+  counts-at pool l = counts-read (view c roll) ok (sound .set) units (sound .units) _ _ _ lent pool l
 
   pub counts-shown : tab (c .book .pools .given) (countsIn c) ≡ tab (length (view c roll .pools)) (fiveCounts roll)
   counts-shown =
-      tab-ext (c .book .pools .given) (countsIn c) (fiveCounts roll) counts-at
+      tab-ext (c .book .pools .given) (countsIn c) (fiveCounts roll) (λ pool l. counts-at pool (omega (arith, sound .pools .few)))
       ∙ ap (λ (n : ℕ). tab n (fiveCounts roll)) (sym (P.length-view (c .book .pools)))
 
   -- ---- the holdings

@@ -1,5 +1,5 @@
 -- ALLOCATE and TEAR, accepted: the program's case shows the machine's. Assumes nothing.
-use mathlib.Core.Path.{_≡_, refl, sym, ap, _∙_}
+use mathlib.Core.Path.{_≡_, refl, ap, _∙_}
 use mathlib.Core.List.{List}
 use mathlib.Core.Option.{some}
 use Prim.Native.Nat.{ℕ, _<_}
@@ -7,14 +7,13 @@ use native.Mathlib.Omega.{arith}
 use lib.ListN.{getD}
 use borrow.Author.Tests.{leb-false}
 use Rattle.lists.specs.Lists.{mapFrom}
-use Rattle.lists.proofs.Passed.{Passed}
+use Rattle.lists.specs.Tests.{Passed}
 use Rattle.machine.specs.Wire as Wire
 use Rattle.machine.specs.Roll.{Entry}
 use Rattle.machine.specs.Calls.{allocation, alsoAllocated, afterAllocate, afterTear, accepted}
 use Rattle.machine.specs.Refusals.{tests, notInCase}
 use Rattle.machine.proofs.Invariant.{CaseOk}
-use Rattle.units.proofs.Right.{Right, allocate-right, tear-right}
-use Rattle.units.specs.Steps.{allocateUnits}
+use Rattle.units.proofs.Right.{allocate-right, tear-right}
 use Rattle.accounts.specs.Members.{withShares, viewMembers}
 use Rattle.accounts.proofs.ViewMembers as X
 use Rattle.book.specs.Books.{allocationIn, allocateBook, tearBook}

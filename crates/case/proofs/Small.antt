@@ -7,7 +7,6 @@ use Prim.Native.Nat.{ℕ, _≤_}
 use native.Mathlib.Omega.{arith}
 use lib.Dec.{leb}
 use borrow.Author.Tests.{leb-true}
-use Rattle.lists.specs.Lists.{if_then_else_}
 use Rattle.lists.specs.Tests.{Test, firstOf}
 use Rattle.lists.proofs.Bools.{either, and-left, and-right}
 use Rattle.lists.proofs.Each.{Each}

@@ -3,7 +3,8 @@ use crate::figures::member_list;
 use crate::figures::with_money;
 use crate::figures::with_number;
 use book::Book;
-use book::Phase;
+use book::Stage;
+use case::Case;
 use wire::Call;
 
 // ---- the sentence of each number
@@ -46,9 +47,9 @@ fn write_sentence(answer: u8, out: &mut [u8], at: usize) -> usize {
 // ---- the stage
 
 // The letter of a stage and its round.
-fn write_stage(phase: Phase, out: &mut [u8], at: usize) -> usize {
-    let round = book::round_of(phase) as u64;
-    match book::letter(phase) {
+fn write_stage(stage: Stage, out: &mut [u8], at: usize) -> usize {
+    let round = book::round_of(stage) as u64;
+    match book::letter(stage) {
         1 => words::put(out, at, b"stage S"),
         2 => with_number(out, at, b"stage B, round ", round),
         3 => with_number(out, at, b"stage A, round ", round),
@@ -58,9 +59,9 @@ fn write_stage(phase: Phase, out: &mut [u8], at: usize) -> usize {
 }
 
 // A pool's open units behind a plus sign, where the pool is given.
-fn write_open(given: bool, units: u64, out: &mut [u8], at: usize) -> usize {
+fn write_open(given: bool, units: u16, out: &mut [u8], at: usize) -> usize {
     if given {
-        with_number(out, at, b" + ", units)
+        with_number(out, at, b" + ", units as u64)
     } else {
         at
     }
@@ -68,33 +69,34 @@ fn write_open(given: bool, units: u64, out: &mut [u8], at: usize) -> usize {
 
 // All open units.
 pub fn all_open(book: Book) -> u64 {
-    let first = crate::tables::plus(book.open_units(0), book.open_units(1));
-    let last = crate::tables::plus(book.open_units(2), book.open_units(3));
-    crate::tables::plus(first, last)
+    let first = book.open_units(0) as u64 + book.open_units(1) as u64;
+    let last = book.open_units(2) as u64 + book.open_units(3) as u64;
+    first + last
 }
 
 // The open units of the pools given, and their sum where there are several.
 fn write_units(book: Book, out: &mut [u8], at: usize) -> usize {
     let pools = book.pools;
     let given = pools.given;
-    let first = with_number(out, at, b"; open units ", book.open_units(0));
+    let first = with_number(out, at, b"; open units ", book.open_units(0) as u64);
     if given < 2 {
         return first;
     }
-    let second = with_number(out, first, b" + ", book.open_units(1));
+    let second = with_number(out, first, b" + ", book.open_units(1) as u64);
     let third = write_open(2 < given, book.open_units(2), out, second);
     let fourth = write_open(3 < given, book.open_units(3), out, third);
     with_number(out, fourth, b" = ", all_open(book))
 }
 
 // The stage and the open units.
-pub fn write_state(present: bool, book: Book, out: &mut [u8], at: usize) -> usize {
+pub fn write_state(present: bool, case: Case, out: &mut [u8], at: usize) -> usize {
     if !present {
         return words::put(out, at, b"; no case");
     }
+    let stage = case.stage;
     let named = words::put(out, at, b"; ");
-    let stage = write_stage(book.phase, out, named);
-    write_units(book, out, stage)
+    let said = write_stage(stage, out, named);
+    write_units(case.book, out, said)
 }
 
 // ---- the value at fault
@@ -110,12 +112,12 @@ fn fault_length(present: bool, book: Book, out: &mut [u8], at: usize) -> usize {
 }
 
 // 2: the stage.
-fn fault_stage(present: bool, phase: Phase, out: &mut [u8], at: usize) -> usize {
+fn fault_stage(present: bool, stage: Stage, out: &mut [u8], at: usize) -> usize {
     if !present {
         return words::put(out, at, b" before HEAD");
     }
     let said = words::put(out, at, b" in ");
-    write_stage(phase, out, said)
+    write_stage(stage, out, said)
 }
 
 // 3: the pools of the case, and the next in turn.
@@ -181,15 +183,17 @@ fn fault_owing(book: Book, out: &mut [u8], at: usize) -> usize {
     words::put(out, owes, b")")
 }
 
-// The first member who owes, and 32 where nobody does.
+// The first member of the case who owes, and 32 where nobody does.
 fn first_owing(book: Book) -> u8 {
     let members = book.members;
-    let mut m: u8 = 0;
-    while m < 32 {
-        if 0 < members.owes(m) {
-            return m;
+    let head = book.head;
+    let mut left = head.set;
+    while left != 0 {
+        let m = sets::next(left);
+        left = sets::without_least(left);
+        if 0 < members.owes(m as u8) {
+            return m as u8;
         }
-        m += 1;
     }
     32
 }
@@ -299,17 +303,19 @@ fn write_call_fault(
 // A refusal: its number, its sentence and the value at fault.
 fn write_refusal(
     present: bool,
-    book: Book,
+    case: Case,
     call: Call,
     answer: u8,
     out: &mut [u8],
     at: usize,
 ) -> usize {
+    let stage = case.stage;
+    let book = case.book;
     let number = with_number(out, at, b"    refused ", answer as u64);
     let said = words::put(out, number, b": ");
     let sentence = write_sentence(answer, out, said);
     if answer == 2 {
-        return fault_stage(present, book.phase, out, sentence);
+        return fault_stage(present, stage, out, sentence);
     }
     if answer == 5 {
         let head = book.head;
@@ -318,10 +324,10 @@ fn write_refusal(
     write_call_fault(present, book, call, answer, out, sentence)
 }
 
-// The answer to a call in words; the book is that before the call.
+// The answer to a call in words; the case is that before the call.
 pub fn write_answer(
     present: bool,
-    book: Book,
+    case: Case,
     call: Call,
     answer: u8,
     out: &mut [u8],
@@ -330,5 +336,5 @@ pub fn write_answer(
     if answer == 0 {
         return words::put(out, at, b"    accepted");
     }
-    write_refusal(present, book, call, answer, out, at)
+    write_refusal(present, case, call, answer, out, at)
 }

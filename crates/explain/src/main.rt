@@ -82,14 +82,10 @@ fn take_field(held: Held, bytes: &[u8], out: &mut [u8], at: usize) -> Step
 {
     let call = wire::read_call(bytes);
     let applied = case::take(held, call);
-    let case = held.case;
-    let book = case.book;
     let named = calls::write_call(call, bytes, out, at);
-    let said = answers::write_answer(held.present, book, call, applied.answer, out, named);
+    let said = answers::write_answer(held.present, held.case, call, applied.answer, out, named);
     let next = applied.held;
-    let after = next.case;
-    let now = after.book;
-    let shown = answers::write_state(next.present, now, out, said);
+    let shown = answers::write_state(next.present, next.case, out, said);
     Step {
         held: next,
         at: paper::end_line(out, shown),

@@ -13,7 +13,7 @@ fn count_fault(name: &[u8], n: u64, low: u64, high: u64, out: &mut [u8], at: usi
     words::put(out, to, b")")
 }
 
-// An amount at fault and the most that it may be.
+// An amount at fault and its range.
 fn money_fault(name: &[u8], cents: u64, low: u64, high: u64, out: &mut [u8], at: usize) -> usize {
     let said = with_money(out, at, name, cents);
     let from = with_money(out, said, b"; from ", low);
@@ -23,11 +23,13 @@ fn money_fault(name: &[u8], cents: u64, low: u64, high: u64, out: &mut [u8], at:
 
 // A price, and its range where it is out of it.
 fn price_fault(name: &[u8], price: u32, out: &mut [u8], at: usize) -> usize {
-    if price <= 2_000_000 {
+    if price <= Call::MAX_PRICE {
         return at;
     }
     let said = with_price(out, at, name, price);
-    words::put(out, said, b"; from -10000.00 to 10000.00)")
+    let from = with_price(out, said, b"; from ", 0);
+    let to = with_price(out, from, b" to ", Call::MAX_PRICE);
+    words::put(out, to, b")")
 }
 
 // Whether a number lies outside its range.
@@ -37,51 +39,80 @@ fn outside(n: u64, low: u64, high: u64) -> bool {
 
 // The first count of HEAD that is at fault.
 fn head_counts(h: Head, out: &mut [u8], at: usize) -> usize {
-    if outside(h.pools as u64, 1, 4) {
-        return count_fault(b" (pools ", h.pools as u64, 1, 4, out, at);
+    let pools = h.pools as u64;
+    if outside(pools, Head::MIN_POOLS as u64, Head::MAX_POOLS as u64) {
+        return count_fault(
+            b" (pools ",
+            pools,
+            Head::MIN_POOLS as u64,
+            Head::MAX_POOLS as u64,
+            out,
+            at,
+        );
     }
-    if outside(h.least as u64, 1, 1_000) {
-        return count_fault(b" (least bid ", h.least as u64, 1, 1_000, out, at);
+    let least = h.least as u64;
+    if outside(
+        least,
+        Head::MIN_LEAST_BID as u64,
+        Head::MAX_LEAST_BID as u64,
+    ) {
+        return count_fault(
+            b" (least bid ",
+            least,
+            Head::MIN_LEAST_BID as u64,
+            Head::MAX_LEAST_BID as u64,
+            out,
+            at,
+        );
     }
-    if h.set == 0 {
+    if h.set == Head::NO_MEMBER {
         return words::put(out, at, b" (no member)");
     }
     at
 }
 
-// The first amount of HEAD that is at fault.
+// An amount of HEAD, where it is above its limit.
+fn amount_fault(name: &[u8], cents: u32, most: u32, out: &mut [u8], at: usize) -> usize {
+    if cents <= most {
+        return at;
+    }
+    money_fault(name, cents as u64, 0, most as u64, out, at)
+}
+
+// The amounts of HEAD that are at fault.
 fn head_amounts(h: Head, out: &mut [u8], at: usize) -> usize {
-    if 2_000_000_000 < h.hedge {
-        return money_fault(b" (hedge loss ", h.hedge as u64, 0, 2_000_000_000, out, at);
-    }
-    if 2_000_000_000 < h.other {
-        return money_fault(b" (other loss ", h.other as u64, 0, 2_000_000_000, out, at);
-    }
-    if 4_000_000_000 < h.margin {
-        return money_fault(b" (margin ", h.margin as u64, 0, 4_000_000_000, out, at);
-    }
-    if 500_000_000 < h.fund {
-        return money_fault(b" (fund ", h.fund as u64, 0, 500_000_000, out, at);
-    }
-    if 4_000_000_000 < h.house {
-        return money_fault(b" (house money ", h.house as u64, 0, 4_000_000_000, out, at);
+    let hedge = amount_fault(b" (hedge loss ", h.hedge, Head::MAX_HEDGE_LOSS, out, at);
+    let other = amount_fault(b" (other loss ", h.other, Head::MAX_OTHER_LOSS, out, hedge);
+    let margin = amount_fault(b" (margin ", h.margin, Head::MAX_MARGIN, out, other);
+    let fund = amount_fault(b" (fund ", h.fund, Head::MAX_FUND, out, margin);
+    amount_fault(b" (house money ", h.house, Head::MAX_HOUSE_MONEY, out, fund)
+}
+
+// Units put up or bid for, where they are at fault.
+fn units_fault(units: u16, out: &mut [u8], at: usize) -> usize {
+    let low = Call::MIN_UNITS as u64;
+    let high = Call::MAX_UNITS as u64;
+    if outside(units as u64, low, high) {
+        return count_fault(b" (units ", units as u64, low, high, out, at);
     }
     at
 }
 
 // The numbers of POOL.
 fn pool_range(units: u16, mark: u8, out: &mut [u8], at: usize) -> usize {
-    if outside(units as u64, 1, 1_000) {
-        return count_fault(b" (units ", units as u64, 1, 1_000, out, at);
+    let to = units_fault(units, out, at);
+    if mark <= Call::MAX_MARK {
+        return to;
     }
-    count_fault(b" (mark ", mark as u64, 0, 1, out, at)
+    count_fault(b" (mark ", mark as u64, 0, Call::MAX_MARK as u64, out, to)
 }
 
 // The units that a member expects in a pool, where they are at fault.
 fn expected_range(lies: bool, n: u16, out: &mut [u8], at: usize) -> usize {
     if lies {
-        if 1_000 < n {
-            return count_fault(b" (expected units ", n as u64, 0, 1_000, out, at);
+        if Call::MAX_EXPECTED < n {
+            let most = Call::MAX_EXPECTED as u64;
+            return count_fault(b" (expected units ", n as u64, 0, most, out, at);
         }
         return at;
     }
@@ -102,17 +133,9 @@ fn member_range(
     out: &mut [u8],
     at: usize,
 ) -> usize {
-    if 500_000_000 < contribution {
-        return money_fault(
-            b" (contribution ",
-            contribution as u64,
-            0,
-            500_000_000,
-            out,
-            at,
-        );
-    }
-    let first = expected_range(0 < pools, a, out, at);
+    let most = Call::MAX_CONTRIBUTION;
+    let to = amount_fault(b" (contribution ", contribution, most, out, at);
+    let first = expected_range(0 < pools, a, out, to);
     let second = expected_range(1 < pools, b, out, first);
     let third = expected_range(2 < pools, c, out, second);
     expected_range(3 < pools, d, out, third)
@@ -137,10 +160,15 @@ fn round_range(count: u8, a: u32, b: u32, c: u32, d: u32, out: &mut [u8], at: us
 
 // The numbers of BID.
 fn bid_range(units: u16, price: u32, out: &mut [u8], at: usize) -> usize {
-    if outside(units as u64, 1, 1_000) {
-        return count_fault(b" (units ", units as u64, 1, 1_000, out, at);
-    }
-    price_fault(b" (price ", price, out, at)
+    let to = units_fault(units, out, at);
+    price_fault(b" (price ", price, out, to)
+}
+
+// The number of PAY.
+fn pay_range(amount: u32, out: &mut [u8], at: usize) -> usize {
+    let low = Call::MIN_PAYMENT as u64;
+    let high = Call::MAX_PAYMENT as u64;
+    money_fault(b" (amount ", amount as u64, low, high, out, at)
 }
 
 // The numbers of HEAD.
@@ -177,9 +205,7 @@ pub fn write_range(pools: u8, call: Call, out: &mut [u8], at: usize) -> usize {
         Call::Allocate { pool: _, price } => price_fault(b" (price ", price, out, at),
         Call::Tear { pool: _, price } => price_fault(b" (price ", price, out, at),
         Call::Call => at,
-        Call::Pay { member: _, amount } => {
-            money_fault(b" (amount ", amount as u64, 1, 1_000_000_000, out, at)
-        }
+        Call::Pay { member: _, amount } => pay_range(amount, out, at),
         Call::Move { member: _ } => at,
         Call::Miss { member: _, price } => price_fault(b" (price ", price, out, at),
         Call::Finish => at,

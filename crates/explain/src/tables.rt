@@ -1,19 +1,19 @@
 // The tables at the end: pools, the loss and its six layers, members, and the units held by member, pool and price. Each has a row of totals.
-ghost use mathlib.Core.Path.{_≡_};
 ghost use Prim.Native.Nat.{_≤_, _<_};
-ghost use Rattle.book.specs.Results.{limitsIn};
 use crate::figures::difference_right;
 use crate::figures::money_right;
+use crate::figures::with_number;
 use crate::paper::end_line;
 use crate::paper::line;
 use accounts::members::Members;
 use accounts::members::over_pools;
+use accounts::members::widened;
 use book::Book;
 use book::Result;
 use case::Case;
 use case::Held;
-use roll::Entry;
-use roll::EntryState;
+use units::Units;
+use wire::Call;
 use words::difference;
 use words::number_right;
 
@@ -163,8 +163,12 @@ fn named_amount(name: &[u8], cents: u64, out: &mut [u8], at: usize) -> usize {
 // The prices of the units not open, together.
 fn write_prices(book: Book, out: &mut [u8], at: usize) -> usize {
     let named = words::left(out, at, 34, b"  less prices of units not open");
-    let units = lists::smaller(book.priced(), 16_000);
-    let to = money_right(out, named, 15, difference(book.prices(), 1_000_000 * units));
+    let to = money_right(
+        out,
+        named,
+        15,
+        difference(book.prices(), Units::ZERO_PRICES),
+    );
     end_line(out, to)
 }
 
@@ -176,27 +180,6 @@ fn write_requirement(book: Book, out: &mut [u8], at: usize) -> usize {
     let other = named_amount(b"  other loss", head.other as u64, out, hedge);
     let less = write_prices(book, out, other);
     named_amount(b"  requirement, at least 0", book.requirement(), out, less)
-}
-
-// The limits of the six layers.
-fn limits(book: Book) -> [u64; 6]
-    ensures { λ r. ⌜ r ≡ limitsIn book ⌝ }
-{
-    let head = book.head;
-    let members = book.members;
-    let house = head.house as u64;
-    let first = 3 * house / 5;
-    let funds = book.contributions();
-    let xs = members.paid;
-    let paid = accounts::members::amounts(xs);
-    [
-        head.margin as u64,
-        head.fund as u64,
-        first,
-        funds,
-        house - first,
-        paid,
-    ]
 }
 
 // A layer: its limit, what it is charged and what is left.
@@ -250,7 +233,7 @@ fn charge_row(name: &[u8], cents: u64, out: &mut [u8], at: usize) -> usize {
 
 // The six layers, their totals, the uncovered rest and the loss.
 fn write_layers(book: Book, result: Result, out: &mut [u8], at: usize) -> usize {
-    let most = limits(book);
+    let most = book.limits();
     let charges = result.charges;
     let all = sum_of_six(charges);
     let first = first_layers(most, charges, out, at);
@@ -261,9 +244,11 @@ fn write_layers(book: Book, result: Result, out: &mut [u8], at: usize) -> usize 
 }
 
 // The table of the loss; the layers stand in it after FINISH.
-fn write_loss(book: Book, out: &mut [u8], at: usize) -> usize {
+fn write_loss(case: Case, out: &mut [u8], at: usize) -> usize {
+    let stage = case.stage;
+    let book = case.book;
     let required = write_requirement(book, out, at);
-    if book::letter(book.phase) != 5 {
+    if book::letter(stage) != 5 {
         return line(out, required, b"  nothing is charged before FINISH");
     }
     let heads = line(
@@ -292,6 +277,24 @@ fn money_row(a: u64, b: u64, c: u64, d: u64, out: &mut [u8], at: usize) -> usize
     end_line(out, fourth)
 }
 
+// The members' contributions.
+fn contributions(members: Members) -> [u64; 32] {
+    let xs = members.contribution;
+    widened(xs)
+}
+
+// What is called from the members.
+fn called_amounts(members: Members) -> [u64; 32] {
+    let xs = members.called;
+    widened(xs)
+}
+
+// What the members have paid.
+fn paid_amounts(members: Members) -> [u64; 32] {
+    let xs = members.paid;
+    widened(xs)
+}
+
 // The units won and expected, and the excess, of a member.
 fn member_units(members: Members, m: u8, out: &mut [u8], at: usize) -> usize {
     let table = members.won;
@@ -303,8 +306,8 @@ fn member_units(members: Members, m: u8, out: &mut [u8], at: usize) -> usize {
 
 // The money of a member, and what is charged of it.
 fn member_money(members: Members, result: Result, m: u8, out: &mut [u8], at: usize) -> usize {
-    let contribution = members.contribution;
-    let paid = members.paid;
+    let contribution = contributions(members);
+    let paid = paid_amounts(members);
     let charged = result.contributions;
     let taken = result.payments;
     money_row(
@@ -317,18 +320,8 @@ fn member_money(members: Members, result: Result, m: u8, out: &mut [u8], at: usi
     )
 }
 
-// The row of a member, where it is in the set.
-fn member_row(
-    members: Members,
-    result: Result,
-    m: u8,
-    given: bool,
-    out: &mut [u8],
-    at: usize,
-) -> usize {
-    if !given {
-        return at;
-    }
+// The row of a member.
+fn member_row(members: Members, result: Result, m: u8, out: &mut [u8], at: usize) -> usize {
     let ranks = result.ranks;
     let named = number_right(out, at, 8, m as u64);
     let units = member_units(members, m, out, named);
@@ -347,8 +340,8 @@ fn units_total(members: Members, out: &mut [u8], at: usize) -> usize {
 
 // The money of all members, and what is charged of it.
 fn money_total(members: Members, result: Result, out: &mut [u8], at: usize) -> usize {
-    let contribution = members.contribution;
-    let paid = members.paid;
+    let contribution = contributions(members);
+    let paid = paid_amounts(members);
     let charged = result.contributions;
     let taken = result.payments;
     money_row(
@@ -372,22 +365,20 @@ fn members_total(members: Members, result: Result, out: &mut [u8], at: usize) ->
 // The rows of a set's members.
 fn member_rows(members: Members, result: Result, set: u32, out: &mut [u8], at: usize) -> usize {
     let mut to = at;
-    let mut m: u8 = 0;
-    while m < 32 {
-        to = member_row(members, result, m, sets::has(set, m), out, to);
-        m += 1;
+    let mut left = set;
+    while left != 0 {
+        let m = sets::next(left);
+        left = sets::without_least(left);
+        to = member_row(members, result, m as u8, out, to);
     }
     to
 }
 
 // The row of a member before FINISH, when nothing is charged and nobody is ranked.
-fn early_row(members: Members, m: u8, given: bool, out: &mut [u8], at: usize) -> usize {
-    if !given {
-        return at;
-    }
-    let contribution = members.contribution;
-    let called = members.called;
-    let paid = members.paid;
+fn early_row(members: Members, m: u8, out: &mut [u8], at: usize) -> usize {
+    let contribution = contributions(members);
+    let called = called_amounts(members);
+    let paid = paid_amounts(members);
     let named = number_right(out, at, 8, m as u64);
     let units = member_units(members, m, out, named);
     money_row(
@@ -403,20 +394,25 @@ fn early_row(members: Members, m: u8, given: bool, out: &mut [u8], at: usize) ->
 // The rows of a set's members before FINISH.
 fn early_rows(members: Members, set: u32, out: &mut [u8], at: usize) -> usize {
     let mut to = at;
-    let mut m: u8 = 0;
-    while m < 32 {
-        to = early_row(members, m, sets::has(set, m), out, to);
-        m += 1;
+    let mut left = set;
+    while left != 0 {
+        let m = sets::next(left);
+        left = sets::without_least(left);
+        to = early_row(members, m as u8, out, to);
     }
     to
 }
 
 // The table of the members.
-fn write_members(book: Book, out: &mut [u8], at: usize) -> usize {
+fn write_members(case: Case, out: &mut [u8], at: usize) -> usize {
+    let stage = case.stage;
+    let book = case.book;
     let head = book.head;
     let members = book.members;
-    let title = line(out, at, b"\nMembers");
-    if book::letter(book.phase) != 5 {
+    let count = sets::count(head.set) as u64;
+    let counted = with_number(out, at, b"\nMembers, ", count);
+    let title = end_line(out, counted);
+    if book::letter(stage) != 5 {
         let heads = line(
             out,
             title,
@@ -443,33 +439,15 @@ struct Rows {
     prices: u64,
 }
 
-// The price at which a member holds an entry of a pool, and 2,000,001, above every price, where it holds it not.
-fn held_price(e: Entry, m: u8, pool: u8, members: &[u8; 256], prices: &[u32; 256]) -> u32 {
-    if e.pool != pool {
-        return 2_000_001;
-    }
-    let s = e.state;
-    match s {
-        EntryState::Open => 2_000_001,
-        EntryState::Sold { bid } => {
-            if members[bid as usize] == m {
-                return prices[bid as usize];
-            }
-            2_000_001
-        }
-        EntryState::Allocated { member, price } => {
-            if member == m {
-                return price;
-            }
-            2_000_001
-        }
-        EntryState::Moved { member } => {
-            if member == m {
-                return 1_000_000;
-            }
-            2_000_001
-        }
-        EntryState::Torn { price: _ } => 2_000_001,
+// Above every price.
+const NO_PRICE: u32 = 2_000_001;
+
+// The price of a bid of a member for a pool, and one above every price where it is another's.
+fn price_of(bidder: u8, put_up: u8, price: u32, m: u8, pool: u8) -> u32 {
+    if lists::both(bidder == m, put_up == pool) {
+        price
+    } else {
+        NO_PRICE
     }
 }
 
@@ -481,38 +459,52 @@ fn lesser(price: u32, first: u32, best: u32) -> u32 {
     if price < best { price } else { best }
 }
 
-// How many entries count: at most all.
-fn counted(len: usize) -> usize
-    ensures { λ r. ⌜ r ≤ 4000 ⌝ }
-{
-    if len < 4000 { len } else { 4000 }
-}
-
-// The least price, from a first one on, at which a member holds units of a pool; 2,000,001 where there is none.
-fn next_price(case: Case, m: u8, pool: u8, first: u32) -> u32 {
-    let roll = case.roll;
-    let book = case.book;
+// The least price of a member's bids for a pool, from a first one on.
+fn bid_price(book: Book, m: u8, pool: u8, first: u32) -> u32 {
     let bids = book.bids;
     let members = bids.member;
+    let pools = bids.pool;
     let prices = bids.price;
-    let n = counted(roll.len);
-    let mut best: u32 = 2_000_001;
+    let mut best: u32 = NO_PRICE;
     let mut i: usize = 0;
-    while i < n {
-        let e = roll.entries[i];
-        best = lesser(held_price(e, m, pool, &members, &prices), first, best);
+    while i < 256 {
+        best = lesser(
+            price_of(members[i], pools[i], prices[i], m, pool),
+            first,
+            best,
+        );
         i += 1;
     }
     best
 }
 
-// Units times their price, the units held to those of a case, the price to the prices.
-fn worth(units: u64, price: u32) -> u64 {
-    lists::smaller(units, 4_000) * lists::smaller(price as u64, 2_000_001)
+// The price of a pool's ALLOCATE.
+fn allocation_price(book: Book, pool: u8) -> u32 {
+    let units = book.units;
+    if pool < 4 {
+        units.allocation[pool as usize]
+    } else {
+        NO_PRICE
+    }
 }
 
-// A row of the units held at a price.
+// The least price, from a first one on, at which a member may hold units of a pool: that of a bid, of ALLOCATE, or 0 cents for units moved to it.
+fn next_price(book: Book, m: u8, pool: u8, first: u32) -> u32 {
+    let sold = bid_price(book, m, pool, first);
+    let allocated = lesser(allocation_price(book, pool), first, sold);
+    lesser(1_000_000, first, allocated)
+}
+
+// Units times their price, the units held to those of a case, the price to the prices.
+fn worth(units: u64, price: u32) -> u64 {
+    lists::smaller(units, 4_000) * lists::smaller(price as u64, Call::MAX_PRICE as u64)
+}
+
+// A row of the units held at a price, where there are any.
 fn held_row(m: u8, pool: u8, price: u32, units: u64, out: &mut [u8], at: usize) -> usize {
+    if units == 0 {
+        return at;
+    }
     let named = number_right(out, at, 8, m as u64);
     let kept = number_right(out, named, 8, pool as u64);
     let priced = money_right(out, kept, 15, words::price(price));
@@ -528,13 +520,14 @@ fn held_row(m: u8, pool: u8, price: u32, units: u64, out: &mut [u8], at: usize) 
 
 // The rows of a member's units in a pool, by price.
 fn price_rows(case: Case, m: u8, pool: u8, rows: Rows, out: &mut [u8]) -> Rows {
+    let book = case.book;
     let mut at = rows.at;
     let mut units = rows.units;
     let mut prices = rows.prices;
     let mut first: u32 = 0;
-    while first <= 2_000_000 {
-        let price = next_price(case, m, pool, first);
-        if 2_000_000 < price {
+    while first <= Call::MAX_PRICE {
+        let price = next_price(book, m, pool, first);
+        if Call::MAX_PRICE < price {
             return Rows { at, units, prices };
         }
         let n = case.holding(m, pool, price);
@@ -552,12 +545,12 @@ fn after(price: u32, first: u32) -> u32
     ensures { λ r. ⌜ (first < r) × (r ≤ 2000001) ⌝ }
 {
     if price < first {
-        return 2_000_001;
+        return NO_PRICE;
     }
-    if price < 2_000_000 {
+    if price < Call::MAX_PRICE {
         price + 1
     } else {
-        2_000_001
+        NO_PRICE
     }
 }
 
@@ -569,22 +562,14 @@ fn pool_rows(case: Case, m: u8, rows: Rows, out: &mut [u8]) -> Rows {
     price_rows(case, m, 3, third, out)
 }
 
-// The rows of a member's units, where it is in the set.
-fn rows_if(given: bool, case: Case, m: u8, rows: Rows, out: &mut [u8]) -> Rows {
-    if given {
-        pool_rows(case, m, rows, out)
-    } else {
-        rows
-    }
-}
-
 // The rows of the units of a set's members.
 fn held_rows(case: Case, set: u32, rows: Rows, out: &mut [u8]) -> Rows {
     let mut next = rows;
-    let mut m: u8 = 0;
-    while m < 32 {
-        next = rows_if(sets::has(set, m), case, m, next, out);
-        m += 1;
+    let mut left = set;
+    while left != 0 {
+        let m = sets::next(left);
+        left = sets::without_least(left);
+        next = pool_rows(case, m as u8, next, out);
     }
     next
 }
@@ -598,10 +583,22 @@ fn sum_row(name: &[u8], units: u64, prices: u64, out: &mut [u8], at: usize) -> u
     end_line(out, amounted)
 }
 
+// The units that are not open.
+fn not_open(case: Case) -> u64 {
+    let first = plus(all_of(case, 1), all_of(case, 2));
+    plus(first, plus(all_of(case, 3), all_of(case, 4)))
+}
+
+// The sum of the prices of units that are not open, each as cents + 1,000,000.
+fn prices_of(book: Book, units: u64) -> u64 {
+    let above = plus(book.prices(), 1_000_000 * lists::smaller(units, 16_000));
+    lists::less(above, Units::ZERO_PRICES)
+}
+
 // The units held, the torn ones, and all units that are not open.
-fn write_sums(book: Book, rows: Rows, out: &mut [u8]) -> usize {
-    let units = book.priced();
-    let prices = book.prices();
+fn write_sums(case: Case, rows: Rows, out: &mut [u8]) -> usize {
+    let units = not_open(case);
+    let prices = prices_of(case.book, units);
     let held = sum_row(b"  held", rows.units, rows.prices, out, rows.at);
     let torn = sum_row(
         b"  torn",
@@ -629,7 +626,7 @@ fn write_held(case: Case, out: &mut [u8], at: usize) -> usize {
         prices: 0,
     };
     let rows = held_rows(case, head.set, none, out);
-    write_sums(book, rows, out)
+    write_sums(case, rows, out)
 }
 
 // ---- all tables
@@ -640,9 +637,8 @@ pub fn write_tables(held: Held, out: &mut [u8], at: usize) -> usize {
         return line(out, at, b"no case");
     }
     let case = held.case;
-    let book = case.book;
     let pools = write_pools(case, out, at);
-    let loss = write_loss(book, out, pools);
-    let members = write_members(book, out, loss);
+    let loss = write_loss(case, out, pools);
+    let members = write_members(case, out, loss);
     write_held(case, out, members)
 }

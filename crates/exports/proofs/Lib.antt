@@ -1,5 +1,3 @@
-pub mod Strings
-pub mod Replaying
 pub mod Asking
 pub mod Prices
 pub mod Final

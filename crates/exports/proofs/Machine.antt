@@ -3,7 +3,7 @@ use mathlib.Core.Path.{_≡_, sym, ap, _∙_}
 use mathlib.Core.Bool.{true}
 use mathlib.Core.List.{List}
 use mathlib.Core.Option.{none, some}
-use Prim.Native.Nat.{ℕ, _/_, _%_}
+use Prim.Native.Nat.{ℕ, _<_, _/_, _%_}
 use native.Mathlib.Nat.{mod-lt}
 use native.Mathlib.Omega.{arith}
 use lib.Dec.{eqb}
@@ -11,12 +11,12 @@ use lib.ListN.{getD}
 use Rattle.lists.specs.Lists.{if_then_else_, tab}
 use Rattle.lists.proofs.Each.{Each}
 use Rattle.lists.proofs.Places.{getD-tab, tab-ext}
+use Rattle.machine.specs.Roll.{Entry}
 use Rattle.machine.specs.State as M
 use Rattle.machine.specs.Requirement.{owes}
 use Rattle.machine.specs.Run.{Observed, fiveCounts, runFrom, observed}
 use Rattle.machine.proofs.Invariant.{CaseOk}
-use Rattle.roll.specs.Rolls.{countOf}
-use Rattle.roll.proofs.ViewCounts.{view-counts}
+use Rattle.units.specs.Shown.{countOf}
 use Rattle.accounts.proofs.ViewPools as P
 use Rattle.book.specs.declared.Result.{Result}
 use Rattle.book.proofs.Sound.{Sound}
@@ -24,50 +24,56 @@ use Rattle.book.proofs.Shown.{requirement-shown, prefunded-shown, debt-shown}
 use Rattle.case.specs.declared.Case.{Case}
 use Rattle.case.specs.declared.Held.{Held}
 use Rattle.case.specs.View.{view}
-use Rattle.case.specs.Readings.{seen}
+use Rattle.case.specs.Cases.{noHeld}
+use Rattle.case.specs.Readings.{countsIn, seen}
+use Rattle.case.specs.Strings.{stringsIn, inFront}
+use Rattle.case.specs.Input.{Replays}
 use Rattle.case.specs.Claim.{Bytes}
-use Rattle.case.proofs.Observations.{prices-shown}
+use Rattle.case.proofs.Observations.{counts-at, prices-shown}
+use Rattle.case.proofs.Strings.{strings-bytes}
 use Rattle.case.proofs.Claim.{Tied, ledger-tied, ledger-answers, ledger-shows}
 use Rattle.exports.specs.declared.Shown.{Shown}
-use Rattle.exports.specs.Strings.{stringsIn, inFront}
 use Rattle.exports.specs.Showing.{countTable, owesTable, noResult, resultShown, caseShown, shownOf, holdingShown, asks, holdingsOf}
 use Rattle.exports.specs.Machine.{finalOf, shownIn, shownBy}
-use Rattle.exports.specs.Contracts.{Replayed, Called, holdingsAfter}
-use Rattle.exports.proofs.Strings.{strings-bytes}
+use Rattle.exports.specs.Contracts.{Called, holdingsAfter}
 use Rattle.exports.proofs.Final.{final-shown}
 
 -- ---- a case
 
-module _ (c : Case) (sound : Sound (c .book) (c .roll)) (ok : CaseOk (view c)) where
-  count-at : (k : ℕ) → countOf (c .roll) (k / 5) (k % 5) ≡ getD (fiveCounts (view c .roll) (k / 5)) (k % 5) 0
-  count-at k =
-      sym (getD-tab 5 (countOf (c .roll) (k / 5)) (k % 5) 0 (mod-lt k (omega arith)))
-      ∙ ap (λ (xs : List ℕ). getD xs (k % 5) 0) (view-counts (c .roll) (k / 5))
+module _ (c : Case) (roll : List Entry) (sound : Sound (c .stage) (c .book) roll) (ok : CaseOk (view c roll)) where
+  abbrev counted : ℕ → ℕ → ℕ
+  counted = countOf (c .book .units) (c .book .bids .pool)
 
-  counts-all : countTable c ≡ tab 20 (λ k. getD (fiveCounts (view c .roll) (k / 5)) (k % 5) 0)
+  count-at : (k : ℕ) → k < 20 → counted (k / 5) (k % 5) ≡ getD (fiveCounts roll (k / 5)) (k % 5) 0
+  unfolding countsIn
+  count-at k l =
+      sym (getD-tab 5 (counted (k / 5)) (k % 5) 0 (mod-lt k (omega arith)))
+      ∙ ap (λ (xs : List ℕ). getD xs (k % 5) 0) (counts-at c roll sound ok (k / 5) (omega arith))
+
+  counts-all : countTable c ≡ tab 20 (λ k. getD (fiveCounts roll (k / 5)) (k % 5) 0)
   unfolding countTable
-  counts-all = tab-ext 20 _ _ (λ k l. count-at k)
+  counts-all = tab-ext 20 _ _ count-at
 
-  owes-all : owesTable (c .book) ≡ tab 32 (owes (view c .members))
+  owes-all : owesTable (c .book) ≡ tab 32 (owes (view c roll .members))
   unfolding owesTable
-  owes-all = tab-ext 32 _ _ (λ m l. debt-shown (c .book) (c .roll) sound ok m)
+  owes-all = tab-ext 32 _ _ (λ m l. debt-shown (c .stage) (c .book) roll sound ok m)
 
-  result-all : resultShown (c .book) ≡ (if eqb (M.letter (view c .stage)) 5 then finalOf (view c) else noResult)
+  result-all : resultShown c ≡ (if eqb (M.letter (view c roll .stage)) 5 then finalOf (view c roll) else noResult)
   unfolding resultShown
-  result-all = ap (λ (r : Result). if eqb (M.letter (view c .stage)) 5 then r else noResult) (final-shown (c .book) (c .roll) sound ok)
+  result-all = ap (λ (r : Result). if eqb (M.letter (view c roll .stage)) 5 then r else noResult) (final-shown (c .stage) (c .book) roll sound ok)
 
-  pub shown-in : caseShown c ≡ shownIn (view c)
+  pub shown-in : caseShown c ≡ shownIn (view c roll)
   unfolding caseShown shownIn
   shown-in =
       λ i. record {
         present = true;
-        stage = M.letter (view c .stage);
-        round = M.roundOf (view c .stage);
+        stage = M.letter (view c roll .stage);
+        round = M.roundOf (view c roll .stage);
         pools = sym (P.length-view (c .book .pools)) i;
         counts = counts-all i;
-        prices = prices-shown c sound ok i;
-        requirement = requirement-shown (c .book) (c .roll) sound ok i;
-        prefunded = prefunded-shown (c .book) (c .roll) sound ok i;
+        prices = prices-shown c roll sound ok i;
+        requirement = requirement-shown (c .stage) (c .book) roll sound ok i;
+        prefunded = prefunded-shown (c .stage) (c .book) roll sound ok i;
         owes = owes-all i;
         loss = result-all i .loss;
         charges = result-all i .charges;
@@ -81,11 +87,11 @@ module _ (c : Case) (sound : Sound (c .book) (c .roll)) (ok : CaseOk (view c)) w
 shown-by : (h : Held) (s : M.State) → Tied h s → shownOf h ≡ shownBy s
 unfolding shownOf shownBy
 shown-by h none t = rw t
-shown-by h (some c) t = rw (t .present) (shown-in (h .case) (t .sound) (t .ok) ∙ ap shownIn (t .shows))
+shown-by h (some c) t = rw (t .present) (shown-in (h .case) (c .roll) (t .sound) (t .ok) ∙ ap shownIn (t .shows))
 
 -- ---- after a list of calls
 
-module _ (bytes ends old new : List ℕ) (h : Held) (given : Bytes bytes) (r : Replayed (stringsIn bytes ends) old new h) where
+module _ (bytes ends old new : List ℕ) (h : Held) (given : Bytes bytes) (r : Replays noHeld (stringsIn bytes ends) old new h) where
   each : Each Bytes (stringsIn bytes ends)
   each = strings-bytes 0 bytes ends given
 

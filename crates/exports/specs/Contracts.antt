@@ -4,11 +4,8 @@ use mathlib.Core.List.{List, map}
 use mathlib.Core.Option.{none}
 use Prim.Native.Nat.{ℕ}
 use Rattle.machine.specs.Run.{Observed, run, runFrom, observed}
-use Rattle.case.specs.declared.Held.{Held}
-use Rattle.case.specs.Cases.{noHeld}
-use Rattle.case.specs.Input.{ledgerAfter, ledgerAnswers}
 use Rattle.exports.specs.declared.Shown.{Shown}
-use Rattle.exports.specs.Strings.{inFront}
+use Rattle.case.specs.Strings.{inFront}
 use Rattle.exports.specs.Showing.{asks}
 use Rattle.exports.specs.Machine.{shownBy}
 
@@ -20,8 +17,3 @@ pub record Called (calls : List (List ℕ)) (old new : List ℕ) (r : Shown) : T
 -- of `ledger_holdings`: what members hold after the calls
 abbrev pub holdingsAfter : List (List ℕ) → List ℕ → List ℕ → List ℕ → List ℕ
 holdingsAfter calls = asks (observed 0 (runFrom none calls) .holdings)
-
--- of `replay`, in the program's own terms: the answers in front of what was there, and what is held
-pub record Replayed (calls : List (List ℕ)) (old new : List ℕ) (h : Held) : Type 0 where
-  pub answers : new ≡ inFront (ledgerAnswers noHeld calls) old
-  pub held : h ≡ ledgerAfter noHeld calls

@@ -1,4 +1,3 @@
-pub mod Strings
 pub mod Showing
 pub mod Machine
 pub mod Contracts

@@ -6,7 +6,7 @@ use lib.Dec.{eqb}
 use lib.IntN.{pos}
 use lib.ListN.{length, getD, replicate}
 use Rattle.lists.specs.Lists.{if_then_else_, tab}
-use Rattle.roll.specs.Rolls.{countOf}
+use Rattle.units.specs.Shown.{countOf}
 use Rattle.accounts.specs.Members.{owesOf}
 use Rattle.book.specs.declared.Book.{Book}
 use Rattle.book.specs.declared.Result.{Result}
@@ -20,7 +20,7 @@ use Rattle.exports.specs.declared.Shown.{Shown}
 
 -- the five counts of pool 0, then of pools 1 to 3
 unfoldable pub countTable : Case → List ℕ
-countTable c = tab 20 (λ k. countOf (c .roll) (k / 5) (k % 5))
+countTable c = tab 20 (λ k. countOf (c .book .units) (c .book .bids .pool) (k / 5) (k % 5))
 
 -- what each of the 32 places owes
 unfoldable pub owesTable : Book → List ℕ
@@ -39,8 +39,8 @@ noResult =
     }
 
 -- what FINISH gave
-unfoldable pub resultShown : Book → Result
-resultShown b = if eqb (letterOf (b .phase .stage)) 5 then resultIn b else noResult
+unfoldable pub resultShown : Case → Result
+resultShown c = if eqb (letterOf (c .stage)) 5 then resultIn (c .book) else noResult
 
 -- where no case is held
 unfoldable pub noneShown : Shown
@@ -66,11 +66,11 @@ noneShown =
 -- where a case is held
 unfoldable pub caseShown : Case → Shown
 caseShown c =
-    let r = resultShown (c .book) in
+    let r = resultShown c in
     record {
       present = true;
-      stage = letterOf (c .book .phase .stage);
-      round = roundOf (c .book .phase .stage);
+      stage = letterOf (c .stage);
+      round = roundOf (c .stage);
       pools = c .book .pools .given;
       counts = countTable c;
       prices = sumOfPricesIn c;

@@ -1,23 +1,19 @@
 // The ledger for C and Rust. A case holds enums, and such a value cannot be handed over, so a caller hands over the calls made so far and is
 // shown what they lead to; include/ledger.h says how each function is called.
 ghost use mathlib.Core.Path.{_≡_};
-ghost use mathlib.Core.Bool.{true};
 ghost use mathlib.Core.List.{_++_, map};
 ghost use Prim.Native.Nat.{min};
 ghost use lib.ListN.{length, set, drop};
 ghost use Rattle.machine.specs.Printed.{fieldsIn};
 ghost use Rattle.machine.specs.Run.{Observed, run as machineRun};
-ghost use Rattle.wire.specs.Asked.{asked};
-ghost use Rattle.case.specs.Cases.{afterAsked};
 ghost use Rattle.report.specs.Texts.{Prints};
-ghost use Rattle.exports.specs.Strings.{cutAt, stringsIn, inFront};
+ghost use Rattle.case.specs.Strings.{stringsIn, inFront};
 ghost use Rattle.exports.specs.Showing.{countTable, owesTable, resultShown, noneShown, caseShown, shownOf, holdingShown, holdingsOf};
-ghost use Rattle.exports.specs.Contracts.{Replayed, Called, holdingsAfter};
+ghost use Rattle.exports.specs.Contracts.{Called, holdingsAfter};
 use book::Book;
 use book::Result;
 use case::Case;
 use case::Held;
-use wire::Call;
 
 // What is shown of a case. Where none is held every number is 0; so is the result before an accepted FINISH. The counts are open, sold,
 // allocated, moved and torn of pool 0, then of pools 1 to 3. Money and prices are in cents.
@@ -47,26 +43,7 @@ pub struct Printed {
     pub len: usize,
 }
 
-// ---- the strings
-
-// Where a string ends: an end below its begin or above the number of bytes is held to them.
-fn cut_at(at: usize, n: usize, end: usize) -> usize
-    ensures { λ r. ⌜ r ≡ cutAt at n end ⌝ }
-{
-    if end < at {
-        return at;
-    }
-    if end < n { end } else { n }
-}
-
-// Writes an answer, where there is room.
-fn put(answers: &mut [u8], k: usize, answer: u8)
-    ensures { λ _. ⌜ now (answers .exit) ≡ set (now (answers .entry)) k answer ⌝ }
-{
-    if k < answers.len() {
-        answers[k] = answer;
-    }
-}
+// ---- what is shown
 
 // Writes units, where there is room.
 fn put_units(units: &mut [u64], k: usize, n: u64)
@@ -76,41 +53,6 @@ fn put_units(units: &mut [u64], k: usize, n: u64)
         units[k] = n;
     }
 }
-
-// What is held after a call that was accepted.
-fn accept(held: Held, call: Call) -> Held
-    ensures { λ r. ⌜ r ≡ record { present = true; case = afterAsked (held .case) (asked call) } ⌝ }
-{
-    let case = held.case;
-    Held {
-        present: true,
-        case: case::after(case, call),
-    }
-}
-
-// The strings taken in turn as calls, from no case on. The loop asks first: a call that is declined copies no case.
-fn replay(bytes: &[u8], ends: &[usize], answers: &mut [u8]) -> Held
-    ensures { λ r. ⌜ Replayed (stringsIn (now (bytes .entry)) (now (ends .entry))) (now (answers .entry)) (now (answers .exit)) r ⌝ }
-{
-    let mut held = Held::none();
-    let mut at: usize = 0;
-    let mut k: usize = 0;
-    while k < ends.len() {
-        let end = cut_at(at, bytes.len(), ends[k]);
-        let call = wire::read_call(&bytes[at..end]);
-        let book = held.case.book;
-        let answer = case::answer_to(held.present, book, call);
-        put(answers, k, answer);
-        at = end;
-        k += 1;
-        if answer == 0 {
-            held = accept(held, call);
-        }
-    }
-    held
-}
-
-// ---- what is shown
 
 // The five counts of each pool.
 fn counts(case: Case) -> [u64; 20]
@@ -140,10 +82,12 @@ fn owes(book: Book) -> [u64; 32]
 }
 
 // What FINISH gave, and zeros before it.
-fn result(book: Book) -> Result
-    ensures { λ r. ⌜ r ≡ resultShown book ⌝ }
+fn result(case: Case) -> Result
+    ensures { λ r. ⌜ r ≡ resultShown case ⌝ }
 {
-    if book::letter(book.phase) == 5 {
+    let stage = case.stage;
+    let book = case.book;
+    if book::letter(stage) == 5 {
         return book.result();
     }
     Result {
@@ -183,19 +127,20 @@ fn show_none() -> Shown
 fn show_case(case: Case) -> Shown
     ensures { λ r. ⌜ r ≡ caseShown case ⌝ }
 {
+    let stage = case.stage;
     let book = case.book;
     let pools = book.pools;
     let counts = counts(case);
     let owes = owes(book);
-    let given = result(book);
+    let given = result(case);
     let charges = given.charges;
     let ranks = given.ranks;
     let contributions = given.contributions;
     let payments = given.payments;
     Shown {
         present: true,
-        stage: book::letter(book.phase),
-        round: book::round_of(book.phase),
+        stage: book::letter(stage),
+        round: book::round_of(stage),
         pools: pools.given,
         counts,
         prices: case.sum_of_prices(),
@@ -270,7 +215,7 @@ pub extern "C" fn ledger_run(input: &[u8], answers: &mut [u8]) -> usize
 pub extern "C" fn ledger_calls(bytes: &[u8], ends: &[usize], answers: &mut [u8]) -> Shown
     ensures { λ r. ⌜ Called (stringsIn (now (bytes .entry)) (now (ends .entry))) (now (answers .entry)) (now (answers .exit)) r ⌝ }
 {
-    let held = replay(bytes, ends, answers);
+    let held = case::replay(Held::none(), bytes, ends, answers);
     show(held)
 }
 
@@ -288,7 +233,7 @@ pub extern "C" fn ledger_holdings(
     ensures { λ _. ⌜ now (units .exit) ≡ inFront (holdingsAfter (stringsIn (now (bytes .entry)) (now (ends .entry))) (now (members .entry)) (now (pools .entry)) (now (prices .entry))) (now (units .entry)) ⌝ }
 {
     let mut first = [0u8; 1];
-    let held = replay(bytes, ends, &mut first);
+    let held = case::replay(Held::none(), bytes, ends, &mut first);
     ask(held, members, pools, prices, units)
 }
 

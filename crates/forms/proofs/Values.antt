@@ -1,14 +1,14 @@
 -- The value of a call, one number at a time, and its bytes by the tests of the code. Assumes nothing.
 use mathlib.Core.Path.{_≡_, refl, sym, ap, _∙_}
 use mathlib.Core.List.{List, [], _∷_, _++_}
-use Prim.Native.Nat.{ℕ, zero, suc, _+_, _≤_, _<_, min}
+use Prim.Native.Nat.{ℕ, zero, suc, _+_, _≤_, _<_}
 use native.Mathlib.Numerals.{add-one}
 use native.Mathlib.Omega.{arith}
 use lib.Dec.{leb}
 use lib.ListN.{length, getD, take, drop}
 use lib.Seq.{sets, drop-cons, drop-length, getD-take, length-take-le}
 use borrow.Author.Tests.{lt-ltb, le-ltb, eq-eqb, ne-eqb, leb-true}
-use Rattle.lists.specs.Lists.{if_then_else_, between}
+use Rattle.lists.specs.Lists.{between}
 use Rattle.lists.proofs.Bools.{cases, either, and-right}
 use Rattle.wire.specs.Asked.{asked}
 use Rattle.wire.specs.declared.Call.{Call}

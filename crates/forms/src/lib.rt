@@ -1,7 +1,7 @@
 // A call as its tag and its numbers, and the bytes of a call: what `wire` reads is written here.
 ghost use mathlib.Core.Path.{_≡_};
 ghost use mathlib.Core.List.{[], _∷_};
-ghost use Prim.Native.Nat.{_+_, _%_, _≤_, _<_, min};
+ghost use Prim.Native.Nat.{_+_, _%_, _≤_, _<_};
 ghost use lib.ListN.{length, take};
 ghost use Rattle.wire.specs.Asked.{asked};
 ghost use Rattle.forms.specs.Forms.{kindOf, flatOf, flatRound, flattened};

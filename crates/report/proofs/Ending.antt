@@ -45,7 +45,7 @@ pools-shown : (c : Case) (roll : List Entry) → Sound (c .stage) (c .book) roll
 unfolding pLineOf pLine
 pools-shown c roll sound ok =
     tab-ext (c .book .pools .given) (pLineOf c) (pLine (view c roll))
-    (λ pool l. ap (λ (ns : List ℕ). record { letter = 112; numbers = pool ∷ ns }) (counts-at c roll sound ok pool l))
+    (λ pool l. ap (λ (ns : List ℕ). record { letter = 112; numbers = pool ∷ ns }) (counts-at c roll sound ok pool (omega (arith, sound .pools .few))))
     ∙ ap (λ (n : ℕ). tab n (pLine (view c roll))) (sym (length-view (c .book .pools)))
 
 members-lines : (b : Book) (ms : List ℕ) → map (mLineOf (resultIn b)) ms ≡ map mLine (map (memberResultIn b) ms)

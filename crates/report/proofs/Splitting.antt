@@ -3,16 +3,16 @@ use mathlib.Core.Path.{_≡_, refl, sym, ap, ap₂, _∙_}
 use mathlib.Core.Bool.{Bool, true, false, _&&_}
 use mathlib.Core.List.{List, [], _∷_, _++_}
 use mathlib.Core.Option.{none}
-use Prim.Native.Nat.{ℕ, zero, suc, _+_, _-_, _*_, _≤_, _<_, min}
+use Prim.Native.Nat.{ℕ, zero, suc, _+_, _-_, _*_, _≤_, _<_}
 use native.Mathlib.Omega.{arith}
 use lib.Dec.{leb, eqb}
 use lib.ListN.{length, take, drop, length-take, length-drop}
 use lib.Seq.{take-length, drop-length, drop-drop}
 use borrow.Author.Tests.{le-leb, leb-false, ne-eqb}
 use Rattle.lists.specs.Lists.{if_then_else_, between}
-use Rattle.lists.proofs.Bools.{cases, same-choice, and-both, and-false}
+use Rattle.lists.proofs.Bools.{cases, same-choice, and-false}
 use Rattle.machine.specs.Wire.{decode}
-use Rattle.machine.specs.Printed.{Line, sLine, fieldsIn}
+use Rattle.machine.specs.Printed.{sLine, fieldsIn}
 use Rattle.case.specs.declared.Held.{Held}
 use Rattle.case.specs.declared.Applied.{Applied}
 use Rattle.case.specs.Cases.{caseAnswerTo, firstAnswerTo, answerTo, afterAsked, takeAsked, applied}

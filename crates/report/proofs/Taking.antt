@@ -1,27 +1,27 @@
 -- What holds at each turn of `take_part`: the s lines written so far, and those of the whole fields left from what is held, are the s lines of all
 -- whole fields; and what is held after the fields left is what is held after all. Assumes nothing.
 use mathlib.Core.Path.{_≡_, refl, sym, ap, ap₂, _∙_}
-use mathlib.Core.Bool.{Bool, true, false}
+use mathlib.Core.Bool.{false}
 use mathlib.Core.List.{List, [], _∷_, _++_, append-assoc, append-nil}
 use Prim.Native.Nat.{ℕ, zero, suc, _+_, _-_, _*_, _/_, _≤_, _<_, min}
 use native.Mathlib.Omega.{arith}
 use lib.Dec.{leb, eqb}
-use lib.ListN.{length, getD, take, drop, length-append, length-take, length-drop, drop-of-length-le}
-use lib.Seq.{sets, length-sets, drop-cons, drop-drop, take-all}
+use lib.ListN.{length, getD, take, drop, length-append, length-take, length-drop}
+use lib.Seq.{sets, length-sets, drop-cons, drop-drop}
 use borrow.Author.Tests.{le-leb, lt-leb, leb-true, eqb-true, eqb-false}
 use Rattle.lists.specs.Lists.{tab}
-use Rattle.lists.proofs.Bools.{cases, and-left, and-right, either}
+use Rattle.lists.proofs.Bools.{cases, and-left}
 use Rattle.lists.proofs.Each.{Each, each-at}
 use Rattle.lists.proofs.Places.{tab-of}
 use Rattle.machine.specs.Printed.{Line, sLine, text}
-use Rattle.lines.specs.Placed.{Placed, placed, lineText}
+use Rattle.lines.specs.Placed.{Placed, lineText}
 use Rattle.lines.proofs.Stores.{sets-then}
 use Rattle.case.specs.declared.Held.{Held}
 use Rattle.case.specs.declared.Front.{Front}
 use Rattle.case.specs.Cases.{applied}
 use Rattle.case.specs.Claim.{Bytes}
-use Rattle.case.specs.Strings.{inFront, endsFrom, bytesOf}
-use Rattle.case.specs.Input.{fieldSize, wholeFirst, frontSize, frontFields, ledgerAfter, ledgerAnswers, FieldsTaken}
+use Rattle.case.specs.Strings.{endsFrom, bytesOf}
+use Rattle.case.specs.Input.{wholeFirst, frontSize, ledgerAfter, ledgerAnswers, FieldsTaken}
 use Rattle.case.proofs.Fields.{size-whole}
 use Rattle.case.proofs.Strings.{front-at, ends-long, take-bytes}
 use Rattle.case.proofs.Decoded.{drop-bytes}
@@ -30,7 +30,7 @@ use Rattle.case.proofs.Running.{after-two, answers-long}
 use Rattle.case.proofs.Small.{answer-most}
 use Rattle.report.specs.Texts.{ledgerLines, wholeFields, startOf, answerLine, takePart, TakesPart, placedLines}
 use Rattle.report.specs.Parts.{whole}
-use Rattle.report.proofs.Placing.{text-append, text-line, text-one, lines-fit}
+use Rattle.report.proofs.Placing.{text-append, text-line, lines-fit}
 use Rattle.report.proofs.Widths.{s-line-most}
 
 -- ---- whole fields

@@ -1,14 +1,13 @@
 -- The places that have more units after a call than before. Assumes nothing.
-use mathlib.Core.Path.{_≡_, refl, sym, ap, _∙_}
-use mathlib.Core.Bool.{Bool, true, false, _||_}
-use mathlib.Core.Logic.{_⊎_, inl, inr, ⊎-elim}
+use mathlib.Core.Path.{_≡_, refl, ap, _∙_}
+use mathlib.Core.Bool.{_||_}
+use mathlib.Core.Logic.{_⊎_, ⊎-elim}
 use mathlib.Core.List.{List, [], _∷_}
-use Prim.Native.Nat.{ℕ, zero, suc, _+_, _-_, _*_, _%_, _≤_, _<_, min}
+use Prim.Native.Nat.{ℕ, zero, suc, _+_, _-_, _*_, _≤_, _<_, min}
 use native.Mathlib.Omega.{arith}
 use lib.Dec.{leb, ltb, eqb}
 use lib.ListN.{length, getD, set, length-set}
-use Rattle.lists.specs.Lists.{if_then_else_}
-use Rattle.lists.specs.Adding.{most16, addAt}
+use Rattle.lists.specs.Adding.{addAt}
 use Rattle.lists.proofs.Bools.{cases, either, lt-or-le}
 use Rattle.lists.proofs.Each.{Each, set-cases}
 use Rattle.auction.specs.Price.{zeroPrice}

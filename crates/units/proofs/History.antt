@@ -2,17 +2,16 @@
 -- ever has units of two labels. Assumes nothing.
 use mathlib.Core.Path.{_≡_, refl, sym, ap, _∙_}
 use mathlib.Core.Bool.{true, false≢true}
-use mathlib.Core.Logic.{_⊎_, inl, inr, ⊎-elim}
+use mathlib.Core.Logic.{_⊎_, inl, ⊎-elim}
 use mathlib.Core.List.{List}
 use mathlib.Core.Option.{some}
 use Prim.Native.Nat.{ℕ, _≤_, _<_}
 use native.Mathlib.Omega.{arith}
-use lib.ListN.{length, getD, set}
+use lib.ListN.{getD}
 use lib.Seq.{getD-set-same}
 use borrow.Author.Tests.{eqb-false, not-false}
-use Rattle.lists.proofs.Bools.{lt-or-le}
 use Rattle.lists.proofs.Pairs.{pairs-at, pairs-set, pairs-mapFrom}
-use Rattle.lists.proofs.Passed.{Passed}
+use Rattle.lists.specs.Tests.{Passed}
 use Rattle.machine.specs.Wire.{Call, HEAD, POOL, MEMBER, ROUND, BID, CLOSE, ALLOCATE, TEAR, CALL, PAY, MOVE, MISS, FINISH}
 use Rattle.machine.specs.Roll.{openUnits}
 use Rattle.machine.specs.State.{Member, Case, noMember, memberAt, letter, letterOf, withCalled}
@@ -22,7 +21,7 @@ use Rattle.machine.specs.Calls.{afterPool, afterMember, afterRound, afterBid, a
 use Rattle.machine.specs.Refusals.{tests}
 use Rattle.machine.proofs.Invariant.{CaseOk}
 use Rattle.machine.proofs.Stages.{letter-is, letter-some}
-use Rattle.machine.proofs.Later.{Later, later-call, Settled, settled-later}
+use Rattle.machine.proofs.Later.{later-call, Settled, settled-later}
 use Rattle.units.specs.Places.{allocatedAt, movedAt, tornAt, missedAt, missedMovedAt}
 
 -- a round has begun

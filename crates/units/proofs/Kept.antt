@@ -1,32 +1,31 @@
 -- The units of a roll after POOL, CLOSE and ALLOCATE, and where the bids change. Assumes nothing.
 use mathlib.Core.Path.{_≡_, refl, sym, ap, _∙_}
 use mathlib.Core.Bool.{Bool, true, false, _&&_}
-use mathlib.Core.Logic.{⊎-elim}
 use mathlib.Core.List.{List, [], _∷_, _++_, map}
-use Prim.Native.Nat.{ℕ, zero, suc, _+_, _-_, _*_, _%_, _≤_, _<_, min}
-use native.Mathlib.Nat.{mul-one, mul-zero, zero-mul, zero-add, min-eq-left}
+use Prim.Native.Nat.{ℕ, zero, suc, _+_, _-_, _*_, _≤_, _<_, min}
+use native.Mathlib.Nat.{mul-one, mul-zero, zero-mul, min-eq-left}
 use native.Mathlib.Omega.{arith}
-use lib.Dec.{ltb, eqb}
+use lib.Dec.{eqb}
 use lib.ListN.{length, getD, set, take, drop, length-set}
 use lib.Seq.{length-take-le, take-suc, take-length, drop-cons, getD-set-same, getD-set-other}
 use borrow.Author.Tests.{lt-ltb, eqb-true, eqb-false, eq-eqb, ne-eqb}
 use Rattle.lists.specs.Lists.{if_then_else_, sum, count, oneIf}
 use Rattle.lists.specs.Adding.{most16, addAt}
-use Rattle.lists.proofs.Adding.{added, length-added}
+use Rattle.lists.proofs.Adding.{length-added}
 use Rattle.lists.proofs.Bools.{cases}
 use Rattle.lists.proofs.Each.{Each, each-more, set-cases}
 use Rattle.lists.proofs.Keep.{sum-keep-cons}
 use Rattle.sets.specs.Set.{members}
 use Rattle.sets.proofs.Members.{members-each}
 use Rattle.auction.specs.Price.{zeroPrice, priceLimit}
-use Rattle.machine.specs.Roll.{UnitState, Open, Sold, Allocated, Moved, Torn, Entry, Bid, noBid, kind, isOpen, openIn, priceOf, openUnits, putUp, giveLowest}
+use Rattle.machine.specs.Roll.{UnitState, Sold, Allocated, Entry, Bid, noBid, kind, isOpen, openIn, priceOf, openUnits, putUp, giveLowest}
 use Rattle.machine.specs.Calls.{inAuction, sell, giveShares}
 use Rattle.machine.proofs.Giving.{wonWhere}
 use Rattle.units.specs.declared.Units.{Units}
-use Rattle.units.specs.Places.{allocatedAt, soldAt, movedAt, unitAt, over, weigh, Counted}
-use Rattle.units.specs.Steps.{zeroSum, transferred, repriced, putUpUnits, winOf, poolOf, soldCounts, soldSums, sellUnits, sharedCounts, sharedSums, allocateUnits}
+use Rattle.units.specs.Places.{allocatedAt, soldAt, unitAt, over, weigh, Counted}
+use Rattle.units.specs.Steps.{transferred, repriced, putUpUnits, winOf, poolOf, soldCounts, soldSums, sellUnits, sharedCounts, sharedSums, allocateUnits}
 use Rattle.units.proofs.Places.{unit-open, unit-allocated, unit-sold, unit-moved, unit-torn, by-place}
-use Rattle.units.proofs.Weighing.{weigh-zero, weigh-added, weigh-point, weigh-ext}
+use Rattle.units.proofs.Weighing.{weigh-zero, weigh-added, weigh-point}
 use Rattle.units.proofs.Over.{Swap, openUnit, count-over, over-put, give-swaps}
 use Rattle.units.proofs.Tied.{inPool, priceIn, in-it, not-in-it, Tied, few-units, transfer-tied, relabelled}
 

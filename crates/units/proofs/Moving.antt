@@ -1,6 +1,6 @@
 -- MOVE by groups: units of the place whose turn it is, moved at once, are the units that the machine moves one by one. Assumes nothing.
 use mathlib.Core.Path.{_≡_, refl, sym, ap, subst, _∙_}
-use mathlib.Core.Bool.{Bool, true, false, _&&_}
+use mathlib.Core.Bool.{true}
 use mathlib.Core.Logic.{⊎-elim}
 use mathlib.Core.List.{List}
 use mathlib.Core.Option.{Option, none, some}
@@ -9,14 +9,14 @@ use native.Mathlib.Nat.{suc-mul, zero-mul, zero-add, sub-zero}
 use native.Mathlib.Omega.{arith}
 use lib.Dec.{leb, ltb, eqb}
 use lib.ListN.{length, getD, set}
-use borrow.Author.Tests.{leb-true, le-leb, lt-ltb, le-ltb, ltb-true, ltb-false, ne-eqb, eq-eqb, eqb-true, eqb-false}
+use borrow.Author.Tests.{leb-true, le-leb, lt-ltb, le-ltb, ltb-true, ne-eqb, eq-eqb, eqb-true, eqb-false}
 use Rattle.lists.specs.Lists.{if_then_else_}
 use Rattle.lists.proofs.Bools.{cases, lt-or-le, and-both}
 use Rattle.lists.proofs.Each.{Each, each-at, each-more}
-use Rattle.auction.specs.Price.{zeroPrice, negative}
+use Rattle.auction.specs.Price.{zeroPrice}
 use Rattle.machine.specs.Roll.{Entry, Bid, noBid, Moved, withState, priceOf}
 use Rattle.machine.specs.Move.{Found, nextFrom, moveUnits}
-use Rattle.units.specs.Places.{allocatedAt, soldAt, movedAt, unitAt, over, Counted}
+use Rattle.units.specs.Places.{soldAt, movedAt, unitAt, Counted}
 use Rattle.units.specs.Steps.{transferred, repriced}
 use Rattle.units.specs.Groups.{noKey, soldKeys, allocatedKey, soldKey, keyAt, keyPlace, keyPrice, poolAt}
 use Rattle.units.proofs.Places.{unit-open, unit-allocated, unit-sold, unit-moved, unit-torn, by-place}

@@ -1,14 +1,12 @@
 -- The unit that MOVE takes next: an entry of the roll that may move, with the least key. Assumes nothing.
-use mathlib.Core.Path.{_≡_, refl, sym, ap, _∙_}
-use mathlib.Core.Bool.{Bool, true, false, not}
+use mathlib.Core.Path.{_≡_, ap, _∙_}
+use mathlib.Core.Bool.{true, not}
 use mathlib.Core.List.{List, [], _∷_}
 use mathlib.Core.Option.{Option, none, some}
 use Prim.Native.Nat.{ℕ, suc, _≤_, _<_}
 use native.Mathlib.Omega.{arith}
-use lib.Dec.{leb}
 use lib.ListN.{length, getD, drop}
 use borrow.Author.Tests.{leb-true, leb-false}
-use Rattle.lists.specs.Lists.{if_then_else_}
 use Rattle.lists.proofs.Bools.{cases}
 use Rattle.lists.proofs.Each.{Each, drop-step}
 use Rattle.machine.specs.Roll.{Entry, Bid}

@@ -1,6 +1,6 @@
 -- MOVE: all turns by groups lead to the units of the roll that the machine's moves lead to. Assumes nothing.
 use mathlib.Core.Path.{_≡_, refl, sym, ap, _∙_}
-use mathlib.Core.Bool.{Bool, true, false, _||_, or-true}
+use mathlib.Core.Bool.{true, false, _||_}
 use mathlib.Core.Logic.{_⊎_, inl, inr, ⊎-elim}
 use mathlib.Core.List.{List, [], _∷_}
 use Prim.Native.Nat.{ℕ, zero, suc, _+_, _-_, _*_, _≤_, _<_, min}
@@ -9,26 +9,25 @@ use native.Mathlib.Omega.{arith}
 use lib.Dec.{leb, ltb, eqb}
 use lib.ListN.{length, getD, set, length-set}
 use lib.Seq.{getD-set-same, getD-set-other}
-use borrow.Author.Tests.{leb-true, leb-false, le-leb, lt-leb, ltb-false, lt-ltb, le-ltb, ne-eqb, eq-eqb, eqb-true, eqb-false}
-use Rattle.lists.specs.Lists.{if_then_else_, sum, sumTo, count, tab}
+use borrow.Author.Tests.{leb-true, leb-false, lt-leb, ltb-false, lt-ltb, le-ltb, ne-eqb, eqb-true, eqb-false}
+use Rattle.lists.specs.Lists.{sum, sumTo, count}
 use Rattle.lists.proofs.Bools.{cases, lt-or-le, or-left, or-right}
 use Rattle.lists.proofs.Sums.{sumTo-term, sumTo-ext}
-use Rattle.lists.proofs.Each.{set-cases}
 use Rattle.lists.proofs.Counts.{count-few}
-use Rattle.lists.proofs.Places.{length-tab, getD-tab, getD-tab-past}
+use Rattle.lists.proofs.Places.{length-tab, getD-tab}
 use Rattle.auction.specs.Price.{zeroPrice}
 use Rattle.machine.specs.Roll.{Entry, Bid, noBid}
 use Rattle.machine.specs.Move.{moveUnits, moveAll}
 use Rattle.units.specs.declared.Units.{Units}
 use Rattle.units.specs.Places.{soldAt, movedAt, unitAt, over, weigh}
 use Rattle.units.specs.Steps.{transferred, repriced}
-use Rattle.units.specs.Groups.{noKey, keyAt, liveKey, liveKeys, leastKey, keyPlace, keyPrice, poolAt, needed, Passed, passGroups, moveUnits as movedUnits}
+use Rattle.units.specs.Groups.{noKey, keyAt, liveKey, liveKeys, leastKey, keyPlace, keyPrice, poolAt, needed, passGroups, moveUnits as movedUnits}
 use Rattle.units.proofs.Leasts.{least-is, least-in, count-set-out, count-zero, need-most, need-enough}
-use Rattle.units.proofs.Groups.{both, groups-end, groups-stop, groups-turn}
+use Rattle.units.proofs.Groups.{groups-end, groups-stop, groups-turn}
 use Rattle.units.proofs.Places.{sum-split}
 use Rattle.units.proofs.Weighing.{point}
 use Rattle.units.proofs.Tied.{Tied}
-use Rattle.units.proofs.Kept.{unitOf, Kept, passed-from, passed-other, passed-less}
+use Rattle.units.proofs.Kept.{Kept, passed-from, passed-other, passed-less}
 use Rattle.units.proofs.Moving.{key-place, move-saved, move-none, Known, LeastOf, Labels, labels, next-none, pass, moved-tied}
 
 -- how many places may still have their turn

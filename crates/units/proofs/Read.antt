@@ -1,19 +1,19 @@
 -- What is read of the units of a case is what the machine shows, for any member, pool and price. Assumes nothing.
-use mathlib.Core.Path.{_≡_, refl, sym, ap, _∙_}
-use mathlib.Core.Bool.{Bool, true, false, _&&_, and-false, false≢true}
+use mathlib.Core.Path.{_≡_, refl, sym}
+use mathlib.Core.Bool.{Bool, false, _&&_, and-false}
 use mathlib.Core.Logic.{⊎-elim}
 use mathlib.Core.List.{List}
 use Prim.Native.Nat.{ℕ, _^_, _≤_, _<_}
 use native.Mathlib.Omega.{arith}
 use lib.Dec.{ltb, eqb}
 use lib.ListN.{length, getD}
-use borrow.Author.Tests.{lt-ltb, le-ltb, ne-eqb}
-use Rattle.lists.specs.Lists.{if_then_else_, count, tab}
+use borrow.Author.Tests.{le-ltb, ne-eqb}
+use Rattle.lists.specs.Lists.{count, tab}
 use Rattle.lists.proofs.Bools.{lt-or-le}
 use Rattle.lists.proofs.Counts.{count-none}
-use Rattle.lists.proofs.Each.{Each, each-more}
+use Rattle.lists.proofs.Each.{each-more}
 use Rattle.machine.specs.Roll.{UnitState, Open, Sold, Allocated, Moved, Torn, Entry, Bid, noBid, priceOf, heldBy, passedTo}
-use Rattle.machine.specs.State.{Case, inSet}
+use Rattle.machine.specs.State.{Case}
 use Rattle.machine.specs.Run.{fiveCounts, holding}
 use Rattle.machine.proofs.Invariant.{EntryOk, CaseOk}
 use Rattle.machine.proofs.Bounds.{entry-pools, bid-ok, in-set-below}

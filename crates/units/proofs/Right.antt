@@ -1,32 +1,31 @@
 -- The units of the program and the machine's case: after every accepted call they are the units of its roll again. Assumes nothing.
 use mathlib.Core.Path.{_≡_, refl, sym, ap, _∙_}
-use mathlib.Core.Bool.{Bool, true, false, _&&_, false≢true}
+use mathlib.Core.Bool.{false}
 use mathlib.Core.Logic.{_⊎_, inl, inr, ⊎-elim}
-use mathlib.Core.List.{List, [], _∷_, _++_, map}
-use mathlib.Core.Option.{none, some}
-use Prim.Native.Nat.{ℕ, zero, suc, _+_, _-_, _*_, _%_, _^_, _≤_, _<_, min}
-use native.Mathlib.Nat.{mul-zero}
+use mathlib.Core.List.{List, [], _∷_, _++_}
+use mathlib.Core.Option.{some}
+use Prim.Native.Nat.{ℕ, _+_, _^_, _≤_, _<_, min}
 use native.Mathlib.Omega.{arith}
-use lib.Dec.{leb, ltb, eqb}
-use lib.ListN.{length, getD, set, replicate, length-map, length-replicate, getD-replicate, List·getD-append, List·getD-eq-default}
+use lib.Dec.{eqb}
+use lib.ListN.{length, getD, set, replicate, length-replicate, getD-replicate, List·getD-append, List·getD-eq-default}
 use lib.Seq.{getD-set-other}
 use borrow.Author.Tests.{leb-true, leb-false, lt-ltb, eqb-true, eqb-false, eq-eqb, ne-eqb, not-false}
-use Rattle.lists.specs.Lists.{if_then_else_, sum, count, oneIf, mapFrom, tab, any}
+use Rattle.lists.specs.Lists.{sum, count, tab}
 use Rattle.lists.specs.Adding.{most16, addAt}
-use Rattle.lists.proofs.Bools.{cases, or-left, and-left, and-right, lt-or-le}
+use Rattle.lists.proofs.Bools.{cases, or-left, lt-or-le}
 use Rattle.lists.proofs.Places.{getD-same}
 use Rattle.lists.proofs.Each.{Each, each-more, each-at, getD-mapFrom, length-mapFrom}
-use Rattle.lists.proofs.Passed.{Passed}
+use Rattle.lists.specs.Tests.{Passed}
 use Rattle.sets.specs.Set.{members}
 use Rattle.sets.proofs.Members.{members-each}
-use Rattle.auction.specs.Price.{zeroPrice, priceOk, priceLimit}
-use Rattle.machine.specs.Wire.{Head, Call, HEAD, POOL, MEMBER, ROUND, BID, CLOSE, ALLOCATE, TEAR, CALL, PAY, MOVE, MISS, FINISH}
-use Rattle.machine.specs.Roll.{Entry, Bid, noBid, withWon, openUnits, openIn, kind, passedTo, tornIf}
-use Rattle.machine.specs.State.{Case, newCase, inSet, memberList, letter, letterOf, roundOf}
+use Rattle.auction.specs.Price.{zeroPrice, priceLimit}
+use Rattle.machine.specs.Wire.{Head, Call, POOL, MEMBER, ROUND, BID, CLOSE, ALLOCATE, TEAR, CALL, PAY, MOVE, MISS, FINISH}
+use Rattle.machine.specs.Roll.{Bid, noBid, withWon, openUnits}
+use Rattle.machine.specs.State.{Case, newCase, letter, letterOf, roundOf}
 use Rattle.machine.specs.Requirement.{owes}
-use Rattle.machine.specs.Calls.{accepted, inAuction, sell, wonGiven, wonIn, bidsAfter, allocation, newBid}
+use Rattle.machine.specs.Calls.{accepted, inAuction, wonGiven, wonIn, bidsAfter, allocation, newBid}
 use Rattle.machine.specs.Calls.{afterPool, afterMember, afterRound, afterBid, afterClose, afterAllocate, afterTear, afterCall, afterPay, afterMove, afterMiss}
-use Rattle.machine.specs.Refusals.{tests, notInCase, notInSet, bidOk}
+use Rattle.machine.specs.Refusals.{tests, notInCase, notInSet}
 use Rattle.machine.proofs.Invariant.{BidOk, CaseOk}
 use Rattle.machine.proofs.RollChanges.{soldIs, soldTo}
 use Rattle.machine.proofs.Giving.{wonWhere}
@@ -37,17 +36,17 @@ use Rattle.machine.proofs.Bounds as B
 use Rattle.machine.proofs.Stages.{letter-is, letter-AC}
 use Rattle.machine.proofs.Later.{Settled, settled-refuses, allocate-settles}
 use Rattle.units.specs.declared.Units.{Units}
-use Rattle.units.specs.Places.{allocatedAt, soldAt, movedAt, tornAt, missedAt, missedMovedAt, unitAt, over}
+use Rattle.units.specs.Places.{allocatedAt, soldAt, movedAt, tornAt, missedAt, missedMovedAt, unitAt}
 use Rattle.units.specs.Steps.{zeroSum, noUnits, putUpUnits, sellUnits, allocateUnits, tearUnits, missedTo, missUnits}
 use Rattle.units.specs.Groups.{moveUnits, liveKeys}
 use Rattle.units.proofs.Places.{unit-open, unit-allocated, unit-sold, unit-moved, unit-torn, by-place}
 use Rattle.units.proofs.Weighing.{weigh-none}
 use Rattle.units.proofs.Over.{count-over}
-use Rattle.units.proofs.Tied.{Tied, inPool}
-use Rattle.units.proofs.Kept.{Kept, Lent, low-labels, count-at, open-shown, put-kept, sell-kept, allocate-kept, bids-kept, passed-from}
+use Rattle.units.proofs.Tied.{inPool}
+use Rattle.units.proofs.Kept.{Kept, Lent, low-labels, count-at, open-shown, put-kept, sell-kept, allocate-kept, bids-kept}
 use Rattle.units.proofs.Tears.{Free, tear-kept, miss-kept, torn-from, torn-less}
 use Rattle.units.proofs.Passing.{move-kept, over-length}
-use Rattle.units.proofs.History.{Begun, HadMove, History, Goes, call-goes, moved-refuses, move-marks, Grown, history-next, none-grown}
+use Rattle.units.proofs.History.{Begun, HadMove, History, call-goes, moved-refuses, move-marks, Grown, history-next, none-grown}
 use Rattle.units.proofs.Growth.{sold-less, shared-less, moved-less, missed-less, Cleared, cleared}
 
 -- the units are those of the case's roll

@@ -1,26 +1,24 @@
 -- What is read of the units is what the roll shows. Assumes nothing.
 use mathlib.Core.Path.{_≡_, refl, sym, ap, _∙_}
-use mathlib.Core.Bool.{Bool, true, false, _&&_, not, and-true, and-false, and-comm, false≢true}
-use mathlib.Core.Logic.{⊎-elim}
-use mathlib.Core.List.{List, [], _∷_, map}
-use Prim.Native.Nat.{ℕ, zero, suc, _+_, _*_, _%_, _≤_, _<_}
+use mathlib.Core.Bool.{Bool, true, false, _&&_, and-true, and-false, and-comm, false≢true}
+use mathlib.Core.List.{List, [], _∷_}
+use Prim.Native.Nat.{ℕ, zero, suc, _+_, _*_, _%_, _<_}
 use native.Mathlib.Nat.{mul-zero, mul-one}
 use native.Mathlib.Omega.{arith}
 use lib.Dec.{ltb, eqb}
 use lib.ListN.{length, getD}
-use borrow.Author.Tests.{lt-ltb, le-ltb, ltb-true, eqb-true, eqb-false, eq-eqb, ne-eqb}
-use Rattle.lists.specs.Lists.{if_then_else_, sum, sumTo, oneIf, count, any, keep, tab}
-use Rattle.lists.proofs.Bools.{cases, lt-or-le, eqb-same, same-choice}
-use Rattle.lists.proofs.Sums.{sumTo-ext, sumTo-zero, sumTo-add}
-use Rattle.lists.proofs.Counts.{any-count, count-none}
+use borrow.Author.Tests.{lt-ltb, eqb-true, eqb-false, eq-eqb, ne-eqb}
+use Rattle.lists.specs.Lists.{if_then_else_, sum, sumTo, oneIf, count, keep, tab}
+use Rattle.lists.proofs.Bools.{cases, eqb-same, same-choice}
+use Rattle.lists.proofs.Sums.{sumTo-ext, sumTo-zero}
+use Rattle.lists.proofs.Counts.{any-count}
 use Rattle.lists.proofs.Keep.{sumTo-one}
-use Rattle.lists.proofs.Each.{Each, each-more}
+use Rattle.lists.proofs.Each.{Each}
 use Rattle.auction.specs.Price.{zeroPrice}
 use Rattle.machine.specs.Roll.{UnitState, Open, Sold, Allocated, Moved, Torn, Entry, Bid, noBid, kind, isOpen, priceOf, heldBy, passedTo, anyOpen, prices}
 use Rattle.machine.specs.Run.{fiveCounts, holding}
 use Rattle.units.specs.declared.Units.{Units}
-use Rattle.units.specs.Places.{allocatedAt, soldAt, movedAt, unitAt, over, weigh}
-use Rattle.units.specs.Steps.{zeroSum}
+use Rattle.units.specs.Places.{allocatedAt, soldAt, movedAt, unitAt, over}
 use Rattle.units.specs.Shown.{column, soldIn, kindOf, countOf, soldFor, holdingOf, passedOf, zeroPrices, pricesOf}
 use Rattle.units.proofs.Places.{unit-open, unit-allocated, unit-sold, unit-moved, unit-torn, weigh-parts, sum-rows}
 use Rattle.units.proofs.Over.{count-over}

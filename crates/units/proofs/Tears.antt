@@ -2,27 +2,27 @@
 use mathlib.Core.Path.{_≡_, refl, sym, ap, _∙_}
 use mathlib.Core.Bool.{Bool, true, false, _&&_, and-true, and-false}
 use mathlib.Core.Logic.{⊎-elim}
-use mathlib.Core.List.{List, [], _∷_, map, map-map}
-use Prim.Native.Nat.{ℕ, zero, suc, _+_, _-_, _*_, _%_, _≤_, _<_, min}
+use mathlib.Core.List.{List, [], _∷_, map}
+use Prim.Native.Nat.{ℕ, zero, suc, _+_, _-_, _*_, _%_, _≤_, _<_}
 use native.Mathlib.Nat.{zero-mul}
 use native.Mathlib.Omega.{arith}
 use lib.Dec.{ltb, eqb}
 use lib.ListN.{length, getD, set, length-set}
 use lib.Seq.{getD-set-same, getD-set-other}
-use borrow.Author.Tests.{ltb-true, ltb-false, lt-ltb, le-ltb, eqb-true, eqb-false, eq-eqb, ne-eqb}
+use borrow.Author.Tests.{lt-ltb, le-ltb, eqb-true, eqb-false, eq-eqb, ne-eqb}
 use Rattle.lists.specs.Lists.{if_then_else_}
 use Rattle.lists.proofs.Bools.{cases, either, lt-or-le}
-use Rattle.lists.proofs.Each.{Each, each-more, set-cases, map-ext}
+use Rattle.lists.proofs.Each.{Each, set-cases}
 use Rattle.auction.specs.Price.{zeroPrice, priceLimit}
-use Rattle.machine.specs.Roll.{UnitState, Open, Sold, Allocated, Moved, Torn, Entry, Bid, noBid, withState, kind, isOpen, openIn, passedTo, priceOf, tornIf}
+use Rattle.machine.specs.Roll.{UnitState, Open, Sold, Allocated, Moved, Torn, Entry, Bid, openIn, passedTo, priceOf, tornIf}
 use Rattle.units.specs.declared.Units.{Units}
-use Rattle.units.specs.Places.{allocatedAt, soldAt, movedAt, tornAt, missedAt, missedMovedAt, unitAt, over, weigh, Counted}
+use Rattle.units.specs.Places.{allocatedAt, movedAt, tornAt, missedAt, missedMovedAt, unitAt}
 use Rattle.units.specs.Steps.{transferred, repriced, tornUp, tearUnits, missedTo, missUnits}
 use Rattle.units.proofs.Places.{unit-open, unit-allocated, unit-sold, unit-moved, unit-torn, by-place}
-use Rattle.units.proofs.Weighing.{weigh-point, each-entry}
+use Rattle.units.proofs.Weighing.{weigh-point}
 use Rattle.units.proofs.Over.{Swap, over-torn}
 use Rattle.units.proofs.Tied.{Tied, transfer-tied, relabelled}
-use Rattle.units.proofs.Kept.{unitOf, Kept, Low, low-labels, labels-low, open-alone, open-here, passed-from, passed-other, passed-less}
+use Rattle.units.proofs.Kept.{unitOf, Kept, low-labels, labels-low, open-alone, open-here, passed-from, passed-other, passed-less}
 
 -- ---- all units of a place torn up
 

@@ -1,24 +1,21 @@
 -- The counts and the sums of prices of a roll, and units that pass from one place to another. Assumes nothing.
-use mathlib.Core.Path.{_≡_, refl, sym, ap, _∙_}
-use mathlib.Core.Bool.{Bool, true, false}
-use mathlib.Core.Logic.{⊎-elim}
+use mathlib.Core.Path.{_≡_, sym, ap, _∙_}
 use mathlib.Core.List.{List}
 use Prim.Native.Nat.{ℕ, _+_, _-_, _*_, _≤_, _<_, min}
-use native.Mathlib.Nat.{mul-one, mul-zero, zero-mul, one-mul, mul-le-mul-left, min-eq-left}
+use native.Mathlib.Nat.{mul-one, min-eq-left}
 use native.Mathlib.Omega.{arith}
 use lib.Dec.{leb, eqb}
 use lib.ListN.{length, getD, set, length-set}
-use lib.Seq.{getD-set-same, getD-set-other, set-getD}
+use lib.Seq.{getD-set-same, getD-set-other}
 use borrow.Author.Tests.{leb-true, le-leb, eqb-true, eqb-false, eq-eqb, ne-eqb}
-use Rattle.lists.specs.Lists.{if_then_else_, sumTo, oneIf}
-use Rattle.lists.specs.Adding.{most16, most32, addAt}
-use Rattle.lists.proofs.Adding.{added}
+use Rattle.lists.specs.Lists.{if_then_else_, oneIf}
+use Rattle.lists.specs.Adding.{most32}
 use Rattle.lists.proofs.Bools.{cases}
 use Rattle.lists.proofs.Sums.{sum-scaled}
 use Rattle.lists.proofs.Each.{each-more}
 use Rattle.auction.specs.Price.{zeroPrice, priceLimit}
 use Rattle.machine.specs.Roll.{Entry, Bid, priceOf}
-use Rattle.units.specs.Places.{over, weigh, Counted}
+use Rattle.units.specs.Places.{over, Counted}
 use Rattle.units.specs.Steps.{zeroSum, transferred, repriced}
 use Rattle.units.proofs.Over.{Swap}
 use Rattle.units.proofs.Weighing.{length-transferred, weigh-transferred, weigh-ext, weigh-term, each-entry}

@@ -4,10 +4,6 @@ use Rattle.book.specs.Answers.{closeAnswer}
 use borrow.Author.Needs.{needs}
 use Rattle.book.proofs.close_answer.Statement.{statement}
 use Rattle.book.proofs.close_answer.Tie as tie
-use Rattle.book.proofs.close_answer.Reads as reads
-use Rattle.book.proofs.close_answer.Lts as lts
-use Rattle.book.proofs.letter.Reads as letter-reads
-use Rattle.lists.proofs.decline_if.Reads as decline-if-reads
 
 letter-requires : tie.Need-letter-requires
 letter-requires c κs = search needs

@@ -1,8 +1,6 @@
 -- `book::expected_ok` meets its contract. Assumes nothing.
 use Rattle.book.proofs.expected_ok.Statement.{statement}
 use Rattle.book.proofs.expected_ok.Tie as tie
-use Rattle.book.proofs.expected_ok.Reads as reads
-use Rattle.book.proofs.expected_ok.Lts as lts
 
 returns : tie.Need-returns
 returns c = rw (c .if1 .taken)

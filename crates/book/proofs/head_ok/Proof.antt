@@ -4,9 +4,6 @@ use Rattle.machine.specs.Refusals.{headOk}
 use borrow.Author.Needs.{needs}
 use Rattle.book.proofs.head_ok.Statement.{statement}
 use Rattle.book.proofs.head_ok.Tie as tie
-use Rattle.book.proofs.head_ok.Reads as reads
-use Rattle.book.proofs.head_ok.Lts as lts
-use Rattle.lists.proofs.both.Reads as both-reads
 
 both-requires : tie.Need-both-requires
 both-requires c κs = search needs

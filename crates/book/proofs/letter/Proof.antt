@@ -3,8 +3,6 @@ use Rattle.machine.specs.State.{letter}
 use borrow.Author.Needs.{needs}
 use Rattle.book.proofs.letter.Statement.{statement}
 use Rattle.book.proofs.letter.Tie as tie
-use Rattle.book.proofs.letter.Reads as reads
-use Rattle.book.proofs.letter.Lts as lts
 
 enum-told : tie.Need-enum-told
 enum-told c = search needs

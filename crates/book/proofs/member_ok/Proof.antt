@@ -3,10 +3,6 @@ use Rattle.book.proofs.Ranges.{member-tested}
 use borrow.Author.Needs.{needs}
 use Rattle.book.proofs.member_ok.Statement.{statement}
 use Rattle.book.proofs.member_ok.Tie as tie
-use Rattle.book.proofs.member_ok.Reads as reads
-use Rattle.book.proofs.member_ok.Lts as lts
-use Rattle.book.proofs.expected_ok.Reads as expected-ok-reads
-use Rattle.lists.proofs.both.Reads as both-reads
 
 expected-ok-requires : tie.Need-expected-ok-requires
 expected-ok-requires c κs = search needs

@@ -4,8 +4,6 @@ use Rattle.book.specs.Stages.{nextRound}
 use borrow.Author.Needs.{needs}
 use Rattle.book.proofs.next_round.Statement.{statement}
 use Rattle.book.proofs.next_round.Tie as tie
-use Rattle.book.proofs.next_round.Reads as reads
-use Rattle.book.proofs.next_round.Lts as lts
 
 add-result : tie.Need-add-result
 add-result c = search needs

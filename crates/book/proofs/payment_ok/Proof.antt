@@ -3,9 +3,6 @@ use Rattle.machine.specs.Refusals.{paymentOk}
 use borrow.Author.Needs.{needs}
 use Rattle.book.proofs.payment_ok.Statement.{statement}
 use Rattle.book.proofs.payment_ok.Tie as tie
-use Rattle.book.proofs.payment_ok.Reads as reads
-use Rattle.book.proofs.payment_ok.Lts as lts
-use Rattle.lists.proofs.both.Reads as both-reads
 
 both-requires : tie.Need-both-requires
 both-requires c κs = search needs

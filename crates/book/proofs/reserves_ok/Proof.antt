@@ -3,11 +3,6 @@ use Rattle.book.proofs.Ranges.{reserves-tested}
 use borrow.Author.Needs.{needs}
 use Rattle.book.proofs.reserves_ok.Statement.{statement}
 use Rattle.book.proofs.reserves_ok.Tie as tie
-use Rattle.book.proofs.reserves_ok.Reads as reads
-use Rattle.book.proofs.reserves_ok.Lts as lts
-use Rattle.book.proofs.price_ok.Reads as price-ok-reads
-use Rattle.lists.proofs.both.Reads as both-reads
-use Rattle.lists.proofs.either.Reads as either-reads
 
 price-ok-requires : tie.Need-price-ok-requires
 price-ok-requires c κs = search needs

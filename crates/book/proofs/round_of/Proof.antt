@@ -3,8 +3,6 @@ use Rattle.machine.specs.State.{roundOf}
 use borrow.Author.Needs.{needs}
 use Rattle.book.proofs.round_of.Statement.{statement}
 use Rattle.book.proofs.round_of.Tie as tie
-use Rattle.book.proofs.round_of.Reads as reads
-use Rattle.book.proofs.round_of.Lts as lts
 
 enum-told : tie.Need-enum-told
 enum-told c = search needs

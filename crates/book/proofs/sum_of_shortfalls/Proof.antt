@@ -9,8 +9,6 @@ use Rattle.lists.proofs.Sums.{sumTo-none, sumTo-next, sum-places}
 use borrow.Author.Needs.{needs}
 use Rattle.book.proofs.sum_of_shortfalls.Statement.{statement}
 use Rattle.book.proofs.sum_of_shortfalls.Tie as tie
-use Rattle.book.proofs.sum_of_shortfalls.Reads as reads
-use Rattle.book.proofs.sum_of_shortfalls.Lts as lts
 
 abbrev Inv-loop : tie.InvT-loop
 Inv-loop xs total₀ m₀ total m = (m ≤ 32) × (total ≡ sumTo m (λ k. getD xs k 0)) × (total ≤ most16 * m)

@@ -2,10 +2,6 @@
 use borrow.Author.Needs.{needs}
 use Rattle.book.proofs.total_shortfall.Statement.{statement}
 use Rattle.book.proofs.total_shortfall.Tie as tie
-use Rattle.book.proofs.total_shortfall.Reads as reads
-use Rattle.book.proofs.total_shortfall.Lts as lts
-use Rattle.accounts.proofs.members.shortfalls.Reads as shortfalls-reads
-use Rattle.book.proofs.sum_of_shortfalls.Reads as sum-of-shortfalls-reads
 
 shortfalls-requires : tie.Need-shortfalls-requires
 shortfalls-requires c κs = search needs

@@ -8,22 +8,6 @@ use Rattle.case.proofs.Outcomes.{handed, round-later}
 use borrow.Author.Needs.{needs}
 use Rattle.case.proofs.after.Statement.{statement}
 use Rattle.case.proofs.after.Tie as tie
-use Rattle.case.proofs.after.Reads as reads
-use Rattle.case.proofs.after.Lts as lts
-use Rattle.case.proofs.Case.allocate.Reads as allocate-reads
-use Rattle.case.proofs.Case.bid.Reads as bid-reads
-use Rattle.case.proofs.Case.call.Reads as call-reads
-use Rattle.case.proofs.Case.close.Reads as close-reads
-use Rattle.case.proofs.Case.finish.Reads as finish-reads
-use Rattle.case.proofs.Case.member.Reads as member-reads
-use Rattle.case.proofs.Case.miss.Reads as miss-reads
-use Rattle.case.proofs.Case.move_units.Reads as move-units-reads
-use Rattle.case.proofs.Case.new.Reads as new-reads
-use Rattle.case.proofs.Case.pay.Reads as pay-reads
-use Rattle.case.proofs.Case.pool.Reads as pool-reads
-use Rattle.case.proofs.Case.round.Reads as round-reads
-use Rattle.case.proofs.Case.tear.Reads as tear-reads
-use Rattle.case.proofs.case_of.Reads as case-of-reads
 
 enum-known-call : tie.Need-enum-known-call
 enum-known-call c = search needs

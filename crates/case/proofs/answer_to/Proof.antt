@@ -3,10 +3,6 @@ use Rattle.case.specs.Cases.{answerTo}
 use borrow.Author.Needs.{needs}
 use Rattle.case.proofs.answer_to.Statement.{statement}
 use Rattle.case.proofs.answer_to.Tie as tie
-use Rattle.case.proofs.answer_to.Reads as reads
-use Rattle.case.proofs.answer_to.Lts as lts
-use Rattle.case.proofs.answer_in.Reads as answer-in-reads
-use Rattle.case.proofs.first_answer.Reads as first-answer-reads
 
 answer-in-requires : tie.Need-answer-in-requires
 answer-in-requires c κs = search needs

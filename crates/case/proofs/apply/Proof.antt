@@ -4,10 +4,6 @@ use Rattle.case.specs.Cases.{takeAsked, applied}
 use borrow.Author.Needs.{needs}
 use Rattle.case.proofs.apply.Statement.{statement}
 use Rattle.case.proofs.apply.Tie as tie
-use Rattle.case.proofs.apply.Reads as reads
-use Rattle.case.proofs.apply.Lts as lts
-use Rattle.case.proofs.take.Reads as take-reads
-use Rattle.wire.proofs.read_call.Reads as read-call-reads
 
 read-call-requires : tie.Need-read-call-requires
 read-call-requires c κs = search needs

@@ -1,8 +1,7 @@
 -- `case::cut` meets its contract. The invariant is `Cutting`; its laws begin, keep and end it. Assumes nothing.
-use mathlib.Core.Path.{_≡_, refl, sym, ap, _∙_}
+use mathlib.Core.Path.{_≡_, refl, ap, _∙_}
 use mathlib.Core.Logic.{inl, inr}
-use mathlib.Core.List.{List}
-use Prim.Native.Nat.{ℕ, _+_, _-_, _≤_, min}
+use Prim.Native.Nat.{_-_, min}
 use native.Mathlib.Omega.{arith}
 use lib.ListN.{length, drop, length-drop}
 use denote.Ref.{now}
@@ -11,10 +10,6 @@ use Rattle.case.proofs.Fronts.{front-most, Cutting, cutting-starts, cut
 use borrow.Author.Needs.{needs}
 use Rattle.case.proofs.cut.Statement.{statement}
 use Rattle.case.proofs.cut.Tie as tie
-use Rattle.case.proofs.cut.Reads as reads
-use Rattle.case.proofs.cut.Lts as lts
-use Rattle.case.proofs.front_size.Reads as front-size-reads
-use Rattle.case.proofs.least.Reads as least-reads
 
 abbrev Inv-loop : tie.InvT-loop
 Inv-loop last input room ends₀ most at₀ k₀ ends at k = (most ≡ min room (length ends₀)) × Cutting last input most ends₀ ends at k

@@ -2,8 +2,6 @@
 use Rattle.case.proofs.Strings.{cut-below, cut-inside, cut-past}
 use Rattle.case.proofs.cut_at.Statement.{statement}
 use Rattle.case.proofs.cut_at.Tie as tie
-use Rattle.case.proofs.cut_at.Reads as reads
-use Rattle.case.proofs.cut_at.Lts as lts
 
 returns : tie.Need-returns
 returns c = cut-below _ _ _ (c .if1 .taken)

@@ -5,8 +5,6 @@ use Rattle.case.proofs.Signed.{minus-is, minus-fits}
 use borrow.Author.Needs.{needs}
 use Rattle.case.proofs.difference.Statement.{statement}
 use Rattle.case.proofs.difference.Tie as tie
-use Rattle.case.proofs.difference.Reads as reads
-use Rattle.case.proofs.difference.Lts as lts
 
 cast-result : tie.Need-cast-result
 cast-result c = search needs

@@ -1,4 +1,3 @@
-use mathlib.Core.Path.{_∙_}
 -- `case::first_answer` meets its contract. Assumes nothing.
 use Rattle.wire.specs.Asked.{asked}
 use Rattle.case.specs.Cases.{firstAnswer, firstAnswerTo}
@@ -6,11 +5,6 @@ use Rattle.case.proofs.Outcomes.{round-first}
 use borrow.Author.Needs.{needs}
 use Rattle.case.proofs.first_answer.Statement.{statement}
 use Rattle.case.proofs.first_answer.Tie as tie
-use Rattle.case.proofs.first_answer.Reads as reads
-use Rattle.case.proofs.first_answer.Lts as lts
-use Rattle.book.proofs.head_answer.Reads as head-answer-reads
-use Rattle.lists.proofs.both.Reads as both-reads
-use Rattle.lists.proofs.decline_if.Reads as decline-if-reads
 
 enum-known-call : tie.Need-enum-known-call
 enum-known-call c = search needs

@@ -1,15 +1,10 @@
 -- `case::front_size` meets its contract. Assumes nothing.
 use mathlib.Core.Path.{_∙_}
 use native.Mathlib.Omega.{arith}
-use denote.Ref.{now}
 use Rattle.case.proofs.Fields.{front-short, front-cut, front-whole}
 use borrow.Author.Needs.{needs}
 use Rattle.case.proofs.front_size.Statement.{statement}
 use Rattle.case.proofs.front_size.Tie as tie
-use Rattle.case.proofs.front_size.Reads as reads
-use Rattle.case.proofs.front_size.Lts as lts
-use Rattle.case.proofs.all_if.Reads as all-if-reads
-use Rattle.case.proofs.wide.Reads as wide-reads
 
 all-if-requires : tie.Need-all-if-requires
 all-if-requires c κs = search needs

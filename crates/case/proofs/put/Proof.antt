@@ -4,8 +4,6 @@ use lib.Seq.{set-out}
 use borrow.Author.Needs.{needs}
 use Rattle.case.proofs.put.Statement.{statement}
 use Rattle.case.proofs.put.Tie as tie
-use Rattle.case.proofs.put.Reads as reads
-use Rattle.case.proofs.put.Lts as lts
 
 slice-write-answers : tie.Need-slice-write-answers
 slice-write-answers c = search needs

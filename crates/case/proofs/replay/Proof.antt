@@ -10,13 +10,6 @@ use Rattle.case.proofs.Replaying.{Going, starts, goes, replays}
 use borrow.Author.Needs.{needs}
 use Rattle.case.proofs.replay.Statement.{statement}
 use Rattle.case.proofs.replay.Tie as tie
-use Rattle.case.proofs.replay.Reads as reads
-use Rattle.case.proofs.replay.Lts as lts
-use Rattle.case.proofs.after.Reads as after-reads
-use Rattle.case.proofs.answer_to.Reads as answer-to-reads
-use Rattle.case.proofs.cut_at.Reads as cut-at-reads
-use Rattle.case.proofs.put.Reads as put-reads
-use Rattle.wire.proofs.read_call.Reads as read-call-reads
 
 abbrev Inv-loop : tie.InvT-loop
 Inv-loop bytes ends answers₀ present₀ case₀ at₀ k₀ answers present case at k = Going (record { present = present₀; case = case₀ }) bytes ends answers₀ answers (record { present = present; case = case }) at k

@@ -2,8 +2,6 @@
 use borrow.Author.Tests.{lt-ltb, le-ltb}
 use Rattle.case.proofs.reserve_if.Statement.{statement}
 use Rattle.case.proofs.reserve_if.Tie as tie
-use Rattle.case.proofs.reserve_if.Reads as reads
-use Rattle.case.proofs.reserve_if.Lts as lts
 
 returns : tie.Need-returns
 returns c = rw (lt-ltb _ _ (c .if1 .taken))

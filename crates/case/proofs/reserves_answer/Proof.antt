@@ -4,11 +4,6 @@ use Rattle.case.specs.Cases.{reservesAnswer}
 use borrow.Author.Needs.{needs}
 use Rattle.case.proofs.reserves_answer.Statement.{statement}
 use Rattle.case.proofs.reserves_answer.Tie as tie
-use Rattle.case.proofs.reserves_answer.Reads as reads
-use Rattle.case.proofs.reserves_answer.Lts as lts
-use Rattle.book.proofs.Book.round_answer.Reads as round-answer-reads
-use Rattle.case.proofs.reserve_if.Reads as reserve-if-reads
-use Rattle.lists.proofs.both.Reads as both-reads
 
 both-requires : tie.Need-both-requires
 both-requires c κs = search needs
@@ -31,12 +26,12 @@ round-answer-requires c κs = search needs
 returns : tie.Need-returns
 unfolding reservesAnswer
 returns c = let e = sym (c .before .before .before .before .before .before .before .both .ensures) ∙ c .before .before .before .before .before .before .if1 .taken in rw e (simp (
-      c .round-answer .ensures,
-      c .before .reserve-if4 .ensures,
-      c .before .before .reserve-if3 .ensures,
-      c .before .before .before .reserve-if2 .ensures,
-      c .before .before .before .before .reserve-if .ensures,
-    ))
+  c .round-answer .ensures,
+  c .before .reserve-if4 .ensures,
+  c .before .before .reserve-if3 .ensures,
+  c .before .before .before .reserve-if2 .ensures,
+  c .before .before .before .before .reserve-if .ensures,
+))
 
 returns-2 : tie.Need-returns-2
 unfolding reservesAnswer

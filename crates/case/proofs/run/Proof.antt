@@ -10,10 +10,6 @@ use Rattle.case.proofs.Claim.{runs}
 use borrow.Author.Needs.{needs}
 use Rattle.case.proofs.run.Statement.{statement}
 use Rattle.case.proofs.run.Tie as tie
-use Rattle.case.proofs.run.Reads as reads
-use Rattle.case.proofs.run.Lts as lts
-use Rattle.case.proofs.Held.none.Reads as none-reads
-use Rattle.case.proofs.take_fields.Reads as take-fields-reads
 
 abbrev Inv-loop : tie.InvT-loop
 Inv-loop input answers₀ held₀ ends₀ at₀ count₀ answers held ends at count = Going input answers₀ answers held at count × (length ends ≡ 256)

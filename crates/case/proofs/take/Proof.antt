@@ -4,10 +4,6 @@ use Rattle.case.proofs.Outcomes.{take-declined, take-accepted}
 use borrow.Author.Needs.{needs}
 use Rattle.case.proofs.take.Statement.{statement}
 use Rattle.case.proofs.take.Tie as tie
-use Rattle.case.proofs.take.Reads as reads
-use Rattle.case.proofs.take.Lts as lts
-use Rattle.case.proofs.after.Reads as after-reads
-use Rattle.case.proofs.answer_to.Reads as answer-to-reads
 
 answer-to-requires : tie.Need-answer-to-requires
 answer-to-requires c κs = search needs

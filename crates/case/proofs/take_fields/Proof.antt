@@ -1,17 +1,13 @@
 -- `case::take_fields` meets its contract. Assumes nothing.
-use mathlib.Core.Path.{refl, ap, _∙_}
+use mathlib.Core.Path.{refl}
 use Prim.Native.Nat.{_≤_}
 use native.Mathlib.Omega.{arith}
-use lib.ListN.{length, length-drop}
+use lib.ListN.{length}
 use denote.Ref.{now}
 use Rattle.case.proofs.Fronts.{ends-few, taken-none, taken-some}
 use borrow.Author.Needs.{needs}
 use Rattle.case.proofs.take_fields.Statement.{statement}
 use Rattle.case.proofs.take_fields.Tie as tie
-use Rattle.case.proofs.take_fields.Reads as reads
-use Rattle.case.proofs.take_fields.Lts as lts
-use Rattle.case.proofs.cut.Reads as cut-reads
-use Rattle.case.proofs.replay.Reads as replay-reads
 
 -- as many ends as were asked for at most
 few : (c : tie.After-cut) → c .cut .result ≤ length (c .cut .last .1 .1 .1 .0)

@@ -31,7 +31,7 @@ returns : tie.Need-returns
 unfolding applied
 returns c =
     ap (λ (x : Applied). x .held)
-    (c .before .before .before .before .before .before .before .before .before .before .before .before .before .before .before .before .before .before .before .before .before .take .ensures ∙ ap (takeAsked (c .before .before .before .before .before .before .before .before .before .before .before .before .before .before .before .before .before .before .before .before .before .before .before .before .before .args .held)) (c .before .before .before .before .before .before .before .before .before .before .before .before .before .before .before .before .before .before .before .before .before .before .read-call .ensures))
+    (c .before .before .before .before .before .before .before .before .before .before .before .before .before .before .before .before .before .take .ensures ∙ ap (takeAsked (c .before .before .before .before .before .before .before .before .before .before .before .before .before .before .before .before .before .before .before .before .before .args .held)) (c .before .before .before .before .before .before .before .before .before .before .before .before .before .before .before .before .before .before .read-call .ensures))
 
 pub take-field-spec : {M : Type 1} → statement M
 take-field-spec =

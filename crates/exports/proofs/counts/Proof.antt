@@ -5,14 +5,14 @@ use native.Mathlib.Omega.{arith}
 use lib.ListN.{length, getD, length-set}
 use borrow.Author.Count.{below-none}
 use Rattle.lists.proofs.Places.{filled-next, tab-of}
-use Rattle.roll.specs.Rolls.{countOf}
+use Rattle.units.specs.Shown.{countOf}
 use Rattle.exports.specs.Showing.{countTable}
 use borrow.Author.Needs.{needs}
 use Rattle.exports.proofs.counts.Statement.{statement}
 use Rattle.exports.proofs.counts.Tie as tie
 
 abbrev Inv-loop : tie.InvT-loop
-Inv-loop case out₀ k₀ out k = (k ≤ 20) × (length out ≡ 20) × ((i : ℕ) → i < k → getD out i 0 ≡ countOf (case .roll) (i / 5) (i % 5))
+Inv-loop case out₀ k₀ out k = (k ≤ 20) × (length out ≡ 20) × ((i : ℕ) → i < k → getD out i 0 ≡ countOf (case .book .units) (case .book .bids .pool) (i / 5) (i % 5))
 
 abbrev μ-loop : tie.MeasureT-loop
 μ-loop case out₀ k₀ out k = 20 - k

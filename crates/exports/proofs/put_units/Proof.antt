@@ -1,5 +1,6 @@
 -- `exports::put_units` meets its contract. A store past the end changes nothing. Assumes nothing.
-use Rattle.exports.proofs.Strings.{set-past}
+use mathlib.Core.Path.{sym}
+use lib.Seq.{set-out}
 use borrow.Author.Needs.{needs}
 use borrow.Author.Needs.{needs}
 use Rattle.exports.proofs.put_units.Statement.{statement}
@@ -18,7 +19,7 @@ returns : tie.Need-returns
 returns c = search needs
 
 returns-2 : tie.Need-returns-2
-returns-2 c = set-past _ _ _ (c .if1 .left)
+returns-2 c = sym (set-out _ _ _ (c .if1 .left))
 
 pub put-units-spec : {M : Type 1} → statement M
 put-units-spec = tie.close (tie.spec mul-units slice-write-units same-length returns returns-2)

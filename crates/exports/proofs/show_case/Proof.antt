@@ -1,4 +1,7 @@
 -- `exports::show_case` meets its contract. The sum of prices goes by its 64 bits. Assumes nothing.
+use mathlib.Core.Path.{subst}
+use mir.Syntax.{w64}
+use mir.Val.{SFits}
 use Rattle.exports.proofs.Prices.{with-prices, read-back}
 use borrow.Author.Needs.{needs}
 use Rattle.exports.proofs.show_case.Statement.{statement}
@@ -40,7 +43,8 @@ returns c =
       c .before .before .sum-of-prices .ensures,
       c .before .requirement .ensures,
       c .prefunded .ensures,
-    ) (read-back (c .before .before .before .before .before .before .before .before .before .before .before .before .before .before .args .case))
+    ) (read-back (c .before .before .before .before .before .before .before .before .before .before .before .before .before .before .args .case)
+    (subst (SFits w64) (c .before .before .sum-of-prices .ensures) (record { sfits = c .before .before .sum-of-prices .ok })))
 
 pub show-case-spec : {M : Type 1} → statement M
 show-case-spec =

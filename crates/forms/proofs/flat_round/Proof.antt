@@ -4,11 +4,6 @@ use Rattle.forms.specs.Forms.{flatRound}
 use borrow.Author.Needs.{needs}
 use Rattle.forms.proofs.flat_round.Statement.{statement}
 use Rattle.forms.proofs.flat_round.Tie as tie
-use Rattle.forms.proofs.flat_round.Reads as reads
-use Rattle.forms.proofs.flat_round.Lts as lts
-use Rattle.forms.proofs.flat_of.Reads as flat-of-reads
-use Rattle.forms.proofs.place.Reads as place-reads
-use Rattle.lists.proofs.both.Reads as both-reads
 
 both-requires : tie.Need-both-requires
 both-requires c κs = search needs

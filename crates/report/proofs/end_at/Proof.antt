@@ -4,8 +4,6 @@ use Rattle.report.proofs.Lines.{past}
 use borrow.Author.Needs.{needs}
 use Rattle.report.proofs.end_at.Statement.{statement}
 use Rattle.report.proofs.end_at.Tie as tie
-use Rattle.report.proofs.end_at.Reads as reads
-use Rattle.report.proofs.end_at.Lts as lts
 
 mul-result : tie.Need-mul-result
 mul-result c = search needs

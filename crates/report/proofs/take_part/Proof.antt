@@ -10,10 +10,6 @@ use Rattle.report.proofs.Taking.{Taking, starts, lent, goes, used-withi
 use borrow.Author.Needs.{needs}
 use Rattle.report.proofs.take_part.Statement.{statement}
 use Rattle.report.proofs.take_part.Tie as tie
-use Rattle.report.proofs.take_part.Reads as reads
-use Rattle.report.proofs.take_part.Lts as lts
-use Rattle.case.proofs.take_fields.Reads as take-fields-reads
-use Rattle.report.proofs.write_answers.Reads as write-answers-reads
 
 abbrev Inv-loop : tie.InvT-loop
 Inv-loop input out₀ next₀ used₀ written₀ ends₀ answers₀ out next used written ends answers = Taking next₀ input out₀ out next used written × (length ends ≡ 256) × (length answers ≡ 256)
@@ -66,8 +62,7 @@ loop-less c = let l = c .before .before .before .before .before .before .before 
 
 loop-again : tie.Need-loop-again Inv-loop μ-loop
 loop-again c =
-    let l = c .before .before .before .before .before .before .before .before .before .before .before .before .before .before .before .before .loop in
-    (
+    let l = c .before .before .before .before .before .before .before .before .before .before .before .before .before .before .before .before .loop in (
       goes _ _ _ _ _ _ _ (l .inv .0) (bytes (c .before .before .before .before .before .before .before .before .before .before .before .before .before .before .before .before .before .before .before)) _ _ _ _ _ (lent _ (now (c .before .before .before .before .before .before .before .before .before .before .before .before .before .before .before .before .before .before .before .before .args .input)) (l .used) _ _ _ _ _ _ (c .before .before .before .before .before .before .before .before .before .before .before .take-fields .ensures)) _ _ (c .before .before .before .before .write-answers .ensures),
       c .before .before .before .before .before .before .before .before .before .before .before .take-fields .kept .1 .1 .1 .0 ∙ l .inv .1,
       c .before .before .before .before .before .before .before .before .before .before .before .take-fields .kept .1 .1 .1 .1 .0 ∙ l .inv .2,

@@ -14,11 +14,6 @@ use Rattle.report.proofs.Placing.{tabFrom, from-start, from-next, from-
 use borrow.Author.Needs.{needs}
 use Rattle.report.proofs.write_answers.Statement.{statement}
 use Rattle.report.proofs.write_answers.Tie as tie
-use Rattle.report.proofs.write_answers.Reads as reads
-use Rattle.report.proofs.write_answers.Lts as lts
-use Rattle.report.proofs.byte_at.Reads as byte-at-reads
-use Rattle.report.proofs.end_at.Reads as end-at-reads
-use Rattle.report.proofs.write_answer.Reads as write-answer-reads
 
 abbrev Inv-loop : tie.InvT-loop
 Inv-loop input ends answers n out₀ at to₀ start₀ k₀ out to start k = (k ≤ n) × (start ≡ startOf ends k) × (length out ≡ length out₀) × (placedLines (tabFrom k n (answerLine input ends answers)) out to ≡ placedLines (tab n (answerLine input ends answers)) out₀ at)
@@ -53,8 +48,7 @@ loop-again c =
     let a = c .before .before .before .before .before .before .before .before .before .before .before .before .before .args in
     let l = c .before .before .before .before .before .before .before .before .loop in
     let f = answerLine (now (a .input)) (now (a .ends)) (now (a .answers)) in
-    let line : sLine (c .before .before .before .before .before .before .byte-at .result ∷ []) (c .before .before .before .before .before .byte-at2 .result) ≡ f (l .k) = rw (c .before .before .before .before .before .before .byte-at .ensures, c .before .before .before .before .before .byte-at2 .ensures, l .inv .1) in
-    (
+    let line : sLine (c .before .before .before .before .before .before .byte-at .result ∷ []) (c .before .before .before .before .before .byte-at2 .result) ≡ f (l .k) = rw (c .before .before .before .before .before .before .byte-at .ensures, c .before .before .before .before .before .byte-at2 .ensures, l .inv .1) in (
       search needs,
       rw (add-one (l .k)) (c .end-at .ensures),
       c .before .before .before .write-answer .kept .1 .1 .0 ∙ l .inv .2,

@@ -9,10 +9,6 @@ use Rattle.report.proofs.Lines.{held-some, held-none}
 use borrow.Author.Needs.{needs}
 use Rattle.report.proofs.write_end.Statement.{statement}
 use Rattle.report.proofs.write_end.Tie as tie
-use Rattle.report.proofs.write_end.Reads as reads
-use Rattle.report.proofs.write_end.Lts as lts
-use Rattle.report.proofs.write_finish.Reads as write-finish-reads
-use Rattle.report.proofs.write_pools.Reads as write-pools-reads
 
 write-pools-requires : tie.Need-write-pools-requires
 write-pools-requires c κs = search needs

@@ -8,11 +8,6 @@ use Rattle.report.proofs.Lines.{not-finished, finished}
 use borrow.Author.Needs.{needs}
 use Rattle.report.proofs.write_finish.Statement.{statement}
 use Rattle.report.proofs.write_finish.Tie as tie
-use Rattle.report.proofs.write_finish.Reads as reads
-use Rattle.report.proofs.write_finish.Lts as lts
-use Rattle.book.proofs.Book.result.Reads as result-reads
-use Rattle.book.proofs.letter.Reads as letter-reads
-use Rattle.report.proofs.write_result.Reads as write-result-reads
 
 letter-requires : tie.Need-letter-requires
 letter-requires c κs = search needs

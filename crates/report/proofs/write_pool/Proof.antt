@@ -6,10 +6,6 @@ use Rattle.report.proofs.Lines.{p-line}
 use borrow.Author.Needs.{needs}
 use Rattle.report.proofs.write_pool.Statement.{statement}
 use Rattle.report.proofs.write_pool.Tie as tie
-use Rattle.report.proofs.write_pool.Reads as reads
-use Rattle.report.proofs.write_pool.Lts as lts
-use Rattle.case.proofs.Case.count.Reads as count-reads
-use Rattle.lines.proofs.write_line.Reads as write-line-reads
 
 count-requires : tie.Need-count-requires
 count-requires c κs = search needs

@@ -12,9 +12,6 @@ use Rattle.units.specs.Shown.{column}
 use borrow.Author.Needs.{needs}
 use Rattle.units.proofs.column_of.Statement.{statement}
 use Rattle.units.proofs.column_of.Tie as tie
-use Rattle.units.proofs.column_of.Reads as reads
-use Rattle.units.proofs.column_of.Lts as lts
-use Rattle.lists.proofs.wide16.Reads as wide16-reads
 
 abbrev Inv-loop : tie.InvT-loop
 Inv-loop counts first n sum₀ r₀ sum r = (r ≤ n) × (sum ≡ sumTo r (λ k. getD counts (first + 4 * k) 0)) × (sum ≤ r * most16)

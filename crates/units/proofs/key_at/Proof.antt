@@ -5,10 +5,6 @@ use Rattle.units.specs.Groups.{keyAt}
 use borrow.Author.Needs.{needs}
 use Rattle.units.proofs.key_at.Statement.{statement}
 use Rattle.units.proofs.key_at.Tie as tie
-use Rattle.units.proofs.key_at.Reads as reads
-use Rattle.units.proofs.key_at.Lts as lts
-use Rattle.units.proofs.allocated_key.Reads as allocated-key-reads
-use Rattle.units.proofs.sold_key.Reads as sold-key-reads
 
 mul-allocated-key : tie.Need-mul-allocated-key
 mul-allocated-key c = search needs

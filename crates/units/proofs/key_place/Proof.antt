@@ -5,10 +5,6 @@ use Rattle.units.specs.Groups.{keyPlace}
 use borrow.Author.Needs.{needs}
 use Rattle.units.proofs.key_place.Statement.{statement}
 use Rattle.units.proofs.key_place.Tie as tie
-use Rattle.units.proofs.key_place.Reads as reads
-use Rattle.units.proofs.key_place.Lts as lts
-use Rattle.lists.proofs.less.Reads as less-reads
-use Rattle.lists.proofs.wide32.Reads as wide32-reads
 
 wide32-requires : tie.Need-wide32-requires
 wide32-requires c κs = search needs

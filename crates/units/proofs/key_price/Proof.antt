@@ -4,8 +4,6 @@ use mathlib.Core.Path.{refl}
 use Rattle.units.specs.Groups.{keyPrice}
 use Rattle.units.proofs.key_price.Statement.{statement}
 use Rattle.units.proofs.key_price.Tie as tie
-use Rattle.units.proofs.key_price.Reads as reads
-use Rattle.units.proofs.key_price.Lts as lts
 
 returns : tie.Need-returns
 unfolding keyPrice

@@ -1,20 +1,14 @@
 use Rattle.units.proofs.Leasts.{least-step}
-use mathlib.Core.Path.{ap}
-use mathlib.Core.List.{List}
-use Prim.Native.Nat.{ℕ}
 -- `units::least_key` meets its contract. The invariant: the least so far is that of the keys from j on. Assumes nothing.
-use mathlib.Core.Path.{_≡_, sym, _∙_}
-use Prim.Native.Nat.{_≤_, _-_, suc}
+use mathlib.Core.Path.{_≡_, _∙_}
+use Prim.Native.Nat.{_≤_}
 use native.Mathlib.Omega.{arith}
 use lib.ListN.{length, drop}
-use lib.Seq.{drop-cons, drop-length}
+use lib.Seq.{drop-length}
 use Rattle.units.specs.Groups.{leastKey}
 use borrow.Author.Needs.{needs}
 use Rattle.units.proofs.least_key.Statement.{statement}
 use Rattle.units.proofs.least_key.Tie as tie
-use Rattle.units.proofs.least_key.Reads as reads
-use Rattle.units.proofs.least_key.Lts as lts
-use Rattle.units.proofs.lower.Reads as lower-reads
 
 abbrev Inv-loop : tie.InvT-loop
 Inv-loop keys least₀ j₀ least j = (j ≤ length keys) × (least ≡ leastKey (drop j keys))

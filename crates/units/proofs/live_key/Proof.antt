@@ -2,8 +2,6 @@
 use borrow.Author.Tests.{eq-eqb, ne-eqb}
 use Rattle.units.proofs.live_key.Statement.{statement}
 use Rattle.units.proofs.live_key.Tie as tie
-use Rattle.units.proofs.live_key.Reads as reads
-use Rattle.units.proofs.live_key.Lts as lts
 
 returns : tie.Need-returns
 returns c = rw (eq-eqb _ _ (c .if1 .taken))

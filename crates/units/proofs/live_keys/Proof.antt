@@ -9,10 +9,6 @@ use Rattle.units.specs.Groups.{keyAt, liveKey, liveKeys}
 use borrow.Author.Needs.{needs}
 use Rattle.units.proofs.live_keys.Statement.{statement}
 use Rattle.units.proofs.live_keys.Tie as tie
-use Rattle.units.proofs.live_keys.Reads as reads
-use Rattle.units.proofs.live_keys.Lts as lts
-use Rattle.units.proofs.key_at.Reads as key-at-reads
-use Rattle.units.proofs.live_key.Reads as live-key-reads
 
 abbrev Inv-loop : tie.InvT-loop
 Inv-loop counts allocation prices keys₀ j₀ keys j = (j ≤ 384) × (length keys ≡ 384) × ((k : ℕ) → k < j → getD keys k 0 ≡ liveKey (getD counts (4 + k) 0) (keyAt allocation prices k))

@@ -2,9 +2,6 @@
 use borrow.Author.Needs.{needs}
 use Rattle.units.proofs.missed_in.Statement.{statement}
 use Rattle.units.proofs.missed_in.Tie as tie
-use Rattle.units.proofs.missed_in.Reads as reads
-use Rattle.units.proofs.missed_in.Lts as lts
-use Rattle.units.proofs.torn_up.Reads as torn-up-reads
 
 mul-k : tie.Need-mul-k
 mul-k c = search needs

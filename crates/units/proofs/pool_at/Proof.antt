@@ -5,9 +5,6 @@ use Rattle.units.specs.Groups.{poolAt}
 use borrow.Author.Needs.{needs}
 use Rattle.units.proofs.pool_at.Statement.{statement}
 use Rattle.units.proofs.pool_at.Tie as tie
-use Rattle.units.proofs.pool_at.Reads as reads
-use Rattle.units.proofs.pool_at.Lts as lts
-use Rattle.units.proofs.pool_place.Reads as pool-place-reads
 
 returns : tie.Need-returns
 unfolding poolAt

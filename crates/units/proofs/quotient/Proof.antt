@@ -4,8 +4,6 @@ use native.Mathlib.Nat.{div-zero}
 use borrow.Author.Needs.{needs}
 use Rattle.units.proofs.quotient.Statement.{statement}
 use Rattle.units.proofs.quotient.Tie as tie
-use Rattle.units.proofs.quotient.Reads as reads
-use Rattle.units.proofs.quotient.Lts as lts
 
 div-result : tie.Need-div-result
 div-result c = search needs

@@ -5,12 +5,6 @@ use Rattle.units.specs.Steps.{repriced}
 use borrow.Author.Needs.{needs}
 use Rattle.units.proofs.reprice.Statement.{statement}
 use Rattle.units.proofs.reprice.Tie as tie
-use Rattle.units.proofs.reprice.Reads as reads
-use Rattle.units.proofs.reprice.Lts as lts
-use Rattle.lists.proofs.less.Reads as less-reads
-use Rattle.lists.proofs.narrow32.Reads as narrow32-reads
-use Rattle.lists.proofs.wide16.Reads as wide16-reads
-use Rattle.lists.proofs.wide32.Reads as wide32-reads
 
 mul-wide32 : tie.Need-mul-wide32
 mul-wide32 c = search needs

@@ -13,11 +13,6 @@ use Rattle.units.proofs.Numbers.{if-le}
 use borrow.Author.Needs.{needs}
 use Rattle.units.proofs.sold_for.Statement.{statement}
 use Rattle.units.proofs.sold_for.Tie as tie
-use Rattle.units.proofs.sold_for.Reads as reads
-use Rattle.units.proofs.sold_for.Lts as lts
-use Rattle.lists.proofs.both.Reads as both-reads
-use Rattle.lists.proofs.number_if.Reads as number-if-reads
-use Rattle.lists.proofs.wide16.Reads as wide16-reads
 
 abbrev Inv-loop : tie.InvT-loop
 Inv-loop counts members pools prices m pool price sum₀ b₀ sum b = (b ≤ 256) × (sum ≡ sumTo b (λ k. if eqb (getD members k 0) m && eqb (getD pools k 0) pool && eqb (getD prices k 0) price then getD counts (132 + k) 0 else 0)) × (sum ≤ b * most16)

@@ -14,10 +14,6 @@ use Rattle.units.specs.Shown.{soldIn}
 use borrow.Author.Needs.{needs}
 use Rattle.units.proofs.sold_in.Statement.{statement}
 use Rattle.units.proofs.sold_in.Tie as tie
-use Rattle.units.proofs.sold_in.Reads as reads
-use Rattle.units.proofs.sold_in.Lts as lts
-use Rattle.lists.proofs.number_if.Reads as number-if-reads
-use Rattle.lists.proofs.wide16.Reads as wide16-reads
 
 abbrev Inv-loop : tie.InvT-loop
 Inv-loop counts pools pool sum₀ b₀ sum b = (b ≤ 256) × (sum ≡ sumTo b (λ k. if eqb (getD pools k 0) pool then getD counts (132 + k) 0 else 0)) × (sum ≤ b * most16)

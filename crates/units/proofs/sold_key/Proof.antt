@@ -5,8 +5,6 @@ use Rattle.units.specs.Groups.{soldKey}
 use borrow.Author.Needs.{needs}
 use Rattle.units.proofs.sold_key.Statement.{statement}
 use Rattle.units.proofs.sold_key.Tie as tie
-use Rattle.units.proofs.sold_key.Reads as reads
-use Rattle.units.proofs.sold_key.Lts as lts
 
 mul-result : tie.Need-mul-result
 mul-result c = search needs

@@ -1,14 +1,9 @@
 -- `units::torn_up` meets its contract. Assumes nothing.
-use native.Mathlib.Omega.{arith}
 use borrow.Author.Tests.{eq-eqb, ne-eqb}
 use Rattle.units.specs.Steps.{tornUp}
 use borrow.Author.Needs.{needs}
 use Rattle.units.proofs.torn_up.Statement.{statement}
 use Rattle.units.proofs.torn_up.Tie as tie
-use Rattle.units.proofs.torn_up.Reads as reads
-use Rattle.units.proofs.torn_up.Lts as lts
-use Rattle.units.proofs.reprice.Reads as reprice-reads
-use Rattle.units.proofs.transfer.Reads as transfer-reads
 
 mul-n : tie.Need-mul-n
 mul-n c = search needs

@@ -7,12 +7,6 @@ use Rattle.units.specs.Steps.{transferred}
 use borrow.Author.Needs.{needs}
 use Rattle.units.proofs.transfer.Statement.{statement}
 use Rattle.units.proofs.transfer.Tie as tie
-use Rattle.units.proofs.transfer.Reads as reads
-use Rattle.units.proofs.transfer.Lts as lts
-use Rattle.lists.proofs.add_at16.Reads as add-at16-reads
-use Rattle.lists.proofs.less.Reads as less-reads
-use Rattle.lists.proofs.narrow16.Reads as narrow16-reads
-use Rattle.lists.proofs.wide16.Reads as wide16-reads
 
 mul-wide16 : tie.Need-mul-wide16
 mul-wide16 c = search needs

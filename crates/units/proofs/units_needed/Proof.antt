@@ -6,13 +6,6 @@ use Rattle.units.specs.Groups.{needed}
 use borrow.Author.Needs.{needs}
 use Rattle.units.proofs.units_needed.Statement.{statement}
 use Rattle.units.proofs.units_needed.Tie as tie
-use Rattle.units.proofs.units_needed.Reads as reads
-use Rattle.units.proofs.units_needed.Lts as lts
-use Rattle.lists.proofs.less.Reads as less-reads
-use Rattle.lists.proofs.narrow16.Reads as narrow16-reads
-use Rattle.lists.proofs.smaller.Reads as smaller-reads
-use Rattle.lists.proofs.wide16.Reads as wide16-reads
-use Rattle.units.proofs.quotient.Reads as quotient-reads
 
 wide16-requires : tie.Need-wide16-requires
 wide16-requires c κs = search needs

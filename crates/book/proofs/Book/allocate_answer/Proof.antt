@@ -6,14 +6,6 @@ use Rattle.book.proofs.InTwo.{allocateFirst, allocate-declined, allocat
 use borrow.Author.Needs.{needs}
 use Rattle.book.proofs.Book.allocate_answer.Statement.{statement}
 use Rattle.book.proofs.Book.allocate_answer.Tie as tie
-use Rattle.book.proofs.Book.allocate_answer.Reads as reads
-use Rattle.book.proofs.Book.allocate_answer.Lts as lts
-use Rattle.accounts.proofs.pools.Pools.mark.Reads as mark-reads
-use Rattle.book.proofs.Book.open_units.Reads as open-units-reads
-use Rattle.book.proofs.letter.Reads as letter-reads
-use Rattle.book.proofs.price_ok.Reads as price-ok-reads
-use Rattle.book.proofs.total_shortfall.Reads as total-shortfall-reads
-use Rattle.lists.proofs.decline_if.Reads as decline-if-reads
 
 letter-requires : tie.Need-letter-requires
 letter-requires c κs = search needs

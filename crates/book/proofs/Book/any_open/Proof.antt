@@ -5,10 +5,6 @@ use Rattle.book.specs.Books.{anyOpenIn}
 use borrow.Author.Needs.{needs}
 use Rattle.book.proofs.Book.any_open.Statement.{statement}
 use Rattle.book.proofs.Book.any_open.Tie as tie
-use Rattle.book.proofs.Book.any_open.Reads as reads
-use Rattle.book.proofs.Book.any_open.Lts as lts
-use Rattle.book.proofs.Book.open_units.Reads as open-units-reads
-use Rattle.lists.proofs.either.Reads as either-reads
 
 open-units-requires : tie.Need-open-units-requires
 open-units-requires c κs = search needs

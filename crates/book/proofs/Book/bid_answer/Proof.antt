@@ -4,13 +4,6 @@ use Rattle.book.specs.Answers.{bidAnswer}
 use borrow.Author.Needs.{needs}
 use Rattle.book.proofs.Book.bid_answer.Statement.{statement}
 use Rattle.book.proofs.Book.bid_answer.Tie as tie
-use Rattle.book.proofs.Book.bid_answer.Reads as reads
-use Rattle.book.proofs.Book.bid_answer.Lts as lts
-use Rattle.book.proofs.Book.open_units.Reads as open-units-reads
-use Rattle.book.proofs.bid_ok.Reads as bid-ok-reads
-use Rattle.book.proofs.letter.Reads as letter-reads
-use Rattle.lists.proofs.decline_if.Reads as decline-if-reads
-use Rattle.sets.proofs.has.Reads as has-reads
 
 letter-requires : tie.Need-letter-requires
 letter-requires c κs = search needs

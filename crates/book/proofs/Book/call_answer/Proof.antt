@@ -4,13 +4,6 @@ use Rattle.book.proofs.InTwo.{call-declined, call-let-pass}
 use borrow.Author.Needs.{needs}
 use Rattle.book.proofs.Book.call_answer.Statement.{statement}
 use Rattle.book.proofs.Book.call_answer.Tie as tie
-use Rattle.book.proofs.Book.call_answer.Reads as reads
-use Rattle.book.proofs.Book.call_answer.Lts as lts
-use Rattle.book.proofs.Book.any_open.Reads as any-open-reads
-use Rattle.book.proofs.Book.prefunded.Reads as prefunded-reads
-use Rattle.book.proofs.Book.requirement.Reads as requirement-reads
-use Rattle.book.proofs.letter.Reads as letter-reads
-use Rattle.lists.proofs.decline_if.Reads as decline-if-reads
 
 letter-requires : tie.Need-letter-requires
 letter-requires c κs = search needs

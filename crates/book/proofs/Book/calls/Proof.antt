@@ -6,16 +6,6 @@ use Rattle.book.specs.Books.{callsIn}
 use borrow.Author.Needs.{needs}
 use Rattle.book.proofs.Book.calls.Statement.{statement}
 use Rattle.book.proofs.Book.calls.Tie as tie
-use Rattle.book.proofs.Book.calls.Reads as reads
-use Rattle.book.proofs.Book.calls.Lts as lts
-use Rattle.accounts.proofs.members.narrowed32.Reads as narrowed32-reads
-use Rattle.accounts.proofs.members.widened.Reads as widened-reads
-use Rattle.book.proofs.Book.contributions.Reads as contributions-reads
-use Rattle.book.proofs.Book.prefunded.Reads as prefunded-reads
-use Rattle.book.proofs.Book.requirement.Reads as requirement-reads
-use Rattle.lists.proofs.less.Reads as less-reads
-use Rattle.lists.proofs.smaller.Reads as smaller-reads
-use Rattle.splitting.proofs.split.Reads as split-reads
 
 widened-requires : tie.Need-widened-requires
 widened-requires c κs = search needs

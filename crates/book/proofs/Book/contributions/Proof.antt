@@ -3,9 +3,6 @@ use Rattle.book.specs.Books.{contributionsIn}
 use borrow.Author.Needs.{needs}
 use Rattle.book.proofs.Book.contributions.Statement.{statement}
 use Rattle.book.proofs.Book.contributions.Tie as tie
-use Rattle.book.proofs.Book.contributions.Reads as reads
-use Rattle.book.proofs.Book.contributions.Lts as lts
-use Rattle.accounts.proofs.members.amounts.Reads as amounts-reads
 
 amounts-requires : tie.Need-amounts-requires
 amounts-requires c κs = search needs

@@ -4,16 +4,6 @@ use Rattle.book.proofs.InTwo.{finish-declined, finish-let-pass}
 use borrow.Author.Needs.{needs}
 use Rattle.book.proofs.Book.finish_answer.Statement.{statement}
 use Rattle.book.proofs.Book.finish_answer.Tie as tie
-use Rattle.book.proofs.Book.finish_answer.Reads as reads
-use Rattle.book.proofs.Book.finish_answer.Lts as lts
-use Rattle.accounts.proofs.members.Members.someone_owes.Reads as someone-owes-reads
-use Rattle.book.proofs.Book.any_open.Reads as any-open-reads
-use Rattle.book.proofs.Book.prefunded.Reads as prefunded-reads
-use Rattle.book.proofs.Book.requirement.Reads as requirement-reads
-use Rattle.book.proofs.letter.Reads as letter-reads
-use Rattle.lists.proofs.both.Reads as both-reads
-use Rattle.lists.proofs.decline_if.Reads as decline-if-reads
-use Rattle.lists.proofs.either.Reads as either-reads
 
 letter-requires : tie.Need-letter-requires
 letter-requires c κs = search needs

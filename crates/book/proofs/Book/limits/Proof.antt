@@ -3,10 +3,6 @@ use Rattle.book.specs.Results.{limitsIn}
 use borrow.Author.Needs.{needs}
 use Rattle.book.proofs.Book.limits.Statement.{statement}
 use Rattle.book.proofs.Book.limits.Tie as tie
-use Rattle.book.proofs.Book.limits.Reads as reads
-use Rattle.book.proofs.Book.limits.Lts as lts
-use Rattle.accounts.proofs.members.amounts.Reads as amounts-reads
-use Rattle.book.proofs.Book.contributions.Reads as contributions-reads
 
 cast-house : tie.Need-cast-house
 cast-house c = search needs

@@ -4,13 +4,6 @@ use Rattle.book.specs.Answers.{memberAnswer}
 use borrow.Author.Needs.{needs}
 use Rattle.book.proofs.Book.member_answer.Statement.{statement}
 use Rattle.book.proofs.Book.member_answer.Tie as tie
-use Rattle.book.proofs.Book.member_answer.Reads as reads
-use Rattle.book.proofs.Book.member_answer.Lts as lts
-use Rattle.book.proofs.letter.Reads as letter-reads
-use Rattle.book.proofs.member_ok.Reads as member-ok-reads
-use Rattle.lists.proofs.decline_if.Reads as decline-if-reads
-use Rattle.lists.proofs.either.Reads as either-reads
-use Rattle.sets.proofs.has.Reads as has-reads
 
 letter-requires : tie.Need-letter-requires
 letter-requires c κs = search needs

@@ -4,12 +4,6 @@ use Rattle.book.specs.Answers.{moveAnswer}
 use borrow.Author.Needs.{needs}
 use Rattle.book.proofs.Book.move_answer.Statement.{statement}
 use Rattle.book.proofs.Book.move_answer.Tie as tie
-use Rattle.book.proofs.Book.move_answer.Reads as reads
-use Rattle.book.proofs.Book.move_answer.Lts as lts
-use Rattle.accounts.proofs.members.Members.owes.Reads as owes-reads
-use Rattle.book.proofs.letter.Reads as letter-reads
-use Rattle.lists.proofs.decline_if.Reads as decline-if-reads
-use Rattle.sets.proofs.has.Reads as has-reads
 
 letter-requires : tie.Need-letter-requires
 letter-requires c κs = search needs

@@ -3,13 +3,6 @@ use Rattle.book.specs.Books.{newBook}
 use borrow.Author.Needs.{needs}
 use Rattle.book.proofs.Book.new.Statement.{statement}
 use Rattle.book.proofs.Book.new.Tie as tie
-use Rattle.book.proofs.Book.new.Reads as reads
-use Rattle.book.proofs.Book.new.Lts as lts
-use Rattle.accounts.proofs.bids.Bids.new.Reads as bids-Bids-new-reads
-use Rattle.accounts.proofs.members.Members.new.Reads as members-Members-new-reads
-use Rattle.accounts.proofs.pools.Pools.new.Reads as pools-Pools-new-reads
-use Rattle.accounts.proofs.rounds.Rounds.new.Reads as rounds-Rounds-new-reads
-use Rattle.units.proofs.Units.new.Reads as Units-new-reads
 
 new-requires : tie.Need-new-requires
 new-requires c κs = search needs

@@ -4,12 +4,6 @@ use Rattle.book.specs.Answers.{poolAnswer}
 use borrow.Author.Needs.{needs}
 use Rattle.book.proofs.Book.pool_answer.Statement.{statement}
 use Rattle.book.proofs.Book.pool_answer.Tie as tie
-use Rattle.book.proofs.Book.pool_answer.Reads as reads
-use Rattle.book.proofs.Book.pool_answer.Lts as lts
-use Rattle.book.proofs.letter.Reads as letter-reads
-use Rattle.book.proofs.pool_ok.Reads as pool-ok-reads
-use Rattle.lists.proofs.decline_if.Reads as decline-if-reads
-use Rattle.lists.proofs.either.Reads as either-reads
 
 letter-requires : tie.Need-letter-requires
 letter-requires c κs = search needs

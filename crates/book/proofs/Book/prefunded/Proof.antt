@@ -1,12 +1,8 @@
 -- `book::Book::prefunded` meets its contract. The contributions are bounded, so that the sum fits. Assumes nothing.
-use native.Mathlib.Omega.{arith}
 use Rattle.book.specs.Books.{contributionsIn, prefundedIn}
 use borrow.Author.Needs.{needs}
 use Rattle.book.proofs.Book.prefunded.Statement.{statement}
 use Rattle.book.proofs.Book.prefunded.Tie as tie
-use Rattle.book.proofs.Book.prefunded.Reads as reads
-use Rattle.book.proofs.Book.prefunded.Lts as lts
-use Rattle.accounts.proofs.members.amounts.Reads as amounts-reads
 
 amounts-requires : tie.Need-amounts-requires
 amounts-requires c κs = search needs

@@ -3,12 +3,6 @@ use Rattle.book.specs.Results.{ranksIn}
 use borrow.Author.Needs.{needs}
 use Rattle.book.proofs.Book.ranks.Statement.{statement}
 use Rattle.book.proofs.Book.ranks.Tie as tie
-use Rattle.book.proofs.Book.ranks.Reads as reads
-use Rattle.book.proofs.Book.ranks.Lts as lts
-use Rattle.accounts.proofs.bids.Bids.gain_table.Reads as gain-table-reads
-use Rattle.accounts.proofs.members.over_pools.Reads as over-pools-reads
-use Rattle.accounts.proofs.rounds.Rounds.worsts.Reads as worsts-reads
-use Rattle.waterfall.proofs.ranks.Reads as ranks-reads
 
 worsts-requires : tie.Need-worsts-requires
 worsts-requires c κs = search needs

@@ -3,10 +3,6 @@ use Rattle.book.specs.Books.{requirementIn}
 use borrow.Author.Needs.{needs}
 use Rattle.book.proofs.Book.requirement.Statement.{statement}
 use Rattle.book.proofs.Book.requirement.Tie as tie
-use Rattle.book.proofs.Book.requirement.Reads as reads
-use Rattle.book.proofs.Book.requirement.Lts as lts
-use Rattle.book.proofs.Book.prices.Reads as prices-reads
-use Rattle.lists.proofs.less.Reads as less-reads
 
 cast-losses : tie.Need-cast-losses
 cast-losses c = search needs

@@ -5,15 +5,6 @@ use Rattle.book.proofs.Parts.{result-of-parts}
 use borrow.Author.Needs.{needs}
 use Rattle.book.proofs.Book.result.Statement.{statement}
 use Rattle.book.proofs.Book.result.Tie as tie
-use Rattle.book.proofs.Book.result.Reads as reads
-use Rattle.book.proofs.Book.result.Lts as lts
-use Rattle.accounts.proofs.members.widened.Reads as widened-reads
-use Rattle.book.proofs.Book.limits.Reads as limits-reads
-use Rattle.book.proofs.Book.ranks.Reads as ranks-reads
-use Rattle.book.proofs.Book.requirement.Reads as requirement-reads
-use Rattle.splitting.proofs.split.Reads as split-reads
-use Rattle.waterfall.proofs.charge_by_rank.Reads as charge-by-rank-reads
-use Rattle.waterfall.proofs.charge_layers.Reads as charge-layers-reads
 
 requirement-requires : tie.Need-requirement-requires
 requirement-requires c κs = search needs

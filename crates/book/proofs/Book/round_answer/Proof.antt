@@ -4,15 +4,6 @@ use Rattle.book.specs.Answers.{roundAnswer}
 use borrow.Author.Needs.{needs}
 use Rattle.book.proofs.Book.round_answer.Statement.{statement}
 use Rattle.book.proofs.Book.round_answer.Tie as tie
-use Rattle.book.proofs.Book.round_answer.Reads as reads
-use Rattle.book.proofs.Book.round_answer.Lts as lts
-use Rattle.book.proofs.Book.any_open.Reads as any-open-reads
-use Rattle.book.proofs.letter.Reads as letter-reads
-use Rattle.book.proofs.reserves_ok.Reads as reserves-ok-reads
-use Rattle.book.proofs.round_of.Reads as round-of-reads
-use Rattle.lists.proofs.both.Reads as both-reads
-use Rattle.lists.proofs.decline_if.Reads as decline-if-reads
-use Rattle.lists.proofs.either.Reads as either-reads
 
 letter-requires : tie.Need-letter-requires
 letter-requires c κs = search needs

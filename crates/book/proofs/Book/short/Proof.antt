@@ -3,9 +3,6 @@ use Rattle.book.specs.Books.{shortIn}
 use borrow.Author.Needs.{needs}
 use Rattle.book.proofs.Book.short.Statement.{statement}
 use Rattle.book.proofs.Book.short.Tie as tie
-use Rattle.book.proofs.Book.short.Reads as reads
-use Rattle.book.proofs.Book.short.Lts as lts
-use Rattle.book.proofs.total_shortfall.Reads as total-shortfall-reads
 
 total-shortfall-requires : tie.Need-total-shortfall-requires
 total-shortfall-requires c κs = search needs

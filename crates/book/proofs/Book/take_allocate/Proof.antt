@@ -3,11 +3,6 @@ use Rattle.book.specs.Books.{allocateBook}
 use borrow.Author.Needs.{needs}
 use Rattle.book.proofs.Book.take_allocate.Statement.{statement}
 use Rattle.book.proofs.Book.take_allocate.Tie as tie
-use Rattle.book.proofs.Book.take_allocate.Reads as reads
-use Rattle.book.proofs.Book.take_allocate.Lts as lts
-use Rattle.accounts.proofs.members.Members.allocate.Reads as members-Members-allocate-reads
-use Rattle.book.proofs.Book.allocation.Reads as allocation-reads
-use Rattle.units.proofs.Units.allocate.Reads as Units-allocate-reads
 
 allocation-requires : tie.Need-allocation-requires
 allocation-requires c κs = search needs

@@ -3,9 +3,6 @@ use Rattle.book.specs.Books.{bidBook}
 use borrow.Author.Needs.{needs}
 use Rattle.book.proofs.Book.take_bid.Statement.{statement}
 use Rattle.book.proofs.Book.take_bid.Tie as tie
-use Rattle.book.proofs.Book.take_bid.Reads as reads
-use Rattle.book.proofs.Book.take_bid.Lts as lts
-use Rattle.accounts.proofs.bids.Bids.put.Reads as put-reads
 
 put-requires : tie.Need-put-requires
 put-requires c κs = search needs

@@ -3,10 +3,6 @@ use Rattle.book.specs.Books.{callBook}
 use borrow.Author.Needs.{needs}
 use Rattle.book.proofs.Book.take_call.Statement.{statement}
 use Rattle.book.proofs.Book.take_call.Tie as tie
-use Rattle.book.proofs.Book.take_call.Reads as reads
-use Rattle.book.proofs.Book.take_call.Lts as lts
-use Rattle.accounts.proofs.members.Members.call.Reads as call-reads
-use Rattle.book.proofs.Book.calls.Reads as calls-reads
 
 calls-requires : tie.Need-calls-requires
 calls-requires c κs = search needs

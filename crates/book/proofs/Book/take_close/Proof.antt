@@ -1,18 +1,8 @@
 use Rattle.book.proofs.Parts.{wins-of-parts, close-of-parts}
 -- `book::Book::take_close` meets its contract. Assumes nothing.
-use Rattle.book.specs.Books.{closeBook}
 use borrow.Author.Needs.{needs}
 use Rattle.book.proofs.Book.take_close.Statement.{statement}
 use Rattle.book.proofs.Book.take_close.Tie as tie
-use Rattle.book.proofs.Book.take_close.Reads as reads
-use Rattle.book.proofs.Book.take_close.Lts as lts
-use Rattle.accounts.proofs.bids.Bids.take_wins.Reads as take-wins-reads
-use Rattle.accounts.proofs.bids.Bids.wins.Reads as wins-reads
-use Rattle.accounts.proofs.bids.Bids.won_table.Reads as won-table-reads
-use Rattle.accounts.proofs.members.Members.win.Reads as win-reads
-use Rattle.accounts.proofs.rounds.Rounds.reserve.Reads as reserve-reads
-use Rattle.book.proofs.Book.open_units.Reads as open-units-reads
-use Rattle.units.proofs.Units.sell.Reads as sell-reads
 
 open-units-requires : tie.Need-open-units-requires
 open-units-requires c κs = search needs

@@ -3,9 +3,6 @@ use Rattle.book.specs.Books.{memberBook}
 use borrow.Author.Needs.{needs}
 use Rattle.book.proofs.Book.take_member.Statement.{statement}
 use Rattle.book.proofs.Book.take_member.Tie as tie
-use Rattle.book.proofs.Book.take_member.Reads as reads
-use Rattle.book.proofs.Book.take_member.Lts as lts
-use Rattle.accounts.proofs.members.Members.put.Reads as put-reads
 
 put-requires : tie.Need-put-requires
 put-requires c κs = search needs

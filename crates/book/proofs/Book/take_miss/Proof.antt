@@ -3,9 +3,6 @@ use Rattle.book.specs.Books.{missBook}
 use borrow.Author.Needs.{needs}
 use Rattle.book.proofs.Book.take_miss.Statement.{statement}
 use Rattle.book.proofs.Book.take_miss.Tie as tie
-use Rattle.book.proofs.Book.take_miss.Reads as reads
-use Rattle.book.proofs.Book.take_miss.Lts as lts
-use Rattle.units.proofs.Units.miss.Reads as miss-reads
 
 miss-requires : tie.Need-miss-requires
 miss-requires c κs = search needs

@@ -3,11 +3,6 @@ use Rattle.book.specs.Books.{moveBook}
 use borrow.Author.Needs.{needs}
 use Rattle.book.proofs.Book.take_move.Statement.{statement}
 use Rattle.book.proofs.Book.take_move.Tie as tie
-use Rattle.book.proofs.Book.take_move.Reads as reads
-use Rattle.book.proofs.Book.take_move.Lts as lts
-use Rattle.accounts.proofs.members.Members.move_out.Reads as move-out-reads
-use Rattle.accounts.proofs.members.Members.owes.Reads as owes-reads
-use Rattle.units.proofs.Units.move_to.Reads as move-to-reads
 
 owes-requires : tie.Need-owes-requires
 owes-requires c κs = search needs

@@ -3,9 +3,6 @@ use Rattle.book.specs.Books.{payBook}
 use borrow.Author.Needs.{needs}
 use Rattle.book.proofs.Book.take_pay.Statement.{statement}
 use Rattle.book.proofs.Book.take_pay.Tie as tie
-use Rattle.book.proofs.Book.take_pay.Reads as reads
-use Rattle.book.proofs.Book.take_pay.Lts as lts
-use Rattle.accounts.proofs.members.Members.pay.Reads as pay-reads
 
 pay-requires : tie.Need-pay-requires
 pay-requires c κs = search needs

@@ -3,10 +3,6 @@ use Rattle.book.specs.Books.{poolBook}
 use borrow.Author.Needs.{needs}
 use Rattle.book.proofs.Book.take_pool.Statement.{statement}
 use Rattle.book.proofs.Book.take_pool.Tie as tie
-use Rattle.book.proofs.Book.take_pool.Reads as reads
-use Rattle.book.proofs.Book.take_pool.Lts as lts
-use Rattle.accounts.proofs.pools.Pools.put.Reads as put-reads
-use Rattle.units.proofs.Units.put_up.Reads as put-up-reads
 
 put-requires : tie.Need-put-requires
 put-requires c κs = search needs

@@ -3,10 +3,6 @@ use Rattle.book.specs.Books.{roundBook}
 use borrow.Author.Needs.{needs}
 use Rattle.book.proofs.Book.take_round.Statement.{statement}
 use Rattle.book.proofs.Book.take_round.Tie as tie
-use Rattle.book.proofs.Book.take_round.Reads as reads
-use Rattle.book.proofs.Book.take_round.Lts as lts
-use Rattle.accounts.proofs.rounds.Rounds.put.Reads as put-reads
-use Rattle.book.proofs.Book.open_units.Reads as open-units-reads
 
 open-units-requires : tie.Need-open-units-requires
 open-units-requires c κs = search needs

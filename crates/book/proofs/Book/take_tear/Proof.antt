@@ -3,9 +3,6 @@ use Rattle.book.specs.Books.{tearBook}
 use borrow.Author.Needs.{needs}
 use Rattle.book.proofs.Book.take_tear.Statement.{statement}
 use Rattle.book.proofs.Book.take_tear.Tie as tie
-use Rattle.book.proofs.Book.take_tear.Reads as reads
-use Rattle.book.proofs.Book.take_tear.Lts as lts
-use Rattle.units.proofs.Units.tear.Reads as tear-reads
 
 tear-requires : tie.Need-tear-requires
 tear-requires c κs = search needs

@@ -4,12 +4,6 @@ use Rattle.book.specs.Answers.{tearAnswer}
 use borrow.Author.Needs.{needs}
 use Rattle.book.proofs.Book.tear_answer.Statement.{statement}
 use Rattle.book.proofs.Book.tear_answer.Tie as tie
-use Rattle.book.proofs.Book.tear_answer.Reads as reads
-use Rattle.book.proofs.Book.tear_answer.Lts as lts
-use Rattle.book.proofs.Book.open_units.Reads as open-units-reads
-use Rattle.book.proofs.letter.Reads as letter-reads
-use Rattle.book.proofs.price_ok.Reads as price-ok-reads
-use Rattle.lists.proofs.decline_if.Reads as decline-if-reads
 
 letter-requires : tie.Need-letter-requires
 letter-requires c κs = search needs

@@ -1,19 +1,12 @@
 -- `case::Case::allocate` meets its contract. Assumes nothing.
-use mathlib.Core.Path.{refl, ap}
+use mathlib.Core.Path.{ap}
 use mathlib.Core.Option.{some}
 use Rattle.machine.specs.Wire.{ALLOCATE}
-use Rattle.book.specs.declared.Book.{Book}
 use Rattle.case.specs.Cases.{caseOf, caseAnswerTo, caseAnswer, afterAsked, caseAfter}
 use Rattle.case.proofs.Outcomes.{declined, accepted}
 use borrow.Author.Needs.{needs}
 use Rattle.case.proofs.Case.allocate.Statement.{statement}
 use Rattle.case.proofs.Case.allocate.Tie as tie
-use Rattle.case.proofs.Case.allocate.Reads as reads
-use Rattle.case.proofs.Case.allocate.Lts as lts
-use Rattle.book.proofs.Book.allocate_answer.Reads as allocate-answer-reads
-use Rattle.book.proofs.Book.take_allocate.Reads as take-allocate-reads
-use Rattle.case.proofs.Case.accepted.Reads as accepted-reads
-use Rattle.case.proofs.Case.declined.Reads as declined-reads
 
 allocate-answer-requires : tie.Need-allocate-answer-requires
 allocate-answer-requires c κs = search needs

@@ -1,21 +1,13 @@
 use mathlib.Core.Path.{_∙_}
 -- `case::Case::bid` meets its contract. Assumes nothing.
-use mathlib.Core.Path.{refl, ap}
+use mathlib.Core.Path.{ap}
 use mathlib.Core.Option.{some}
 use Rattle.machine.specs.Wire.{BID}
-use Rattle.book.specs.declared.Book.{Book}
 use Rattle.case.specs.Cases.{caseOf, caseAnswerTo, caseAnswer, afterAsked, caseAfter}
 use Rattle.case.proofs.Outcomes.{declined, accepted}
 use borrow.Author.Needs.{needs}
 use Rattle.case.proofs.Case.bid.Statement.{statement}
 use Rattle.case.proofs.Case.bid.Tie as tie
-use Rattle.case.proofs.Case.bid.Reads as reads
-use Rattle.case.proofs.Case.bid.Lts as lts
-use Rattle.book.proofs.Book.bid_answer.Reads as bid-answer-reads
-use Rattle.book.proofs.Book.take_bid.Reads as take-bid-reads
-use Rattle.book.proofs.round_of.Reads as round-of-reads
-use Rattle.case.proofs.Case.accepted.Reads as accepted-reads
-use Rattle.case.proofs.Case.declined.Reads as declined-reads
 
 bid-answer-requires : tie.Need-bid-answer-requires
 bid-answer-requires c κs = search needs

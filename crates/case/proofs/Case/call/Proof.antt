@@ -1,20 +1,13 @@
 use Rattle.book.specs.declared.Stage.the-variants.{CallsOut}
 -- `case::Case::call` meets its contract. Assumes nothing.
-use mathlib.Core.Path.{refl, ap}
+use mathlib.Core.Path.{ap}
 use mathlib.Core.Option.{some}
 use Rattle.machine.specs.Wire.{CALL}
-use Rattle.book.specs.declared.Book.{Book}
 use Rattle.case.specs.Cases.{caseOf, caseAnswerTo, caseAnswer, afterAsked, caseAfter}
 use Rattle.case.proofs.Outcomes.{declined, accepted}
 use borrow.Author.Needs.{needs}
 use Rattle.case.proofs.Case.call.Statement.{statement}
 use Rattle.case.proofs.Case.call.Tie as tie
-use Rattle.case.proofs.Case.call.Reads as reads
-use Rattle.case.proofs.Case.call.Lts as lts
-use Rattle.book.proofs.Book.call_answer.Reads as call-answer-reads
-use Rattle.book.proofs.Book.take_call.Reads as take-call-reads
-use Rattle.case.proofs.Case.accepted.Reads as accepted-reads
-use Rattle.case.proofs.Case.declined.Reads as declined-reads
 
 call-answer-requires : tie.Need-call-answer-requires
 call-answer-requires c κs = search needs

@@ -1,20 +1,11 @@
 -- `case::Case::close` meets its contract. Assumes nothing.
-use mathlib.Core.Path.{refl, ap}
 use mathlib.Core.Option.{some}
 use Rattle.machine.specs.Wire.{CLOSE}
-use Rattle.book.specs.declared.Book.{Book}
-use Rattle.case.specs.Cases.{caseOf, caseAnswerTo, caseAnswer, afterAsked, caseAfter}
+use Rattle.case.specs.Cases.{caseAnswerTo, caseAnswer, afterAsked, caseAfter}
 use Rattle.case.proofs.Outcomes.{declined, accepted}
 use borrow.Author.Needs.{needs}
 use Rattle.case.proofs.Case.close.Statement.{statement}
 use Rattle.case.proofs.Case.close.Tie as tie
-use Rattle.case.proofs.Case.close.Reads as reads
-use Rattle.case.proofs.Case.close.Lts as lts
-use Rattle.book.proofs.Book.take_close.Reads as take-close-reads
-use Rattle.book.proofs.close_answer.Reads as close-answer-reads
-use Rattle.book.proofs.round_of.Reads as round-of-reads
-use Rattle.case.proofs.Case.accepted.Reads as accepted-reads
-use Rattle.case.proofs.Case.declined.Reads as declined-reads
 
 close-answer-requires : tie.Need-close-answer-requires
 close-answer-requires c κs = search needs

@@ -1,18 +1,12 @@
 -- `case::Case::finish` meets its contract. Assumes nothing.
-use mathlib.Core.Path.{refl, ap}
+use mathlib.Core.Path.{refl}
 use mathlib.Core.Option.{some}
 use Rattle.machine.specs.Wire.{FINISH}
-use Rattle.book.specs.declared.Book.{Book}
-use Rattle.case.specs.Cases.{caseOf, caseAnswerTo, caseAnswer, afterAsked, caseAfter}
+use Rattle.case.specs.Cases.{caseAnswerTo, caseAnswer, afterAsked, caseAfter}
 use Rattle.case.proofs.Outcomes.{declined, accepted}
 use borrow.Author.Needs.{needs}
 use Rattle.case.proofs.Case.finish.Statement.{statement}
 use Rattle.case.proofs.Case.finish.Tie as tie
-use Rattle.case.proofs.Case.finish.Reads as reads
-use Rattle.case.proofs.Case.finish.Lts as lts
-use Rattle.book.proofs.Book.finish_answer.Reads as finish-answer-reads
-use Rattle.case.proofs.Case.accepted.Reads as accepted-reads
-use Rattle.case.proofs.Case.declined.Reads as declined-reads
 
 finish-answer-requires : tie.Need-finish-answer-requires
 finish-answer-requires c κs = search needs

@@ -3,11 +3,6 @@ use Rattle.case.proofs.Outcomes.{head-declined, head-accepted}
 use borrow.Author.Needs.{needs}
 use Rattle.case.proofs.Case.head.Statement.{statement}
 use Rattle.case.proofs.Case.head.Tie as tie
-use Rattle.case.proofs.Case.head.Reads as reads
-use Rattle.case.proofs.Case.head.Lts as lts
-use Rattle.book.proofs.head_answer.Reads as head-answer-reads
-use Rattle.case.proofs.Case.new.Reads as new-reads
-use Rattle.case.proofs.Held.none.Reads as none-reads
 
 head-answer-requires : tie.Need-head-answer-requires
 head-answer-requires c κs = search needs

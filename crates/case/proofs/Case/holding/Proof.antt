@@ -3,9 +3,6 @@ use Rattle.case.specs.Readings.{holdingIn}
 use borrow.Author.Needs.{needs}
 use Rattle.case.proofs.Case.holding.Statement.{statement}
 use Rattle.case.proofs.Case.holding.Tie as tie
-use Rattle.case.proofs.Case.holding.Reads as reads
-use Rattle.case.proofs.Case.holding.Lts as lts
-use Rattle.units.proofs.Units.holding.Reads as holding-reads
 
 holding-requires : tie.Need-holding-requires
 holding-requires c κs = search needs

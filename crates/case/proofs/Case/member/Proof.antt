@@ -1,20 +1,13 @@
 -- `case::Case::member` meets its contract. Assumes nothing.
-use mathlib.Core.Path.{refl, ap}
+use mathlib.Core.Path.{ap}
 use mathlib.Core.Option.{some}
 use mathlib.Core.List.{[], _∷_}
 use Rattle.machine.specs.Wire.{MEMBER}
-use Rattle.book.specs.declared.Book.{Book}
 use Rattle.case.specs.Cases.{caseOf, caseAnswerTo, caseAnswer, afterAsked, caseAfter}
 use Rattle.case.proofs.Outcomes.{declined, accepted}
 use borrow.Author.Needs.{needs}
 use Rattle.case.proofs.Case.member.Statement.{statement}
 use Rattle.case.proofs.Case.member.Tie as tie
-use Rattle.case.proofs.Case.member.Reads as reads
-use Rattle.case.proofs.Case.member.Lts as lts
-use Rattle.book.proofs.Book.member_answer.Reads as member-answer-reads
-use Rattle.book.proofs.Book.take_member.Reads as take-member-reads
-use Rattle.case.proofs.Case.accepted.Reads as accepted-reads
-use Rattle.case.proofs.Case.declined.Reads as declined-reads
 
 member-answer-requires : tie.Need-member-answer-requires
 member-answer-requires c κs = search needs

@@ -1,19 +1,12 @@
 -- `case::Case::miss` meets its contract. Assumes nothing.
-use mathlib.Core.Path.{refl, ap}
+use mathlib.Core.Path.{ap}
 use mathlib.Core.Option.{some}
 use Rattle.machine.specs.Wire.{MISS}
-use Rattle.book.specs.declared.Book.{Book}
 use Rattle.case.specs.Cases.{caseOf, caseAnswerTo, caseAnswer, afterAsked, caseAfter}
 use Rattle.case.proofs.Outcomes.{declined, accepted}
 use borrow.Author.Needs.{needs}
 use Rattle.case.proofs.Case.miss.Statement.{statement}
 use Rattle.case.proofs.Case.miss.Tie as tie
-use Rattle.case.proofs.Case.miss.Reads as reads
-use Rattle.case.proofs.Case.miss.Lts as lts
-use Rattle.book.proofs.Book.miss_answer.Reads as miss-answer-reads
-use Rattle.book.proofs.Book.take_miss.Reads as take-miss-reads
-use Rattle.case.proofs.Case.accepted.Reads as accepted-reads
-use Rattle.case.proofs.Case.declined.Reads as declined-reads
 
 miss-answer-requires : tie.Need-miss-answer-requires
 miss-answer-requires c κs = search needs

@@ -1,19 +1,12 @@
 -- `case::Case::move_units` meets its contract. Assumes nothing.
-use mathlib.Core.Path.{refl, ap}
+use mathlib.Core.Path.{ap}
 use mathlib.Core.Option.{some}
 use Rattle.machine.specs.Wire.{MOVE}
-use Rattle.book.specs.declared.Book.{Book}
 use Rattle.case.specs.Cases.{caseOf, caseAnswerTo, caseAnswer, afterAsked, caseAfter}
 use Rattle.case.proofs.Outcomes.{declined, accepted}
 use borrow.Author.Needs.{needs}
 use Rattle.case.proofs.Case.move_units.Statement.{statement}
 use Rattle.case.proofs.Case.move_units.Tie as tie
-use Rattle.case.proofs.Case.move_units.Reads as reads
-use Rattle.case.proofs.Case.move_units.Lts as lts
-use Rattle.book.proofs.Book.move_answer.Reads as move-answer-reads
-use Rattle.book.proofs.Book.take_move.Reads as take-move-reads
-use Rattle.case.proofs.Case.accepted.Reads as accepted-reads
-use Rattle.case.proofs.Case.declined.Reads as declined-reads
 
 move-answer-requires : tie.Need-move-answer-requires
 move-answer-requires c κs = search needs

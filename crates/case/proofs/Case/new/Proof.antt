@@ -3,9 +3,6 @@ use Rattle.case.specs.Cases.{newCase}
 use borrow.Author.Needs.{needs}
 use Rattle.case.proofs.Case.new.Statement.{statement}
 use Rattle.case.proofs.Case.new.Tie as tie
-use Rattle.case.proofs.Case.new.Reads as reads
-use Rattle.case.proofs.Case.new.Lts as lts
-use Rattle.book.proofs.Book.new.Reads as new-reads
 
 new-requires : tie.Need-new-requires
 new-requires c κs = search needs

@@ -1,19 +1,12 @@
 -- `case::Case::pay` meets its contract. Assumes nothing.
-use mathlib.Core.Path.{refl, ap}
+use mathlib.Core.Path.{ap}
 use mathlib.Core.Option.{some}
 use Rattle.machine.specs.Wire.{PAY}
-use Rattle.book.specs.declared.Book.{Book}
 use Rattle.case.specs.Cases.{caseOf, caseAnswerTo, caseAnswer, afterAsked, caseAfter}
 use Rattle.case.proofs.Outcomes.{declined, accepted}
 use borrow.Author.Needs.{needs}
 use Rattle.case.proofs.Case.pay.Statement.{statement}
 use Rattle.case.proofs.Case.pay.Tie as tie
-use Rattle.case.proofs.Case.pay.Reads as reads
-use Rattle.case.proofs.Case.pay.Lts as lts
-use Rattle.book.proofs.Book.pay_answer.Reads as pay-answer-reads
-use Rattle.book.proofs.Book.take_pay.Reads as take-pay-reads
-use Rattle.case.proofs.Case.accepted.Reads as accepted-reads
-use Rattle.case.proofs.Case.declined.Reads as declined-reads
 
 pay-answer-requires : tie.Need-pay-answer-requires
 pay-answer-requires c κs = search needs

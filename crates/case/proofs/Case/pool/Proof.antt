@@ -1,19 +1,12 @@
 -- `case::Case::pool` meets its contract. Assumes nothing.
-use mathlib.Core.Path.{refl, ap}
+use mathlib.Core.Path.{ap}
 use mathlib.Core.Option.{some}
 use Rattle.machine.specs.Wire.{POOL}
-use Rattle.book.specs.declared.Book.{Book}
 use Rattle.case.specs.Cases.{caseOf, caseAnswerTo, caseAnswer, afterAsked, caseAfter}
 use Rattle.case.proofs.Outcomes.{declined, accepted}
 use borrow.Author.Needs.{needs}
 use Rattle.case.proofs.Case.pool.Statement.{statement}
 use Rattle.case.proofs.Case.pool.Tie as tie
-use Rattle.case.proofs.Case.pool.Reads as reads
-use Rattle.case.proofs.Case.pool.Lts as lts
-use Rattle.book.proofs.Book.pool_answer.Reads as pool-answer-reads
-use Rattle.book.proofs.Book.take_pool.Reads as take-pool-reads
-use Rattle.case.proofs.Case.accepted.Reads as accepted-reads
-use Rattle.case.proofs.Case.declined.Reads as declined-reads
 
 pool-answer-requires : tie.Need-pool-answer-requires
 pool-answer-requires c κs = search needs

@@ -6,15 +6,6 @@ use Rattle.case.proofs.Outcomes.{declined, accepted, reserves-answered,
 use borrow.Author.Needs.{needs}
 use Rattle.case.proofs.Case.round.Statement.{statement}
 use Rattle.case.proofs.Case.round.Tie as tie
-use Rattle.case.proofs.Case.round.Reads as reads
-use Rattle.case.proofs.Case.round.Lts as lts
-use Rattle.book.proofs.Book.take_round.Reads as take-round-reads
-use Rattle.book.proofs.next_round.Reads as next-round-reads
-use Rattle.book.proofs.round_of.Reads as round-of-reads
-use Rattle.case.proofs.Case.accepted.Reads as accepted-reads
-use Rattle.case.proofs.Case.declined.Reads as declined-reads
-use Rattle.case.proofs.reserve_if.Reads as reserve-if-reads
-use Rattle.case.proofs.reserves_answer.Reads as reserves-answer-reads
 
 reserves-answer-requires : tie.Need-reserves-answer-requires
 reserves-answer-requires c κs = search needs

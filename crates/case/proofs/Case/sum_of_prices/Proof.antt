@@ -10,10 +10,6 @@ use Rattle.case.proofs.Signed.{sub-fits}
 use borrow.Author.Needs.{needs}
 use Rattle.case.proofs.Case.sum_of_prices.Statement.{statement}
 use Rattle.case.proofs.Case.sum_of_prices.Tie as tie
-use Rattle.case.proofs.Case.sum_of_prices.Reads as reads
-use Rattle.case.proofs.Case.sum_of_prices.Lts as lts
-use Rattle.book.proofs.Book.prices.Reads as prices-reads
-use Rattle.case.proofs.difference.Reads as difference-reads
 
 prices-requires : tie.Need-prices-requires
 prices-requires c κs = search needs

@@ -1,19 +1,12 @@
 -- `case::Case::tear` meets its contract. Assumes nothing.
-use mathlib.Core.Path.{refl, ap}
+use mathlib.Core.Path.{ap}
 use mathlib.Core.Option.{some}
 use Rattle.machine.specs.Wire.{TEAR}
-use Rattle.book.specs.declared.Book.{Book}
 use Rattle.case.specs.Cases.{caseOf, caseAnswerTo, caseAnswer, afterAsked, caseAfter}
 use Rattle.case.proofs.Outcomes.{declined, accepted}
 use borrow.Author.Needs.{needs}
 use Rattle.case.proofs.Case.tear.Statement.{statement}
 use Rattle.case.proofs.Case.tear.Tie as tie
-use Rattle.case.proofs.Case.tear.Reads as reads
-use Rattle.case.proofs.Case.tear.Lts as lts
-use Rattle.book.proofs.Book.take_tear.Reads as take-tear-reads
-use Rattle.book.proofs.Book.tear_answer.Reads as tear-answer-reads
-use Rattle.case.proofs.Case.accepted.Reads as accepted-reads
-use Rattle.case.proofs.Case.declined.Reads as declined-reads
 
 tear-answer-requires : tie.Need-tear-answer-requires
 tear-answer-requires c κs = search needs

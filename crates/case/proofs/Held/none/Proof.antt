@@ -3,9 +3,6 @@ use Rattle.case.specs.Cases.{noHeld}
 use borrow.Author.Needs.{needs}
 use Rattle.case.proofs.Held.none.Statement.{statement}
 use Rattle.case.proofs.Held.none.Tie as tie
-use Rattle.case.proofs.Held.none.Reads as reads
-use Rattle.case.proofs.Held.none.Lts as lts
-use Rattle.case.proofs.Case.new.Reads as new-reads
 
 new-requires : tie.Need-new-requires
 new-requires c κs = search needs

@@ -1,34 +1,46 @@
 -- `explain::tables::early_rows` is safe and ends. Assumes nothing.
-use mathlib.Core.Path.{_≡_}
-use Prim.Native.Nat.{_-_, _≤_}
+use mathlib.Core.Path.{_≡_, refl}
+use Prim.Native.Nat.{_^_, _<_}
+use native.Mathlib.Omega.{arith}
 use lib.ListN.{length}
 use borrow.Author.Needs.{needs}
+use Rattle.sets.specs.Set.{members as membersOf}
+use Rattle.sets.proofs.Members.{Taken, taken}
 use Rattle.explain.proofs.tables.early_rows.Statement.{statement}
 use Rattle.explain.proofs.tables.early_rows.Tie as tie
 
 abbrev Inv-loop : tie.InvT-loop
-Inv-loop members set out₀ at to₀ m₀ out to m = (m ≤ 32) × (length out ≡ length out₀)
+Inv-loop members set out₀ at to₀ left₀ out to left = (left < 2 ^ 32) × (length out ≡ length out₀)
 
 abbrev μ-loop : tie.MeasureT-loop
-μ-loop members set out₀ at to₀ m₀ out to m = 32 - m
+μ-loop members set out₀ at to₀ left₀ out to left = length (membersOf left)
+
+-- the next member, known and taken off
+next-taken : (c : tie.After-without-least Inv-loop μ-loop) → Taken (c .before .before .before .loop .left) (c .before .next .result) (c .without-least .result)
+next-taken c =
+    let at-loop = c .before .before .before in
+    taken (at-loop .loop .left) _ _ (c .before .before .loop-test .taken) (at-loop .loop .inv .0) (c .before .next .ensures) (c .without-least .ensures)
 
 loop-holds : tie.Need-loop-holds Inv-loop μ-loop
-loop-holds c = search needs
+loop-holds c = (c .before .fits .set .fits, refl)
 
-has-requires : tie.Need-has-requires Inv-loop μ-loop
-has-requires c κs = search needs
+next-requires : tie.Need-next-requires Inv-loop μ-loop
+next-requires c κs = search needs
+
+without-least-requires : tie.Need-without-least-requires Inv-loop μ-loop
+without-least-requires c κs = search needs
+
+cast-early-row : tie.Need-cast-early-row Inv-loop μ-loop
+cast-early-row c = omega (arith, next-taken c .below)
 
 early-row-requires : tie.Need-early-row-requires Inv-loop μ-loop
 early-row-requires c κs = search needs
 
-add-m : tie.Need-add-m Inv-loop μ-loop
-add-m c = search needs
-
 loop-less : tie.Need-loop-less Inv-loop μ-loop
-loop-less c = search needs
+loop-less c = next-taken (c .before .before .before .before) .shorter
 
 loop-again : tie.Need-loop-again Inv-loop μ-loop
-loop-again c = search needs
+loop-again c = (omega arith, search needs)
 
 same-length : tie.Need-same-length Inv-loop μ-loop
 same-length c = search needs
@@ -43,9 +55,10 @@ early-rows-spec =
     Inv-loop
     μ-loop
     loop-holds
-    has-requires
+    next-requires
+    without-least-requires
+    cast-early-row
     early-row-requires
-    add-m
     loop-less
     loop-again
     same-length

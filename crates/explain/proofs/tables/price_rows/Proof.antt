@@ -7,10 +7,10 @@ use Rattle.explain.proofs.tables.price_rows.Statement.{statement}
 use Rattle.explain.proofs.tables.price_rows.Tie as tie
 
 abbrev Inv-loop : tie.InvT-loop
-Inv-loop case m pool out₀ at₀ units₀ prices₀ first₀ out at units prices first = (first ≤ 2000001) × (length out ≡ length out₀)
+Inv-loop case m pool out₀ book at₀ units₀ prices₀ first₀ out at units prices first = (first ≤ 2000001) × (length out ≡ length out₀)
 
 abbrev μ-loop : tie.MeasureT-loop
-μ-loop case m pool out₀ at₀ units₀ prices₀ first₀ out at units prices first = 2000001 - first
+μ-loop case m pool out₀ book at₀ units₀ prices₀ first₀ out at units prices first = 2000001 - first
 
 loop-holds : tie.Need-loop-holds Inv-loop μ-loop
 loop-holds c = search needs

@@ -12,13 +12,6 @@ use Rattle.units.specs.Steps.{sharedCounts, sharedSums, allocateUnits}
 use borrow.Author.Needs.{needs}
 use Rattle.units.proofs.Units.allocate.Statement.{statement}
 use Rattle.units.proofs.Units.allocate.Tie as tie
-use Rattle.units.proofs.Units.allocate.Reads as reads
-use Rattle.units.proofs.Units.allocate.Lts as lts
-use Rattle.lists.proofs.place.Reads as place-reads
-use Rattle.sets.proofs.next.Reads as next-reads
-use Rattle.sets.proofs.without_least.Reads as without-least-reads
-use Rattle.units.proofs.reprice.Reads as reprice-reads
-use Rattle.units.proofs.transfer.Reads as transfer-reads
 
 abbrev Inv-loop : tie.InvT-loop
 Inv-loop self set pool price shares at counts₀ sums₀ left₀ counts sums left = (left < 2 ^ 32) × (sharedCounts at shares (members left) counts ≡ sharedCounts at shares (members set) counts₀) × (sharedSums at price shares (members left) sums ≡ sharedSums at price shares (members set) sums₀)

@@ -7,11 +7,6 @@ use Rattle.units.proofs.Numbers.{kind-past}
 use borrow.Author.Needs.{needs}
 use Rattle.units.proofs.Units.count.Statement.{statement}
 use Rattle.units.proofs.Units.count.Tie as tie
-use Rattle.units.proofs.Units.count.Reads as reads
-use Rattle.units.proofs.Units.count.Lts as lts
-use Rattle.lists.proofs.place.Reads as place-reads
-use Rattle.units.proofs.column_of.Reads as column-of-reads
-use Rattle.units.proofs.sold_in.Reads as sold-in-reads
 
 returns : tie.Need-returns
 unfolding countOf

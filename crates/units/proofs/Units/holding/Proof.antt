@@ -10,12 +10,6 @@ use Rattle.units.proofs.Numbers.{if-le}
 use borrow.Author.Needs.{needs}
 use Rattle.units.proofs.Units.holding.Statement.{statement}
 use Rattle.units.proofs.Units.holding.Tie as tie
-use Rattle.units.proofs.Units.holding.Reads as reads
-use Rattle.units.proofs.Units.holding.Lts as lts
-use Rattle.lists.proofs.number_if.Reads as number-if-reads
-use Rattle.lists.proofs.place.Reads as place-reads
-use Rattle.lists.proofs.wide16.Reads as wide16-reads
-use Rattle.units.proofs.sold_for.Reads as sold-for-reads
 
 returns : tie.Need-returns
 unfolding holdingOf

@@ -8,10 +8,6 @@ use Rattle.units.specs.Steps.{missedTo, missUnits}
 use borrow.Author.Needs.{needs}
 use Rattle.units.proofs.Units.miss.Statement.{statement}
 use Rattle.units.proofs.Units.miss.Tie as tie
-use Rattle.units.proofs.Units.miss.Reads as reads
-use Rattle.units.proofs.Units.miss.Lts as lts
-use Rattle.lists.proofs.place.Reads as place-reads
-use Rattle.units.proofs.missed_in.Reads as missed-in-reads
 
 abbrev Inv-loop : tie.InvT-loop
 Inv-loop member price m out₀ pool₀ out pool = (pool ≤ 4) × (out ≡ missedTo m price pool out₀)

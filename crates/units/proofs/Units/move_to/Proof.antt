@@ -2,31 +2,15 @@ use Rattle.units.proofs.Groups.{turn-next}
 use native.Mathlib.Nat.{mul-le-mul}
 use Rattle.lists.specs.Adding.{most16}
 -- `units::Units::move_to` meets its contract. The invariant: what is left to do leads to the same. Assumes nothing.
-use mathlib.Core.Path.{_≡_, refl, sym, ap, _∙_}
-use Prim.Native.Nat.{suc, _+_, _-_, _≤_}
+use mathlib.Core.Path.{_≡_, refl, sym, _∙_}
+use Prim.Native.Nat.{_-_, _≤_}
 use native.Mathlib.Omega.{arith}
 use lib.ListN.{length, length-set}
 use Rattle.units.specs.Groups.{passGroups}
-use Rattle.units.proofs.Groups.{groups-end, groups-stop, groups-turn, move-done}
+use Rattle.units.proofs.Groups.{groups-end, groups-stop, move-done}
 use borrow.Author.Needs.{needs}
 use Rattle.units.proofs.Units.move_to.Statement.{statement}
 use Rattle.units.proofs.Units.move_to.Tie as tie
-use Rattle.units.proofs.Units.move_to.Reads as reads
-use Rattle.units.proofs.Units.move_to.Lts as lts
-use Rattle.lists.proofs.either.Reads as either-reads
-use Rattle.lists.proofs.less.Reads as less-reads
-use Rattle.lists.proofs.place.Reads as place-reads
-use Rattle.lists.proofs.wide16.Reads as wide16-reads
-use Rattle.lists.proofs.wide32.Reads as wide32-reads
-use Rattle.units.proofs.key_place.Reads as key-place-reads
-use Rattle.units.proofs.key_price.Reads as key-price-reads
-use Rattle.units.proofs.least_key.Reads as least-key-reads
-use Rattle.units.proofs.live_keys.Reads as live-keys-reads
-use Rattle.units.proofs.pool_at.Reads as pool-at-reads
-use Rattle.units.proofs.reprice.Reads as reprice-reads
-use Rattle.units.proofs.transfer.Reads as transfer-reads
-use Rattle.units.proofs.units_needed.Reads as units-needed-reads
-use Rattle.units.proofs.with_counts.Reads as with-counts-reads
 
 abbrev Inv-loop : tie.InvT-loop
 Inv-loop self member owed prices pools counts₀ sums₀ keys₀ left₀ turn₀ counts sums keys left turn = (turn ≤ 384) × (length keys ≡ 384) × (passGroups pools member (384 - turn) left keys counts sums ≡ passGroups pools member 384 owed keys₀ counts₀ sums₀)

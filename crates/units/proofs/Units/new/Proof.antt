@@ -3,8 +3,6 @@ use mathlib.Core.Path.{refl}
 use Rattle.units.specs.Steps.{noUnits}
 use Rattle.units.proofs.Units.new.Statement.{statement}
 use Rattle.units.proofs.Units.new.Tie as tie
-use Rattle.units.proofs.Units.new.Reads as reads
-use Rattle.units.proofs.Units.new.Lts as lts
 
 returns : tie.Need-returns
 unfolding noUnits

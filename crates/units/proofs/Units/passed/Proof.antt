@@ -8,10 +8,6 @@ use Rattle.units.specs.Shown.{passedOf}
 use borrow.Author.Needs.{needs}
 use Rattle.units.proofs.Units.passed.Statement.{statement}
 use Rattle.units.proofs.Units.passed.Tie as tie
-use Rattle.units.proofs.Units.passed.Reads as reads
-use Rattle.units.proofs.Units.passed.Lts as lts
-use Rattle.lists.proofs.place.Reads as place-reads
-use Rattle.lists.proofs.wide16.Reads as wide16-reads
 
 returns : tie.Need-returns
 unfolding passedOf

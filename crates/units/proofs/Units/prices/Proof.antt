@@ -5,9 +5,6 @@ use Rattle.units.specs.Shown.{pricesOf}
 use borrow.Author.Needs.{needs}
 use Rattle.units.proofs.Units.prices.Statement.{statement}
 use Rattle.units.proofs.Units.prices.Tie as tie
-use Rattle.units.proofs.Units.prices.Reads as reads
-use Rattle.units.proofs.Units.prices.Lts as lts
-use Rattle.lists.proofs.wide32.Reads as wide32-reads
 
 array-read-wide32 : tie.Need-array-read-wide32
 array-read-wide32 c = search needs

@@ -5,10 +5,6 @@ use Rattle.units.specs.Steps.{putUpUnits}
 use borrow.Author.Needs.{needs}
 use Rattle.units.proofs.Units.put_up.Statement.{statement}
 use Rattle.units.proofs.Units.put_up.Tie as tie
-use Rattle.units.proofs.Units.put_up.Reads as reads
-use Rattle.units.proofs.Units.put_up.Lts as lts
-use Rattle.lists.proofs.add_at16.Reads as add-at16-reads
-use Rattle.lists.proofs.place.Reads as place-reads
 
 returns : tie.Need-returns
 unfolding putUpUnits

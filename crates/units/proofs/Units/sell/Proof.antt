@@ -7,13 +7,6 @@ use Rattle.units.specs.Steps.{soldCounts, soldSums, sellUnits}
 use borrow.Author.Needs.{needs}
 use Rattle.units.proofs.Units.sell.Statement.{statement}
 use Rattle.units.proofs.Units.sell.Tie as tie
-use Rattle.units.proofs.Units.sell.Reads as reads
-use Rattle.units.proofs.Units.sell.Lts as lts
-use Rattle.units.proofs.of_256.Reads as of-256-reads
-use Rattle.units.proofs.pool_place.Reads as pool-place-reads
-use Rattle.units.proofs.reprice.Reads as reprice-reads
-use Rattle.units.proofs.transfer.Reads as transfer-reads
-use Rattle.units.proofs.won_if.Reads as won-if-reads
 
 abbrev Inv-loop : tie.InvT-loop
 Inv-loop self kept round rounds pools prices won counts₀ sums₀ bids b₀ counts sums b = (b ≤ bids) × (bids ≤ 256) × (counts ≡ soldCounts round rounds pools won b counts₀) × (sums ≡ soldSums round rounds pools won prices b sums₀)

@@ -5,10 +5,6 @@ use Rattle.units.specs.Steps.{tearUnits}
 use borrow.Author.Needs.{needs}
 use Rattle.units.proofs.Units.tear.Statement.{statement}
 use Rattle.units.proofs.Units.tear.Tie as tie
-use Rattle.units.proofs.Units.tear.Reads as reads
-use Rattle.units.proofs.Units.tear.Lts as lts
-use Rattle.lists.proofs.place.Reads as place-reads
-use Rattle.units.proofs.torn_up.Reads as torn-up-reads
 
 returns : tie.Need-returns
 unfolding tearUnits
