@@ -1,9 +1,10 @@
 -- K4, K5 and the allotment of the worked example of document 01, by computation, with prices held as cents + 1,000,000. Assumes nothing.
 use mathlib.Core.Path.{_≡_, refl}
 use mathlib.Core.Bool.{true, false}
-use mathlib.Core.List.{[], _∷_}
+use mathlib.Core.List.{[], _∷_, map}
 use Prim.Native.Nat.{ℕ}
 use lib.IntN.{ℤ, pos, negsuc}
+use lib.ListN.{replicate}
 use Rattle.auction.specs.Computing.{computing}
 use Rattle.auction.specs.Auction.{validAt, allot}
 use Rattle.auction.specs.Limits.{allotInto}
@@ -67,3 +68,36 @@ lent-too-low = refl
 pub lent-too-high : aloneLent (bid 4 (pos 0) ∷ bid 5 (pos 1_000_001) ∷ []) 10 (negsuc 29) (7 ∷ 7 ∷ []) ≡ (5, 7 ∷ 7 ∷ [])
 unfolding computing
 lent-too-high = refl
+
+-- ---- the ends of each range of an auction run alone, each side
+
+-- "open units 0 to 1,000"
+pub open-ends :
+    map (λ (n : ℕ). aloneLent (bid 1 (pos 0) ∷ []) n (pos 0) (7 ∷ [])) (0 ∷ 1_000 ∷ 1_001 ∷ [])
+    ≡ (0, 0 ∷ []) ∷ (0, 1 ∷ []) ∷ (5, 7 ∷ []) ∷ []
+unfolding computing
+open-ends = refl
+
+-- "bid units 1 to 1,000"
+pub unit-ends :
+    map (λ (n : ℕ). aloneLent (bid n (pos 0) ∷ []) 1_000 (pos 0) (7 ∷ [])) (0 ∷ 1 ∷ 1_000 ∷ 1_001 ∷ [])
+    ≡ (5, 7 ∷ []) ∷ (0, 1 ∷ []) ∷ (0, 1_000 ∷ []) ∷ (5, 7 ∷ []) ∷ []
+unfolding computing
+unit-ends = refl
+
+-- "prices and reserves −10^6 to 10^6": the reserve
+pub reserve-ends :
+    map (λ (z : ℤ). aloneLent (bid 1 (pos 1_000_000) ∷ []) 1 z (7 ∷ [])) (negsuc 1_000_000 ∷ negsuc 999_999 ∷ pos 1_000_000 ∷ pos 1_000_001 ∷ [])
+    ≡ (5, 7 ∷ []) ∷ (0, 1 ∷ []) ∷ (0, 1 ∷ []) ∷ (5, 7 ∷ []) ∷ []
+unfolding computing
+reserve-ends = refl
+
+-- "1 if the runs differ in length or pass 256": the answers to 256 records with 255, 256 and 257 counts, and to 257 with 257
+pub record-ends :
+    map (λ (counts : ℕ). aloneLent (replicate 256 (bid 1 (pos 0))) 0 (pos 0) (replicate counts 7) .0) (255 ∷ 256 ∷ 257 ∷ []) ≡ 1 ∷ 0 ∷ 1 ∷ []
+unfolding computing
+record-ends = refl
+
+pub records-too-many : aloneLent (replicate 257 (bid 1 (pos 0))) 0 (pos 0) (replicate 257 7) .0 ≡ 1
+unfolding computing
+records-too-many = refl

@@ -7,8 +7,8 @@ use Prim.Native.Nat.{ℕ}
 use lib.Dec.{leb, ltb, eqb}
 use lib.ListN.{getD}
 use Rattle.lists.specs.Lists.{if_then_else_}
-use Rattle.lists.specs.Tests.{Test, firstOf}
-use Rattle.lists.proofs.Passed.{Passed, numbered, passed}
+use Rattle.lists.specs.Tests.{Test, firstOf, Passed}
+use Rattle.lists.proofs.Passed.{numbered, passed}
 use Rattle.auction.specs.Price.{priceOk}
 use Rattle.accounts.specs.Members.{someoneOwesIn}
 use Rattle.book.specs.declared.Stage.{Stage}

@@ -10,7 +10,7 @@ use lib.ListN.{length, getD}
 use borrow.Author.Tests.{leb-true, leb-false, not-false}
 use Rattle.lists.specs.Lists.{between}
 use Rattle.lists.proofs.Bools.{and-left, and-right}
-use Rattle.lists.proofs.Passed.{Passed}
+use Rattle.lists.specs.Tests.{Passed}
 use Rattle.auction.specs.Price.{priceOk, priceLimit}
 use Rattle.machine.specs.Wire as Wire
 use Rattle.machine.specs.Roll.{Entry, Bid, noBid}

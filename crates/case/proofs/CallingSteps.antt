@@ -9,7 +9,7 @@ use borrow.Author.Tests.{ltb-false, not-false}
 use Rattle.lists.specs.Lists.{mapFrom}
 use Rattle.lists.specs.Adding.{most32}
 use Rattle.lists.proofs.Bools.{either}
-use Rattle.lists.proofs.Passed.{Passed}
+use Rattle.lists.specs.Tests.{Passed}
 use Rattle.machine.specs.Wire as Wire
 use Rattle.machine.specs.Roll.{Entry}
 use Rattle.machine.specs.State as M

@@ -1,5 +1,5 @@
--- THE CLAIM of document 01 about the ledger (specs/Claim.antt): over every list of calls, any bytes, the ledger's answers and what is read of
--- it after each call are those of the roll's machine. Assumes nothing.
+-- The ledger and the roll's machine agree (specs/Claim.antt): over every list of calls, any bytes, the ledger's answers and what is read of
+-- it after each call are the machine's. Assumes nothing.
 use mathlib.Core.Path.{_≡_, refl, sym, ap, subst, _∙_}
 use mathlib.Core.Bool.{Bool, true, false}
 use mathlib.Core.List.{List, [], _∷_, _++_, map}
@@ -11,7 +11,7 @@ use borrow.Author.Tests.{eqb-true, not-false}
 use Rattle.lists.specs.Lists.{if_then_else_}
 use Rattle.lists.proofs.Bools.{same-choice}
 use Rattle.lists.proofs.Each.{Each}
-use Rattle.lists.proofs.Passed.{Passed}
+use Rattle.lists.specs.Tests.{Passed}
 use Rattle.machine.specs.Wire.{Head, Call, HEAD, decode}
 use Rattle.machine.specs.State as M
 use Rattle.machine.specs.Calls.{accepted}
@@ -30,10 +30,10 @@ use Rattle.case.specs.declared.Ran.{Ran}
 use Rattle.case.specs.View.{view}
 use Rattle.case.specs.Cases.{caseAfter, caseAnswerTo, firstAnswerTo, answerTo, afterAsked, takeAsked, applied, noHeld}
 use Rattle.case.specs.Readings.{seen}
-use Rattle.case.specs.Claim.{Bytes, Agrees, ledgerFrom}
+use Rattle.case.specs.Claim.{Bytes, Read, Agrees, ledgerFrom}
 use Rattle.case.specs.Input.{Runs, ledgerAfter, ledgerAnswers}
 use Rattle.case.proofs.Steps.{next-shown, head-shown}
-use Rattle.case.proofs.Decoded.{Read, AllRead, drop-bytes, read-fits, decoded-read, answer-shown, first-shown}
+use Rattle.case.proofs.Decoded.{AllRead, drop-bytes, read-fits, decoded-read, answer-shown, first-shown}
 use Rattle.case.proofs.Strings.{take-bytes}
 use Rattle.case.proofs.Observations.{case-observed, none-observed}
 
@@ -99,7 +99,7 @@ pub record Taken (h : Held) (s : M.State) (asked : Option Call) : Type 0 where
   pub answer : takeAsked h asked .answer ≡ answered s asked .answer
   pub tied : Tied (takeAsked h asked .held) (answered s asked .state)
 
-taken : (h : Held) (s : M.State) → Tied h s → (asked : Option Call) → AllRead asked → Taken h s asked
+pub taken : (h : Held) (s : M.State) → Tied h s → (asked : Option Call) → AllRead asked → Taken h s asked
 unfolding takeAsked answered answerTo caseAnswerTo firstAnswerTo afterAsked
 taken h s t none r =
     let one = same-choice {A = ℕ} (h .present) 1 in
@@ -150,7 +150,7 @@ agrees-from h s t (call ∷ calls) b =
     let rest = agrees-from (applied h call .held) (step s call .state) (now .tied) calls (b .1) in
     λ i. here i ∷ rest i
 
-none-tied : Tied noHeld none
+pub none-tied : Tied noHeld none
 unfolding noHeld
 none-tied = refl
 

@@ -22,27 +22,11 @@ use Rattle.machine.proofs.Reached.{Fits}
 use Rattle.book.proofs.Sound.{Sound}
 use Rattle.case.specs.declared.Case.{Case}
 use Rattle.case.specs.View.{view}
-use Rattle.case.specs.Claim.{Bytes}
+use Rattle.case.specs.Claim.{Bytes, Read}
 use Rattle.case.specs.Cases.{headFrom, caseAnswer, firstAnswer}
 use Rattle.book.proofs.AnswersShown.{head-answer, pool-answer, member-answer, round-answer, bid-answer, close-answer, allocate-answer, tear-answer, call-answer, pay-answer, move-answer, miss-answer, finish-answer}
 
 -- ---- the bytes
-
--- HEAD's set has 32 bits, MEMBER expects units in four pools, and ROUND has at most four reserves
-abbrev pub Read : Call → Type 0
-Read (HEAD h) = h .set < 2 ^ 32
-Read (POOL pool units mark) = Unit {0}
-Read (MEMBER m contribution expected) = length expected ≡ 4
-Read (ROUND reserves) = length reserves ≤ 4
-Read (BID pool m units price) = Unit {0}
-Read CLOSE = Unit {0}
-Read (ALLOCATE pool price) = Unit {0}
-Read (TEAR pool price) = Unit {0}
-Read CALL = Unit {0}
-Read (PAY m amount) = Unit {0}
-Read (MOVE m) = Unit {0}
-Read (MISS m price) = Unit {0}
-Read FINISH = Unit {0}
 
 -- what the machine's invariant asks of a call
 pub read-fits : (call : Call) → Read call → Fits call

@@ -15,4 +15,5 @@ pub mod Steps
 pub mod Observations
 pub mod Claim
 pub mod Finishes
+pub mod Claims
 pub mod Small

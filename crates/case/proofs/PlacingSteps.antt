@@ -7,7 +7,7 @@ use native.Mathlib.Omega.{arith}
 use lib.ListN.{getD}
 use borrow.Author.Tests.{leb-false}
 use Rattle.lists.specs.Lists.{mapFrom}
-use Rattle.lists.proofs.Passed.{Passed}
+use Rattle.lists.specs.Tests.{Passed}
 use Rattle.machine.specs.Wire as Wire
 use Rattle.machine.specs.Roll.{Entry}
 use Rattle.machine.specs.Calls.{allocation, alsoAllocated, afterAllocate, afterTear, accepted}

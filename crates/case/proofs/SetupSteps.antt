@@ -12,7 +12,7 @@ use Rattle.lists.specs.Lists.{sum, sumByKey, tab}
 use Rattle.lists.specs.Adding.{heldTo}
 use Rattle.lists.proofs.Bools.{either, or-left, or-right}
 use Rattle.lists.proofs.Places.{getD-tab, tab-of}
-use Rattle.lists.proofs.Passed.{Passed}
+use Rattle.lists.specs.Tests.{Passed}
 use Rattle.machine.specs.Wire as Wire
 use Rattle.machine.specs.Roll.{Entry}
 use Rattle.machine.specs.State as M

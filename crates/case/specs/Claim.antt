@@ -1,26 +1,36 @@
 -- THE CLAIM of document 01 about the ledger, over every list of calls: "the ledger's answers, counts, members' holdings and sum of prices after
--- each call are those of the roll's machine", and after FINISH the loss, the charges and the ranks. It is proved in proofs/Claim.antt.
+-- each call are those of the roll's machine", and after FINISH the loss, the charges and the ranks. All of it is one record, `Claim`, at the end
+-- of this file; it is proved in proofs/Claims.antt (`claim`).
 --
 -- How it is tied to the code: the function `apply` takes what is held and any bytes, and its contract is `r ≡ applied held bytes`, with no
 -- `requires`. So whoever starts with `Held::none` and calls `apply` in turn gets what `ledgerFrom` iterates. The function `run` does so over
--- the fields of a whole input, and its contract says it for the code itself.
+-- the fields of a whole input, and its contract says it for the code itself. The contracts of the thirteen methods are `r ≡ outcomeOf self call`,
+-- and of HEAD `r ≡ headOutcome head`. Prices are cents + 1,000,000 throughout.
 use mathlib.Core.Path.{_≡_}
 use mathlib.Core.Bool.{true}
 use mathlib.Core.List.{List, [], _∷_, map}
-use mathlib.Core.Option.{some}
-use Prim.Native.Nat.{ℕ, _+_, _≤_, _<_}
+use mathlib.Core.Option.{none, some}
+use Prim.Native.Nat.{ℕ, _+_, _≤_, _<_, _^_}
 use lib.IntN.{pos, _-ℤ_}
-use lib.ListN.{getD}
+use lib.ListN.{length, getD}
 use Rattle.lists.specs.Lists.{sum, Each}
+use Rattle.lists.specs.Tests.{Passed, First}
 use Rattle.sets.specs.Set.{member, members}
 use Rattle.auction.specs.Price.{atLeast0}
-use Rattle.machine.specs.Wire.{FINISH, decode}
-use Rattle.machine.specs.Run.{Observed, run}
+use Rattle.machine.specs.Wire.{Call, HEAD, POOL, MEMBER, ROUND, BID, CLOSE, ALLOCATE, TEAR, CALL, PAY, MOVE, MISS, FINISH, decode}
+use Rattle.machine.specs.State as M
+use Rattle.machine.specs.Requirement.{requirement}
+use Rattle.machine.specs.Refusals.{tests}
+use Rattle.machine.specs.Machine.{answered}
+use Rattle.machine.specs.Result.{limits}
+use Rattle.machine.specs.Run.{Result, Observed, observed, run, runFrom}
+use Rattle.wire.specs.declared.Head.{Head}
+use Rattle.wire.specs.Asked.{headOf}
 use Rattle.book.specs.declared.Book.{Book}
 use Rattle.book.specs.Results.{limitsIn, resultIn}
 use Rattle.case.specs.declared.Case.{Case}
 use Rattle.case.specs.declared.Held.{Held}
-use Rattle.case.specs.Cases.{applied, noHeld}
+use Rattle.case.specs.Cases.{applied, noHeld, headOutcome, outcomeOf}
 use Rattle.case.specs.Readings.{sumOfPricesIn, shownResult, seen}
 use Rattle.case.specs.Input.{ledgerAfter}
 
@@ -38,6 +48,65 @@ Bytes = Each (λ b. b < 256)
 -- the ledger and the roll's machine agree in every answer and every observation, after every call of every list of byte strings
 abbrev pub Agrees : Type 0
 Agrees = (calls : List (List ℕ)) → Each Bytes calls → ledgerFrom noHeld calls ≡ run calls
+
+-- ---- one call: "the first number that applies"
+
+-- what is answered to any bytes, where the machine is in state s
+pub record Answers (h : Held) (s : M.State) (bytes : List ℕ) : Type 0 where
+  -- bytes that are no call are refused with 1
+  pub no-call : decode bytes ≡ none → applied h bytes .answer ≡ 1
+  -- a call to which no reason of its list applies is accepted
+  pub passed-accepted : (call : Call) → decode bytes ≡ some call → Passed (tests s (M.theCase s) call) → applied h bytes .answer ≡ 0
+  -- any other is refused with the first number that applies
+  pub answer-first : (call : Call) → decode bytes ≡ some call → (applied h bytes .answer ≡ 0 → ⊥) → First (applied h bytes .answer) (tests s (M.theCase s) call)
+  -- "a refused call leaves all as it was"
+  pub refused-unchanged : (applied h bytes .answer ≡ 0 → ⊥) → applied h bytes .held ≡ h
+
+-- so it is after every list of calls
+abbrev pub AnswersFirst : Type 0
+AnswersFirst = (calls : List (List ℕ)) → Each Bytes calls → (bytes : List ℕ) → Bytes bytes → Answers (ledgerAfter noHeld calls) (runFrom none calls) bytes
+
+-- ---- each unit is exactly one of five
+
+-- the five counts that are read of a pool add up to the units that POOL put up
+abbrev pub OneOfFive : Type 0
+OneOfFive =
+    (calls : List (List ℕ)) → Each Bytes calls → (c : M.Case) → runFrom none calls ≡ some c → (n pool : ℕ) → pool < length (c .pools)
+    → sum (getD (seen n (ledgerAfter noHeld calls) .counts) pool []) ≡ getD (c .pools) pool M.noPool .units
+
+-- ---- the calls as methods
+
+-- a call as it is read, or as the types of a method give it: a set of 32 bits, units expected in four pools, at most four reserves
+abbrev pub Read : Call → Type 0
+Read (HEAD h) = h .set < 2 ^ 32
+Read (POOL pool units mark) = Unit {0}
+Read (MEMBER m contribution expected) = length expected ≡ 4
+Read (ROUND reserves) = length reserves ≤ 4
+Read (BID pool m units price) = Unit {0}
+Read CLOSE = Unit {0}
+Read (ALLOCATE pool price) = Unit {0}
+Read (TEAR pool price) = Unit {0}
+Read CALL = Unit {0}
+Read (PAY m amount) = Unit {0}
+Read (MOVE m) = Unit {0}
+Read (MISS m price) = Unit {0}
+Read FINISH = Unit {0}
+
+-- a method of a case that a list of calls has led to answers as the machine, and what is then observed of the case is what is observed of the machine
+abbrev pub MethodsAgree : Type 0
+MethodsAgree =
+    (calls : List (List ℕ)) → Each Bytes calls → (c : M.Case) → runFrom none calls ≡ some c → (call : Call) → Read call
+    → let o = outcomeOf (ledgerAfter noHeld calls .case) (some call) in
+    let a = answered (some c) (some call) in
+    seen (o .answer) (record { present = true; case = o .case }) ≡ observed (a .answer) (a .state)
+
+-- HEAD makes a case where there is none
+abbrev pub HeadAgrees : Type 0
+HeadAgrees =
+    (h : Head) → h .set < 2 ^ 32
+    → let o = headOutcome h in
+    let a = answered none (some (HEAD (headOf h))) in
+    seen (o .answer) (o .held) ≡ observed (a .answer) (a .state)
 
 -- ---- after an accepted FINISH
 
@@ -80,3 +149,37 @@ abbrev pub Finishes : Type 0
 Finishes =
     (calls : List (List ℕ)) → Each Bytes calls → (finish : List ℕ) → decode finish ≡ some FINISH
     → applied (ledgerAfter noHeld calls) finish .answer ≡ 0 → AfterFinish (applied (ledgerAfter noHeld calls) finish .held)
+
+-- ---- every list whose case is finished
+
+-- a result by the requirement and the six limits of the machine's case, which are read off its roll
+pub record Covers (r : Result) (c : M.Case) : Type 0 where
+  pub loss : r .loss ≡ requirement c
+  -- "the charges add up"
+  pub add-up : sum (r .charges) + r .uncovered ≡ r .loss
+  -- no layer is charged above its limit, none while an earlier one has money left, and nothing is uncovered before all six are spent
+  pub within : (layer : ℕ) → getD (r .charges) layer 0 ≤ getD (limits c) layer 0
+  pub in-turn : (earlier later : ℕ) → earlier < later → 0 < getD (r .charges) later 0 → getD (r .charges) earlier 0 ≡ getD (limits c) earlier 0
+  pub uncovered-last : 0 < r .uncovered → (layer : ℕ) → getD (r .charges) layer 0 ≡ getD (limits c) layer 0
+
+-- what is shown of the ledger where the machine's case is finished
+pub record ShownFinished (h : Held) (c : M.Case) : Type 0 where
+  pub result : Result
+  pub shown : (n : ℕ) → seen n h .result ≡ some result
+  pub covers : Covers result c
+
+abbrev pub Finished : Type 0
+Finished =
+    (calls : List (List ℕ)) → Each Bytes calls → (c : M.Case) → runFrom none calls ≡ some c → M.letter (c .stage) ≡ 5
+    → ShownFinished (ledgerAfter noHeld calls) c
+
+-- ---- the claim
+
+pub record Claim : Type 0 where
+  pub answers : AnswersFirst
+  pub agrees : Agrees
+  pub one-of-five : OneOfFive
+  pub methods : MethodsAgree
+  pub head : HeadAgrees
+  pub finishes : Finishes
+  pub finished : Finished

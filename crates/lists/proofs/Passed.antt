@@ -8,14 +8,9 @@ use native.Mathlib.Omega.{arith}
 use lib.Dec.{ltb}
 use borrow.Author.Tests.{ltb-true, lt-ltb}
 use Rattle.lists.specs.Lists.{if_then_else_}
-use Rattle.lists.specs.Tests.{Test, firstOf}
+use Rattle.lists.specs.Tests.{Test, firstOf, Passed, First}
 use Rattle.lists.proofs.Bools.{and-left, and-right}
 use Rattle.lists.proofs.Each.{Each, each-more}
-
--- no test holds: a tuple of equations, nested to the right
-abbrev pub Passed : List Test → Type 0
-Passed [] = Unit {0}
-Passed (t ∷ ts) = (t .1 ≡ false) × Passed ts
 
 -- every number is above 0, which computes
 abbrev pub numbered : List Test → Bool
@@ -39,16 +34,6 @@ accepted [] p = refl
 accepted (t ∷ ts) p = rw (p .0) (accepted ts (p .1))
 
 -- ---- a declined call
-
--- n is the number of a test of the list that holds, and no earlier one does
-pub record First (n : ℕ) (ts : List Test) : Type 0 where
-  pub before : List Test
-  pub test : Test
-  pub after : List Test
-  pub parts : ts ≡ before ++ (test ∷ after)
-  pub earlier : Passed before
-  pub holds : test .1 ≡ true
-  pub number : n ≡ test .0
 
 first-one : (t : Test) (ts : List Test) (b : Bool) → t .1 ≡ b → ((firstOf ts ≡ 0 → ⊥) → First (firstOf ts) ts)
     → ((if b then t .0 else firstOf ts) ≡ 0 → ⊥) → First (if b then t .0 else firstOf ts) (t ∷ ts)

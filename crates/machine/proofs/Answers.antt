@@ -10,7 +10,8 @@ use lib.Dec.{eqb}
 use borrow.Author.Tests.{eqb-true, eqb-false, eq-eqb}
 use Rattle.lists.specs.Lists.{if_then_else_}
 use Rattle.lists.proofs.Each.{Each}
-use Rattle.lists.proofs.Passed.{Passed, passed, accepted as passed-accepted, First, first-holds, ascending, ascending-numbered, first-least}
+use Rattle.lists.specs.Tests.{Passed, First}
+use Rattle.lists.proofs.Passed.{passed, accepted as passed-accepted, first-holds, ascending, ascending-numbered, first-least}
 use Rattle.machine.specs.Wire.{Call, HEAD, POOL, MEMBER, ROUND, BID, CLOSE, ALLOCATE, TEAR, CALL, PAY, MOVE, MISS, FINISH, decode}
 use Rattle.machine.specs.State.{Case, State, theCase}
 use Rattle.machine.specs.Calls.{accepted}

@@ -24,12 +24,12 @@ Byte b = b < 256
 abbrev pub Bytes : List (List ℕ) → Type 0
 Bytes calls = Each (Each Byte) calls
 
-each-drop : (n : ℕ) (xs : List ℕ) → Each Byte xs → Each Byte (drop n xs)
+pub each-drop : (n : ℕ) (xs : List ℕ) → Each Byte xs → Each Byte (drop n xs)
 each-drop zero xs h = h
 each-drop (suc n) [] h = tt
 each-drop (suc n) (x ∷ xs) h = each-drop n xs (h .1)
 
-four-bytes : (s : List ℕ) → Each Byte s → bigEndian 0 (take 4 s) < 2 ^ 32
+pub four-bytes : (s : List ℕ) → Each Byte s → bigEndian 0 (take 4 s) < 2 ^ 32
 unfolding bigEndian
 four-bytes [] h = omega arith
 four-bytes (a ∷ []) h = omega (arith, h .0)

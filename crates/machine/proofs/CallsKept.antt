@@ -19,7 +19,7 @@ use Rattle.lists.proofs.Keep.{sum-keep-cons}
 use Rattle.lists.proofs.Counts.{count-append, count-replicate-out, each-all, each-any}
 use Rattle.lists.proofs.Each.{Each, set-cases, each-at, each-append, each-replicate, each-more, each-both, each-keep, each-mapFrom, each-mapFrom-at, each-kept-at, each-get, same-mapFrom, length-mapFrom, map-append, map-replicate}
 use Rattle.lists.proofs.Pairs.{Pairs, pairs-mapFrom, pairs-at}
-use Rattle.lists.proofs.Passed.{Passed}
+use Rattle.lists.specs.Tests.{Passed}
 use Rattle.auction.specs.Price.{priceOk, priceLimit}
 use Rattle.sets.specs.Set.{members}
 use Rattle.machine.specs.Wire.{Head, POOL, MEMBER, ROUND, BID, CLOSE, ALLOCATE, TEAR, CALL, PAY, MOVE, MISS, FINISH}

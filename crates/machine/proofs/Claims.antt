@@ -1,26 +1,29 @@
 -- What is proved of document 01's machine, in one place: over every state, every list of calls, any bytes. Each claim cites its proof. Assumes nothing.
 use mathlib.Core.Path.{_≡_, refl, sym, ap, _∙_}
-use mathlib.Core.Bool.{true, false}
+use mathlib.Core.Bool.{true, false, _&&_}
 use mathlib.Core.List.{List, _++_, map, map-map}
 use mathlib.Core.Option.{none, some}
 use Prim.Native.Nat.{ℕ, _+_, _-_, _≤_, _<_, min}
 use lib.Dec.{eqb}
-use lib.IntN.{pos, _-ℤ_}
+use lib.IntN.{pos, negsuc, _-ℤ_}
 use lib.ListN.{length, getD}
+use lib.Signed.{leZ}
 use Rattle.lists.specs.Lists.{sum, count, keep}
 use Rattle.lists.proofs.Each.{Each, each-at}
-use Rattle.lists.proofs.Passed.{Passed, First}
-use Rattle.auction.specs.Price.{priceLimit, atLeast0}
-use Rattle.machine.specs.Wire.{Call, ALLOCATE, FINISH, decode}
+use Rattle.lists.specs.Tests.{Passed, First}
+use Rattle.auction.specs.Price.{priceLimit, priceOk, cents, atLeast0}
+use Rattle.machine.specs.Wire.{Call, ALLOCATE, FINISH, number, price, signed, decode}
 use Rattle.machine.specs.Roll.{Entry, Sold, Allocated, Moved, noBid, openUnits, priceOf}
 use Rattle.machine.specs.State.{Finished, Case, State, theCase, letter, letterOf, roundOf, withStage, noPool, noMember, noRound, inSet, memberList, memberAt}
 use Rattle.machine.specs.Requirement.{requirement, contributions, prefunded}
 use Rattle.machine.specs.Calls.{reserve, inAuction, bidsAfter, wonByMember, shortfall, totalShortfall, allocation, calls, afterClose, afterAllocate, accepted}
 use Rattle.machine.specs.Refusals.{tests}
 use Rattle.machine.specs.Machine.{step}
+use Rattle.machine.specs.Table.{ByTable}
 use Rattle.machine.specs.Result.{worstReserve, standing, rank, payments, limits, charge, spent, onContribution, onPayments}
 use Rattle.machine.specs.Run.{Result, MemberResult, runFrom, fiveCounts, sumOfPrices, resultOf, observed}
 use Rattle.machine.proofs.Answers as A
+use Rattle.machine.proofs.Tables as T
 use Rattle.machine.proofs.Invariant.{CaseOk}
 use Rattle.machine.proofs.RollChanges.{soldTo}
 use Rattle.machine.proofs.CallsKept as K
@@ -29,6 +32,7 @@ use Rattle.machine.proofs.Reached as R
 use Rattle.machine.proofs.RollSteps as S
 use Rattle.machine.proofs.Bounds as B
 use Rattle.machine.proofs.Bytes as Y
+use Rattle.machine.proofs.Prices as P
 use Rattle.machine.proofs.Later as L
 use Rattle.machine.proofs.Finish as F
 
@@ -57,6 +61,21 @@ module _ (s : State) (bytes : List ℕ) where
 
     pub answer-least : Each (λ t. t .1 ≡ true → step s bytes .answer ≤ t .0) (tests s (theCase s) call)
     answer-least = rw (A.call-answer s bytes call is) (A.refusal-least s call)
+
+-- a step is answered 1 or 2 exactly where 01's table of stages says so, and an accepted call leaves the case in the table's stage
+pub step-by-table : (s : State) (bytes : List ℕ) → ByTable s bytes
+step-by-table = T.by-table
+
+-- ---- prices, of any bytes
+
+module _ (at : ℕ) (v : List ℕ) (bytes : Each Y.Byte v) where
+  -- the 4 bytes of a price are in range exactly if the price that they mean is: "prices and reserves −10^6 to 10^6"
+  pub price-in-range : priceOk (price at v) ≡ (leZ (negsuc 999_999) (signed (number at 4 v)) && leZ (signed (number at 4 v)) (pos 1_000_000))
+  price-in-range = P.price-in-range at v bytes
+
+  -- and what is held of them then means those cents
+  pub price-in-cents : priceOk (price at v) ≡ true → cents (price at v) ≡ signed (number at 4 v)
+  price-in-cents = P.price-in-cents at v bytes
 
 -- ---- the roll, in any state
 

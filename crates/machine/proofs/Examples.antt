@@ -1,7 +1,7 @@
 -- Document 01, "Examples": K1 to K8 as one theorem over one list, and what the program `ledger` prints for the input named there.
--- Calls are given by their bytes, which are written out: what a function made would be computed again at every read. Assumes nothing.
+-- Calls are given by their bytes. Assumes nothing.
 use mathlib.Core.Path.{_≡_, refl}
-use mathlib.Core.List.{List, [], _∷_, map}
+use mathlib.Core.List.{List, [], _∷_, _++_, map}
 use mathlib.Core.Option.{none}
 use Prim.Native.Nat.{ℕ, _-_, _*_}
 use Rattle.lists.specs.Lists.{sum}
@@ -10,7 +10,8 @@ use Rattle.auction.specs.Price.{zeroPrice}
 use Rattle.auction.specs.Auction.{allot}
 use Rattle.machine.specs.Roll.{prices}
 use Rattle.machine.specs.State.{Case, theCase}
-use Rattle.machine.specs.Requirement.{firstTranche, secondTranche}
+use Rattle.machine.specs.Requirement.{firstTranche, secondTranche, owes}
+use Rattle.machine.specs.Machine.{step}
 use Rattle.machine.specs.Run.{Observed, run, runFrom, fiveCounts}
 use Rattle.machine.specs.Printed.{printed}
 use Rattle.machine.specs.Computing.{computing}
@@ -22,6 +23,10 @@ answers calls = map (λ (o : Observed). o .answer) (run calls)
 -- the case after a list of calls
 abbrev pub caseAfter : List (List ℕ) → Case
 caseAfter calls = theCase (runFrom none calls)
+
+-- the answers to some calls after a list of calls, each asked by itself
+abbrev pub answersAfter : List (List ℕ) → List (List ℕ) → List ℕ
+answersAfter calls asked = map (λ (call : List ℕ). step (runFrom none calls) call .answer) asked
 
 -- an example: what the definitions give, and what the paper says
 pub record Example : Type 0 where
@@ -63,9 +68,9 @@ callOut = 9 ∷ 0 ∷ 0 ∷ []
 abbrev finish : List ℕ
 finish = 13 ∷ 0 ∷ 0 ∷ []
 
--- K8: member 0 owes 25, and its bid of 3 units at −10 was sold; it has a MOVE
-abbrev k8 : List (List ℕ)
-k8 =
+-- K8: member 0 owes 25, and its bid of 3 units at −10 was sold
+abbrev k8Owed : List (List ℕ)
+k8Owed =
     -- HEAD 1, 1, {0}, 20, 0, 0, 0, 0
     (1 ∷ 0 ∷ 27 ∷ 1 ∷ 0 ∷ 1 ∷ 0 ∷ 0 ∷ 0 ∷ 1 ∷ 0 ∷ 0 ∷ 0 ∷ 20 ∷ 0 ∷ 0 ∷ 0 ∷ 0 ∷ 0 ∷ 0 ∷ 0 ∷ 0 ∷ 0 ∷ 0 ∷ 0 ∷ 0 ∷ 0 ∷ 0 ∷ 0 ∷ 0 ∷ [])
     -- POOL 0, 3, 0
@@ -80,9 +85,15 @@ k8 =
     ∷ (6 ∷ 0 ∷ 0 ∷ [])
     -- CALL: the requirement is 20 + 30, prefunded 25
     ∷ (9 ∷ 0 ∷ 0 ∷ [])
-    -- MOVE 0
-    ∷ (11 ∷ 0 ∷ 1 ∷ 0 ∷ [])
     ∷ []
+
+-- and has a MOVE
+abbrev k8 : List (List ℕ)
+k8 = k8Owed ++ ((11 ∷ 0 ∷ 1 ∷ 0 ∷ []) ∷ [])
+
+-- the prices held after a list of calls, added up
+abbrev pricesAfter : List (List ℕ) → ℕ
+pricesAfter calls = sum (prices (caseAfter calls .bids) (caseAfter calls .roll))
 
 abbrev pub examples : List Example
 examples =
@@ -102,15 +113,18 @@ examples =
     -- K7 house money 1: tranches 0 and 1.
     ∷ (firstTranche 1 ∷ secondTranche 1 ∷ [] says 0 ∷ 1 ∷ [])
     -- K8 owed 25, one bid of 3 units at −10: 3 moved, 30 saved (the prices held are those of 3 units at 0, and were those of 3 at −10).
+    ∷ (owes (caseAfter k8Owed .members) 0 ∷ [] says 25 ∷ [])
     ∷ (answers k8 says 0 ∷ 0 ∷ 0 ∷ 0 ∷ 0 ∷ 0 ∷ 0 ∷ 0 ∷ [])
     ∷ (fiveCounts (caseAfter k8 .roll) 0 says 0 ∷ 0 ∷ 0 ∷ 3 ∷ 0 ∷ [])
-    ∷ (sum (prices (caseAfter k8 .bids) (caseAfter k8 .roll)) ∷ [] says 3 * zeroPrice ∷ [])
+    ∷ (pricesAfter k8Owed ∷ pricesAfter k8 ∷ [] says 3 * (zeroPrice - 10) ∷ 3 * zeroPrice ∷ [])
+    ∷ ((pricesAfter k8 - pricesAfter k8Owed) ∷ [] says 30 ∷ [])
     ∷ []
 
 -- K1 to K8, the one theorem
 pub examples-hold : AllHold examples
 unfolding computing
-examples-hold = (refl, (refl, (refl, (refl, (refl, (refl, (refl, (refl, (refl, (refl, (refl, (refl, (refl, tt)))))))))))))
+examples-hold =
+    (refl, (refl, (refl, (refl, (refl, (refl, (refl, (refl, (refl, (refl, (refl, (refl, (refl, (refl, (refl, tt)))))))))))))))
 
 -- ---- the program `ledger`
 

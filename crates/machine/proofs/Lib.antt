@@ -1,6 +1,12 @@
 pub mod Examples
 pub mod Worked
+pub mod CallBytes
+pub mod WorkedDebts
+pub mod WorkedRanks
+pub mod WorkedStages
+pub mod WorkedRanges
 pub mod Answers
+pub mod Tables
 pub mod RollChanges
 pub mod Giving
 pub mod Shares
@@ -14,5 +20,6 @@ pub mod Bounds
 pub mod RollSteps
 pub mod Later
 pub mod Bytes
+pub mod Prices
 pub mod Finish
 pub mod Claims

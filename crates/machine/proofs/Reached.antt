@@ -10,7 +10,7 @@ use borrow.Author.Tests.{not-false}
 use Rattle.lists.specs.Lists.{between}
 use Rattle.lists.proofs.Bools.{either}
 use Rattle.lists.proofs.Places.{length-tab}
-use Rattle.lists.proofs.Passed.{Passed}
+use Rattle.lists.specs.Tests.{Passed}
 use Rattle.machine.specs.Wire.{Head, Call, HEAD, POOL, MEMBER, ROUND, BID, CLOSE, ALLOCATE, TEAR, CALL, PAY, MOVE, MISS, FINISH, number, rightLength, callOf, decode}
 use Rattle.machine.specs.State.{Case, State, theCase, letterOf}
 use Rattle.machine.specs.Calls.{accepted}

@@ -11,7 +11,7 @@ use borrow.Author.Tests.{ne-eqb, not-false}
 use Rattle.lists.specs.Lists.{if_then_else_, count}
 use Rattle.lists.proofs.Counts.{count-append, count-of-map}
 use Rattle.lists.proofs.Each.{each-always, map-append, map-replicate}
-use Rattle.lists.proofs.Passed.{Passed}
+use Rattle.lists.specs.Tests.{Passed}
 use Rattle.machine.specs.Wire.{Call, HEAD, POOL, MEMBER, ROUND, BID, CLOSE, ALLOCATE, TEAR, CALL, PAY, MOVE, MISS, FINISH, decode}
 use Rattle.machine.specs.Roll.{UnitState, Open, Entry, kind, isOpen, openIn, openUnits, putUp, passedTo}
 use Rattle.machine.specs.State.{State, theCase, letterOf, memberList, roundOf}

@@ -12,17 +12,17 @@ use Rattle.machine.specs.Computing.{computing}
 use Rattle.machine.proofs.Examples.{answers, caseAfter, AllHold, _says_}
 
 -- the letters of the lines
-abbrev p : ℕ
+abbrev pub p : ℕ
 p = 112
 
-abbrev l : ℕ
+abbrev pub l : ℕ
 l = 108
 
-abbrev m : ℕ
+abbrev pub m : ℕ
 m = 109
 
 -- what is seen of a list of calls: the answers, and the lines of the end
-abbrev shown : List (List ℕ) → List (List ℕ)
+abbrev pub shown : List (List ℕ) → List (List ℕ)
 shown calls = answers calls ∷ map (λ (x : Line). x .letter ∷ x .numbers) (endLines (runFrom none calls))
 
 -- a list of calls, and what is to be seen of it

@@ -6,6 +6,7 @@ pub mod Move
 pub mod Calls
 pub mod Refusals
 pub mod Machine
+pub mod Table
 pub mod Result
 pub mod Run
 pub mod Printed

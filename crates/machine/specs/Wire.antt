@@ -4,7 +4,8 @@ use mathlib.Core.Bool.{Bool, _&&_}
 use mathlib.Core.List.{List, [], _∷_}
 use mathlib.Core.Option.{Option, none, some}
 use Prim.Native.Nat.{ℕ, _+_, _-_, _*_, _/_, _%_, _^_}
-use lib.Dec.{eqb}
+use lib.Dec.{ltb, eqb}
+use lib.IntN.{ℤ, pos, negsuc}
 use lib.ListN.{length, getD, take, drop}
 use Rattle.lists.specs.Lists.{if_then_else_, between, tab}
 use Rattle.auction.specs.Price.{zeroPrice}
@@ -20,7 +21,7 @@ pub record Head : Type 0 where
   pub fund : ℕ
   pub house : ℕ
 
--- the thirteen calls, each with the numbers of its value
+-- the thirteen calls, each with the numbers of its value. Prices and reserves are held as cents + 1,000,000
 pub data Call : Type 0 where
   HEAD : Head → Call
   POOL : (pool units mark : ℕ) → Call
@@ -45,7 +46,12 @@ bigEndian n (b ∷ s) = bigEndian (n * 256 + b) s
 unfoldable pub number : ℕ → ℕ → List ℕ → ℕ
 number at k v = bigEndian 0 (take k (drop at v))
 
--- the price in 4 bytes: two's complement, held as `Price` says. A price out of range is above 2,000,000
+-- what a number of 32 bits means in "signed two's complement"
+unfoldable pub signed : ℕ → ℤ
+signed n = if ltb n (2 ^ 31) then pos n else negsuc (2 ^ 32 - 1 - n)
+
+-- the price in 4 bytes, held as cents + 1,000,000 (`Price`): a price that is in range means the cents that its bytes do (`price-in-cents`), and one that is
+-- out of range is above 2,000,000 (`price-in-range`)
 unfoldable pub price : ℕ → List ℕ → ℕ
 price at v = (number at 4 v + zeroPrice) % 2 ^ 32
 

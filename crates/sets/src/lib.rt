@@ -1,7 +1,7 @@
 // Sets of up to 32 members, as the bits of a u32: bit i is member i. Whether two sets are the same is `==` on the numbers.
 ghost use mathlib.Core.Path.{_≡_};
-ghost use lib.ListN.{length, drop, getD};
-ghost use Rattle.sets.specs.Set.{member, members, withMember, headOr, ofMembers};
+ghost use lib.ListN.{length, drop};
+ghost use Rattle.sets.specs.Set.{member, members, withMember, headOr};
 
 // Whether i is in the set.
 pub fn has(set: u32, i: u8) -> bool
@@ -36,18 +36,4 @@ pub fn without_least(set: u32) -> u32
     ensures { λ r. ⌜ members r ≡ drop 1 (members set) ⌝ }
 {
     if set == 0 { 0 } else { set & (set - 1) }
-}
-
-// The values of the members, and 0 at the other places. Every loop over members has the form of this one.
-pub fn of_members(s: u32, values: [u64; 32]) -> [u64; 32]
-    ensures { λ r. ⌜ r ≡ ofMembers s (λ m. getD values m 0) ⌝ }
-{
-    let mut out = [0u64; 32];
-    let mut left = s;
-    while left != 0 {
-        let m = next(left) as usize;
-        left = without_least(left);
-        out[m] = values[m];
-    }
-    out
 }

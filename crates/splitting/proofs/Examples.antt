@@ -1,4 +1,4 @@
--- K1 to K3 of document 01, an odd unit, and the answers, by computation. Assumes nothing.
+-- K1 to K3 of document 01, an odd unit, a tie, and the answers, by computation. Assumes nothing.
 use mathlib.Core.Path.{_≡_, refl}
 use mathlib.Core.List.{[], _∷_}
 use Rattle.splitting.specs.Computing.{computing}
@@ -24,6 +24,11 @@ k3 = refl
 pub odd-unit : split 1 (1 ∷ 3 ∷ []) ≡ 0 ∷ 1 ∷ []
 unfolding computing
 odd-unit = refl
+
+-- "ties to the earlier in the list", and not to the larger weight: both remainders of 2 × w by 4 are 2
+pub tie-of-unequal : split 2 (1 ∷ 3 ∷ []) ≡ 1 ∷ 1 ∷ []
+unfolding computing
+tie-of-unequal = refl
 
 -- the answers: accepted; runs of different lengths, before a number out of range; a weight out of range
 pub answers-0 : splitInto 6 (5 ∷ 3 ∷ []) (9 ∷ 9 ∷ []) ≡ (0, 4 ∷ 2 ∷ [])

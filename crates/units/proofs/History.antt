@@ -11,7 +11,7 @@ use lib.ListN.{getD}
 use lib.Seq.{getD-set-same}
 use borrow.Author.Tests.{eqb-false, not-false}
 use Rattle.lists.proofs.Pairs.{pairs-at, pairs-set, pairs-mapFrom}
-use Rattle.lists.proofs.Passed.{Passed}
+use Rattle.lists.specs.Tests.{Passed}
 use Rattle.machine.specs.Wire.{Call, HEAD, POOL, MEMBER, ROUND, BID, CLOSE, ALLOCATE, TEAR, CALL, PAY, MOVE, MISS, FINISH}
 use Rattle.machine.specs.Roll.{openUnits}
 use Rattle.machine.specs.State.{Member, Case, noMember, memberAt, letter, letterOf, withCalled}

@@ -15,7 +15,7 @@ use Rattle.lists.specs.Adding.{most16, addAt}
 use Rattle.lists.proofs.Bools.{cases, or-left, lt-or-le}
 use Rattle.lists.proofs.Places.{getD-same}
 use Rattle.lists.proofs.Each.{Each, each-more, each-at, getD-mapFrom, length-mapFrom}
-use Rattle.lists.proofs.Passed.{Passed}
+use Rattle.lists.specs.Tests.{Passed}
 use Rattle.sets.specs.Set.{members}
 use Rattle.sets.proofs.Members.{members-each}
 use Rattle.auction.specs.Price.{zeroPrice, priceLimit}

@@ -70,6 +70,16 @@ not-rounded : ranksIn 7 (of 10 3 3 ∷ of 13 4 4 ∷ of 3 1 1 ∷ []) ≡ 1 ∷ 
 unfolding computing
 not-rounded = refl
 
+-- the same in ΔP × excess: 5 / 2 × 1 is above 2 / 2 × 2, and rounded it would be equal, so that the higher excess would decide
+not-rounded-in-A : ranksIn 3 (of 5 2 1 ∷ of 2 2 0 ∷ []) ≡ 1 ∷ 2 ∷ []
+unfolding computing
+not-rounded-in-A = refl
+
+-- and in ΔP / deficit: 5 / 2 / 2 is above 1 / 1 / 1, and rounded it would be equal, so that the lower deficit would decide
+not-rounded-in-B : ranksIn 3 (of 5 2 4 ∷ of 1 1 2 ∷ []) ≡ 1 ∷ 2 ∷ []
+unfolding computing
+not-rounded-in-B = refl
+
 -- ---- charges
 
 -- 01's example: a loss of 160 charged to margin 20, defaulter's fund 10, first tranche 30, contributions 260, second tranche 20 and no payments

@@ -10,9 +10,9 @@ use Rattle.waterfall.specs.declared.Charged.{Charged}
 use Rattle.waterfall.specs.Seniority.{Standing, rankIn}
 use Rattle.waterfall.specs.Charging.{charged, uncovered, chargedByRank}
 
--- 4 pools of 1,000 units
-abbrev pub unitLimit : ℕ
-unitLimit = 4_000
+-- the most units of a case: 4 pools of 1,000 units
+abbrev pub caseUnitLimit : ℕ
+caseUnitLimit = 4_000
 
 -- D of 4,000 units, each won at most 2,000,000 cents above the worst reserve
 abbrev pub dLimit : ℕ
@@ -24,12 +24,12 @@ standingAt d won expected m = record { D = getD d m 0; W = getD won m 0; expecte
 
 pub record Within (s : Standing) : Type 0 where
   pub D-le : s .D ≤ dLimit
-  pub W-le : s .W ≤ unitLimit
-  pub expected-le : s .expected ≤ unitLimit
+  pub W-le : s .W ≤ caseUnitLimit
+  pub expected-le : s .expected ≤ caseUnitLimit
 
 -- a standing held to the limits
 unfoldable pub capped : Standing → Standing
-capped s = record { D = min (s .D) dLimit; W = min (s .W) unitLimit; expected = min (s .expected) unitLimit }
+capped s = record { D = min (s .D) dLimit; W = min (s .W) caseUnitLimit; expected = min (s .expected) caseUnitLimit }
 
 -- the rank of each of the 32 places among the members of a set
 unfoldable pub ranksOf : List ℕ → List ℕ → List ℕ → ℕ → List ℕ
@@ -42,7 +42,7 @@ standingOf p = record { D = p .d; W = p .won; expected = p .expected }
 -- member m's, held to the limits
 abbrev pub performanceAt : List ℕ → List ℕ → List ℕ → ℕ → Performance
 performanceAt d won expected m =
-    record { d = min (getD d m 0) dLimit; won = min (getD won m 0) unitLimit; expected = min (getD expected m 0) unitLimit }
+    record { d = min (getD d m 0) dLimit; won = min (getD won m 0) caseUnitLimit; expected = min (getD expected m 0) caseUnitLimit }
 
 -- a loss charged in turn to six layers, and the rest
 abbrev pub chargedLayers : ℕ → List ℕ → Charged

@@ -1,4 +1,4 @@
-// Seniority, ranks, and a loss charged in turn (document 01, "Rank and layers"). Every function takes any numbers.
+// Seniority, ranks, and a loss charged in turn (document 01, "Rank and layers"). Every public function takes any numbers.
 ghost use mathlib.Core.Path.{_≡_};
 ghost use mathlib.Core.Bool.{false};
 ghost use Prim.Native.Nat.{_<_, _≤_, max, min};
@@ -10,8 +10,8 @@ ghost use Rattle.waterfall.specs.Seniority.{keysA, keysB, higher, firstH
 ghost use Rattle.waterfall.specs.Charging.{heldBy, chargedByRank};
 ghost use Rattle.waterfall.specs.Limits.{rankAt, heldAt, chargesOf, standingAt, capped, ranksOf, standingOf, performanceAt, Within, chargedLayers};
 
-// 4 pools of 1,000 units.
-pub const UNIT_LIMIT: u64 = 4_000;
+// The most units of a case: 4 pools of 1,000 units.
+pub const CASE_UNIT_LIMIT: u64 = 4_000;
 
 // D of 4,000 units, each won at most 2,000,000 cents above the worst reserve.
 pub const D_LIMIT: u64 = 8_000_000_000;
@@ -30,8 +30,8 @@ fn performance_at(d: &[u64; 32], won: &[u64; 32], expected: &[u64; 32], m: usize
 {
     Performance {
         d: lists::smaller(d[m], D_LIMIT),
-        won: lists::smaller(won[m], UNIT_LIMIT),
-        expected: lists::smaller(expected[m], UNIT_LIMIT),
+        won: lists::smaller(won[m], CASE_UNIT_LIMIT),
+        expected: lists::smaller(expected[m], CASE_UNIT_LIMIT),
     }
 }
 

@@ -22,7 +22,7 @@ headOf h =
       house = h .house;
     }
 
--- the call that is asked for. ROUND has one to four reserves
+-- the call that is asked for. ROUND has one to four reserves; prices and reserves are held as cents + 1,000,000
 unfoldable pub asked : Call → Option Wire.Call
 asked (HeadCall h) = some (Wire.HEAD (headOf h))
 asked (Pool pool units mark) = some (Wire.POOL pool units mark)

@@ -119,9 +119,6 @@ impl Call {
     pub const MAX_PAYMENT: u32 = 1_000_000_000;
 }
 
-// "tag (1 byte), length (2), value": the bytes before the value.
-pub const HEADER: usize = 3;
-
 // The last tag.
 pub const LAST_TAG: u8 = 13;
 

@@ -1,4 +1,4 @@
--- `accounts::members::shortfalls` meets its contract. The loop is that of `sets::of_members`: what is written so far, with the members still left
+-- `accounts::members::shortfalls` meets its contract. The loop is that of `Writes` (sets): what is written so far, with the members still left
 -- written too, is the whole. The measure is the number of members left. Assumes nothing.
 use mathlib.Core.Path.{_≡_, sym, _∙_}
 use Prim.Native.Nat.{ℕ, _^_, _≤_, _<_}
