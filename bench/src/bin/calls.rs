@@ -1,90 +1,239 @@
-//! Each call of the largest case (4 pools of 1,000 units, 256 bids, 32 members, two rounds), in the loop of `case::run` and in the model that holds counts: the time
-//! of a call is that of an input with it less that of the input before it.
-use linked::ledger::run;
+//! Each call of the largest case (4 pools of 1,000 units, 256 bids, 32 members), timed by itself: in the loop of `case::replay`, which takes it again and again from the
+//! case that the calls before it lead to, and in the model that holds counts, over ledgers that took the same calls. A word after the program's name picks the calls
+//! that have it in their names.
 use model::write::{self, Head};
 use model::{Counts, Ledger};
-use std::time::Instant;
+use std::hint::black_box;
 
-const ROUNDS: usize = 31;
-const MANY: usize = 20_000;
+/// Rounds of the two in turn; the least time counts.
+const ROUNDS: usize = 15;
+/// A call is taken so many times in a round that the calls before it are less than a hundredth of the round, which lasts some milliseconds.
+const SHARE: f64 = 100.0;
+const SECONDS: f64 = 0.005;
+/// The model's ledgers in a round.
+const LEDGERS: usize = 32;
 
-/// The least times, in nanoseconds, of an input without and with `more`, over rounds in turn.
-fn least(before: &[u8], after: &[u8], mut f: impl FnMut(&[u8])) -> f64 {
-    let (mut a, mut b) = (f64::MAX, f64::MAX);
-    for _ in 0..ROUNDS {
-        for (best, input) in [(&mut a, before), (&mut b, after)] {
-            let start = Instant::now();
-            f(input);
-            *best = best.min(start.elapsed().as_secs_f64());
-        }
+/// Of Linux's <time.h>.
+const CLOCK_THREAD_CPUTIME_ID: i32 = 3;
+
+mod c {
+    unsafe extern "C" {
+        pub fn clock_gettime(clock: i32, seconds_and_nanoseconds: *mut i64) -> i32;
     }
-    (b - a) * 1e9
+
+    #[link(name = "timing", kind = "static")]
+    unsafe extern "C" {
+        pub fn ledger_each(
+            before: *const u8,
+            b: usize,
+            before_ends: *const usize,
+            d: usize,
+            bytes: *const u8,
+            n: usize,
+            ends: *const usize,
+            e: usize,
+            result: bool,
+            numbers: *mut u64,
+            m: usize,
+        );
+    }
 }
 
-fn answers_of_model(input: &[u8]) -> u8 {
+/// The seconds of processor time that this thread has had: other work on the machine counts less than by the clock.
+fn seconds() -> f64 {
+    let mut time = [0i64; 2];
+    assert_eq!(unsafe { c::clock_gettime(CLOCK_THREAD_CPUTIME_ID, time.as_mut_ptr()) }, 0);
+    time[0] as f64 + time[1] as f64 * 1e-9
+}
+
+/// Byte strings one behind the other, and where each ends.
+#[derive(Clone, Default)]
+struct Strings {
+    bytes: Vec<u8>,
+    ends: Vec<usize>,
+}
+
+impl Strings {
+    fn add(&mut self, call: Vec<u8>) {
+        self.bytes.extend(call);
+        self.ends.push(self.bytes.len());
+    }
+
+    fn with(&self, calls: impl Iterator<Item = Vec<u8>>) -> Strings {
+        let mut more = self.clone();
+        calls.for_each(|call| more.add(call));
+        more
+    }
+
+    fn repeated(call: &[u8], times: usize) -> Strings {
+        Strings { bytes: call.repeat(times), ends: (1..=times).map(|k| k * call.len()).collect() }
+    }
+
+    fn each(&self) -> impl Iterator<Item = &[u8]> {
+        let begins = std::iter::once(0).chain(self.ends.iter().copied());
+        begins.zip(&self.ends).map(|(begin, &end)| &self.bytes[begin..end])
+    }
+}
+
+/// `timing::ledger_each`, and the seconds that it takes.
+fn proved(before: &Strings, calls: &Strings, result: bool, numbers: &mut [u64]) -> f64 {
+    let start = seconds();
+    unsafe {
+        c::ledger_each(
+            before.bytes.as_ptr(),
+            before.bytes.len(),
+            before.ends.as_ptr(),
+            before.ends.len(),
+            calls.bytes.as_ptr(),
+            calls.bytes.len(),
+            calls.ends.as_ptr(),
+            calls.ends.len(),
+            result,
+            numbers.as_mut_ptr(),
+            numbers.len(),
+        )
+    }
+    seconds() - start
+}
+
+fn counts(before: &Strings) -> Counts {
     let mut ledger = Counts::default();
-    let mut last = 0;
-    let mut at = 0;
-    while at < input.len() {
-        let end = at + 3 + u16::from_be_bytes([input[at + 1], input[at + 2]]) as usize;
-        last = ledger.call(&input[at..end]);
-        at = end;
-    }
-    last
+    before.each().for_each(|call| assert_eq!(ledger.call(call), 0, "a call before is declined"));
+    ledger
 }
 
-fn time(name: &str, before: &[u8], call: &[u8], times: usize) {
-    let after = [before, &call.repeat(times)].concat();
-    let mut answers = vec![0u8; 2_000 + MANY];
-    let count = run(&after, &mut answers);
-    let answer = answers[count - 1];
-    assert_eq!(answer, answers_of_model(&after));
-    let ours = least(before, &after, |input| {
-        run(input, &mut answers);
-    }) / times as f64;
-    let theirs = least(before, &after, |input| {
-        std::hint::black_box(answers_of_model(input));
-    }) / times as f64;
-    println!("{name:<28} answer {answer:>2} {ours:>12.0} ns {theirs:>9.0} ns");
+/// The seconds that the model takes for the call, once in each of some ledgers.
+fn counted(before: &Strings, call: &[u8]) -> f64 {
+    let mut ledgers: Vec<Counts> = (0..LEDGERS).map(|_| counts(before)).collect();
+    let start = seconds();
+    for ledger in &mut ledgers {
+        black_box(ledger.call(black_box(call)));
+    }
+    (seconds() - start) / LEDGERS as f64
+}
+
+/// What `timing::ledger_each` has to tell of the call: the answer, or else the open units of pool 0 or the smaller charge of member 0.
+fn expected(ledger: &mut Counts, call: &[u8], result: bool) -> (u8, u64) {
+    let answer = ledger.call(call);
+    let number = match (answer, result) {
+        (0, false) => ledger.counts(0)[0],
+        (0, true) => ledger
+            .result()
+            .map(|r| r.members[0].contribution_charge.min(r.members[0].payment_charge))
+            .expect("finished"),
+        _ => u64::from(answer),
+    };
+    (answer, number)
+}
+
+/// Times a call; `most` is what it may take, in nanoseconds.
+fn time(name: &str, before: &Strings, call: &[u8], result: bool, most: f64) {
+    if std::env::args().nth(1).is_some_and(|word| !name.contains(&word)) {
+        return;
+    }
+    let (answer, number) = expected(&mut counts(before), call, result);
+    let alone = (0..ROUNDS).map(|_| proved(before, &Strings::default(), result, &mut [])).fold(f64::MAX, f64::min);
+    let mut times = 64;
+    let mut calls = Strings::repeated(call, times);
+    while proved(before, &calls, result, &mut []) < SECONDS.max(alone * SHARE) {
+        times *= 2;
+        calls = Strings::repeated(call, times);
+    }
+    let mut numbers = vec![u64::MAX; times];
+    let (mut ours, mut theirs) = (f64::MAX, f64::MAX);
+    for _ in 0..ROUNDS {
+        ours = ours.min(proved(before, &calls, result, &mut numbers) * 1e9 / times as f64);
+        theirs = theirs.min(counted(before, call) * 1e9);
+    }
+    assert!(numbers.iter().all(|n| *n == number), "{name}: the model has {number}");
+    let mark = if ours <= most { "" } else { "  ABOVE" };
+    println!(
+        "{name:<34} answer {answer:>2} {times:>8} times {ours:>10.0} ns {theirs:>8.0} ns   at most {most:>7.0}{mark}"
+    );
+}
+
+const DECLINED: f64 = 70.0;
+const SMALL: f64 = 300.0;
+const MIDDLE: f64 = 3_000.0;
+const CLOSE: f64 = 30_000.0;
+const MOVE: f64 = 100_000.0;
+const MOVE_ALL: f64 = 200_000.0;
+
+/// 128 bids of one unit over four pools and 40 prices below 0.
+fn bids() -> impl Iterator<Item = Vec<u8>> {
+    (0..128u32).map(|i| write::bid((i % 4) as u8, (i % 32) as u8, 1, -1 - (i % 40) as i32))
+}
+
+/// 256 bids of 20 units: over four pools or one, and over so many prices.
+fn many_bids(pools: u32, prices: u32) -> impl Iterator<Item = Vec<u8>> {
+    (0..256u32).map(move |i| write::bid((i % pools) as u8, (i % 32) as u8, 20, -1 - (i * 7 % prices) as i32))
 }
 
 fn main() {
-    let head = Head { pools: 4, least_bid: 1, set: u32::MAX, hedge_loss: 2_000_000_000, other_loss: 0, margin: 0, fund: 0, house: 0 };
-    println!("{:<38} {:>12} {:>12}", "", "proved", "counts");
-    let mut all = write::head(&head);
-    time("unknown tag", &all, &write::field(77, &[1, 2, 3]), MANY);
-    time("TEAR in S", &all, &write::tear(0, 0), MANY);
-    time("POOL", &all, &write::pool(0, 1000, 0), 1);
-    (0..4).for_each(|pool| all.extend(write::pool(pool, 1000, 0)));
-    time("MEMBER", &all, &write::member(0, 1_000_000, [1000; 4]), 1);
-    (0..32).for_each(|member| all.extend(write::member(member, 1_000_000, [1000; 4])));
-    time("ROUND", &all, &write::round(&[-1000; 4]), 1);
-    all.extend(write::round(&[-1000; 4]));
-    time("BID, pool not in the case", &all, &write::bid(7, 1, 1, 0), MANY);
-    time("BID", &all, &write::bid(0, 1, 1, -7), 200);
-    (0..128u32).for_each(|i| all.extend(write::bid((i % 4) as u8, (i % 32) as u8, 1, -((i % 40) as i32))));
-    time("CLOSE, 128 bids", &all, &write::close(), 1);
-    all.extend(write::close());
-    time("FINISH, units open", &all, &write::finish(), MANY);
-    all.extend(write::round(&[-2000; 4]));
-    (0..128u32).for_each(|i| all.extend(write::bid((i % 4) as u8, (i % 32) as u8, 1, -((i % 40) as i32))));
-    time("BID, 256 are kept", &all, &write::bid(0, 1, 1, -7), MANY);
-    time("CLOSE, 256 bids", &all, &write::close(), 1);
-    all.extend(write::close());
-    time("TEAR", &all, &write::tear(0, -5), 1);
-    time("ALLOCATE", &all, &write::allocate(0, -5), 1);
-    (0..4).for_each(|pool| all.extend(write::allocate(pool, -1)));
-    time("ALLOCATE, none open", &all, &write::allocate(0, -5), MANY);
-    time("FINISH, not covered", &all, &write::finish(), MANY);
-    time("CALL", &all, &write::call(), 1);
-    all.extend(write::call());
-    time("PAY", &all, &write::pay(3, 1), 2_000);
-    time("PAY, above what is owed", &all, &write::pay(3, 1_000_000_000), MANY);
-    time("FINISH, somebody owes", &all, &write::finish(), MANY);
-    time("MISS", &all, &write::miss(3, 0), 1);
-    time("MOVE, 4,000 units", &all, &write::move_units(3), 1);
-    let paid = (0..32).fold(all.clone(), |all, member| [all, write::pay(member, 1_000_000)].concat());
-    time("FINISH, all paid", &paid, &write::finish(), 1);
-    let moved = (0..32).fold(all, |all, member| [all, write::move_units(member)].concat());
-    time("FINISH, all moved", &moved, &write::finish(), 1);
+    let head = Head {
+        pools: 4,
+        least_bid: 1,
+        set: u32::MAX,
+        hedge_loss: 2_000_000_000,
+        other_loss: 0,
+        margin: 0,
+        fund: 0,
+        house: 0,
+    };
+    let member = |m: u8| write::member(m, 1_000_000, [1000; 4]);
+    let one = |call: Vec<u8>| std::iter::once(call);
+    println!("{:<57} {:>13} {:>11}", "", "proved", "counts");
+
+    let none = Strings::default();
+    time("HEAD", &none, &write::head(&head), false, MIDDLE);
+    let made = none.with(one(write::head(&head)));
+    time("unknown tag", &made, &write::field(77, &[1, 2, 3]), false, DECLINED);
+    time("TEAR in stage S", &made, &write::tear(0, 0), false, DECLINED);
+    time("POOL, 1,000 units", &made, &write::pool(0, 1000, 0), false, MIDDLE);
+    let pools = made.with((0..4).map(|pool| write::pool(pool, 1000, 0)));
+    time("MEMBER", &pools, &member(0), false, MIDDLE);
+    let set_up = pools.with((0..32).map(member));
+    time("ROUND", &set_up, &write::round(&[-1000; 4]), false, MIDDLE);
+
+    let round = set_up.with(one(write::round(&[-1000; 4])));
+    time("BID, pool not in the case", &round, &write::bid(7, 1, 1, 0), false, DECLINED);
+    time("BID", &round, &write::bid(0, 1, 1, -7), false, SMALL);
+    for (name, pools, prices) in [
+        ("4 pools, 40 prices", 4, 40),
+        ("1 pool, 40 prices", 1, 40),
+        ("4 pools, 1 price", 4, 1),
+        ("1 pool, 1 price", 1, 1),
+    ] {
+        time(&format!("CLOSE, 256 bids, {name}"), &round.with(many_bids(pools, prices)), &write::close(), false, CLOSE);
+    }
+    let first = round.with(bids());
+    time("CLOSE, 128 bids", &first, &write::close(), false, CLOSE);
+    let closed = first.with(one(write::close()));
+    time("FINISH, units open", &closed, &write::finish(), false, DECLINED);
+    let second = closed.with(one(write::round(&[-2000; 4]))).with(bids());
+    time("BID, 256 are kept", &second, &write::bid(0, 1, 1, -7), false, DECLINED);
+    time("CLOSE, 128 of 256 bids", &second, &write::close(), false, CLOSE);
+    let sold = second.with(one(write::close()));
+    time("TEAR", &sold, &write::tear(0, -5), false, MIDDLE);
+    time("ALLOCATE", &sold, &write::allocate(0, -5), false, MIDDLE);
+
+    let placed = sold.with((0..4).map(|pool| write::allocate(pool, -1)));
+    time("ALLOCATE, none open", &placed, &write::allocate(0, -5), false, DECLINED);
+    time("FINISH, not covered", &placed, &write::finish(), false, DECLINED);
+    time("CALL", &placed, &write::call(), false, MIDDLE);
+    let called = placed.with(one(write::call()));
+    time("PAY", &called, &write::pay(3, 1), false, SMALL);
+    time("PAY, above what is owed", &called, &write::pay(3, 1_000_000_000), false, DECLINED);
+    time("FINISH, somebody owes", &called, &write::finish(), false, DECLINED);
+    time("MISS", &called, &write::miss(3, 0), false, MIDDLE);
+    time("MOVE, 4,000 units of 384 groups", &called, &write::move_units(3), false, MOVE_ALL);
+    let paid = called.with((0..32).map(|m| write::pay(m, 1_000_000)));
+    time("FINISH", &paid, &write::finish(), false, SMALL);
+    time("FINISH and its result", &paid, &write::finish(), true, CLOSE);
+
+    let few = round
+        .with((0..4).map(|pool| write::bid(pool, pool, 1000, -1)))
+        .with(one(write::close()))
+        .with(one(write::call()));
+    time("MOVE, 4,000 units of 4 groups", &few, &write::move_units(3), false, MOVE);
 }

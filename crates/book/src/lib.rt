@@ -340,7 +340,8 @@ impl Book {
         let won = members.won;
         let allocated = members.allocated;
         let weights = accounts::members::shortfalls(head.set, expected, won, allocated, pool);
-        let q = lists::smaller(self.open_units(pool) as u64, sum_of_shortfalls(weights));
+        let short = total_shortfall(head.set, expected, won, allocated, pool);
+        let q = lists::smaller(self.open_units(pool) as u64, short);
         let mut shares = [0u64; 32];
         splitting::split(q, &weights, &mut shares);
         accounts::members::narrowed16(shares)

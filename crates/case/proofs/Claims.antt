@@ -1,5 +1,5 @@
 -- THE CLAIM of document 01 about the ledger (specs/Claim.antt), whole. Assumes nothing.
-use mathlib.Core.Path.{_≡_, refl, sym, ap, _∙_}
+use mathlib.Core.Path.{_≡_, refl, ap, _∙_}
 use mathlib.Core.Bool.{Bool, true, false}
 use mathlib.Core.List.{List, []}
 use mathlib.Core.Option.{Option, none, some}
@@ -22,8 +22,8 @@ use Rattle.case.specs.declared.Case.{Case}
 use Rattle.case.specs.Cases.{applied, noHeld, caseAnswerTo, answerTo, firstAnswerTo, firstAnswer, afterAsked, caseAfter, takeAsked, headOutcome, outcomeOf}
 use Rattle.case.specs.Readings.{seen}
 use Rattle.case.specs.Input.{ledgerAfter}
-use Rattle.case.specs.Claim.{Answers, AnswersFirst, OneOfFive, MethodsAgree, HeadAgrees, Covers, Finished, Claim}
-use Rattle.case.proofs.Claim.{Tied, Holds, taken, takes, none-tied, seen-observed, agrees, ledger-tied, ledger-shows}
+use Rattle.case.specs.Claim.{AnswersFirst, OneOfFive, MethodsAgree, HeadAgrees, Covers, Finished, Claim}
+use Rattle.case.proofs.Claim.{Holds, taken, takes, none-tied, seen-observed, agrees, ledger-tied, ledger-shows}
 use Rattle.case.proofs.Finishes.{after-finish}
 
 -- ---- one call
@@ -68,9 +68,9 @@ as-taken h a e = rw e (by-answer (caseAnswerTo (h .case) a) (eqb (caseAnswerTo (
   where
     by-answer : (n : ℕ) (b : Bool)
         → seen n (record { present = true; case = if b then afterAsked (h .case) a else h .case })
-        ≡ seen n (if b then record { present = true; case = afterAsked (h .case) a } else h)
+        ≡ seen n (if b then record { present = true; case = afterAsked (h .case) a } else record { present = true; case = h .case })
     by-answer n true = refl
-    by-answer n false = λ i. seen n (record { present = sym e i; case = h .case })
+    by-answer n false = refl
 
 methods-agree : MethodsAgree
 methods-agree calls each c is call fits =
@@ -82,7 +82,7 @@ methods-agree calls each c is call fits =
     ∙ ap (λ (n : ℕ). observed n (answered (some c) (some call) .state)) (k .answer)
 
 head-agrees : HeadAgrees
-unfolding headOutcome answerTo firstAnswerTo firstAnswer afterAsked caseAfter takeAsked
+unfolding headOutcome noHeld answerTo firstAnswerTo firstAnswer afterAsked caseAfter takeAsked
 head-agrees h small =
     let a = some (HEAD (headOf h)) in
     let k = taken noHeld none none-tied a small in

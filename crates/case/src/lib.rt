@@ -415,15 +415,14 @@ fn first_answer(call: Call) -> u8
     }
 }
 
-// The answer to a call where a case is held.
+// The answer to a call where a case is held. The book is read in place: one in a local of its own would be a copy for every call.
 fn answer_in(case: Case, call: Call) -> u8
     ensures { λ r. ⌜ r ≡ caseAnswerTo case (asked call) ⌝ }
 {
-    let book = case.book;
     let stage = case.stage;
     match call {
         Call::Head(_) => 2,
-        Call::Pool { pool, units, mark } => book.pool_answer(stage, pool, units, mark),
+        Call::Pool { pool, units, mark } => case.book.pool_answer(stage, pool, units, mark),
         Call::Member {
             member,
             contribution,
@@ -431,28 +430,30 @@ fn answer_in(case: Case, call: Call) -> u8
             b,
             c,
             d,
-        } => book.member_answer(stage, member, contribution, a, b, c, d),
+        } => case.book
+            .member_answer(stage, member, contribution, a, b, c, d),
         Call::Round { count, a, b, c, d } => reserves_answer(case, count, a, b, c, d),
         Call::Bid {
             pool,
             member,
             units,
             price,
-        } => book.bid_answer(stage, pool, member, units, price),
+        } => case.book.bid_answer(stage, pool, member, units, price),
         Call::Close => book::close_answer(stage),
-        Call::Allocate { pool, price } => book.allocate_answer(stage, pool, price),
-        Call::Tear { pool, price } => book.tear_answer(stage, pool, price),
-        Call::Call => book.call_answer(stage),
-        Call::Pay { member, amount } => book.pay_answer(stage, member, amount),
-        Call::Move { member } => book.move_answer(stage, member),
-        Call::Miss { member, price } => book.miss_answer(stage, member, price),
-        Call::Finish => book.finish_answer(stage),
+        Call::Allocate { pool, price } => case.book.allocate_answer(stage, pool, price),
+        Call::Tear { pool, price } => case.book.tear_answer(stage, pool, price),
+        Call::Call => case.book.call_answer(stage),
+        Call::Pay { member, amount } => case.book.pay_answer(stage, member, amount),
+        Call::Move { member } => case.book.move_answer(stage, member),
+        Call::Miss { member, price } => case.book.miss_answer(stage, member, price),
+        Call::Finish => case.book.finish_answer(stage),
         Call::Unknown => 1,
     }
 }
 
-// The case that an accepted call hands back: HEAD makes a new one, the others are methods of the one held.
-fn after(case: Case, call: Call) -> Case
+// The case that an accepted call hands back: HEAD makes a new one, the others are methods of the one held. The arms that need the case in a place of their own
+// copy it themselves, so that the others do not.
+pub fn after(case: Case, call: Call) -> Case
     ensures { λ r. ⌜ ((present : Bool) → answerTo present case (asked call) ≡ 0 → r ≡ afterAsked case (asked call)) ⌝ }
 {
     match call {
@@ -473,14 +474,29 @@ fn after(case: Case, call: Call) -> Case
             units,
             price,
         } => case_of(case.bid(pool, member, units, price)),
-        Call::Close => case_of(case.close()),
-        Call::Allocate { pool, price } => case_of(case.allocate(pool, price)),
+        Call::Close => {
+            let held = case;
+            case_of(held.close())
+        }
+        Call::Allocate { pool, price } => {
+            let held = case;
+            case_of(held.allocate(pool, price))
+        }
         Call::Tear { pool, price } => case_of(case.tear(pool, price)),
         Call::Call => case_of(case.call()),
         Call::Pay { member, amount } => case_of(case.pay(member, amount)),
-        Call::Move { member } => case_of(case.move_units(member)),
-        Call::Miss { member, price } => case_of(case.miss(member, price)),
-        Call::Finish => case_of(case.finish()),
+        Call::Move { member } => {
+            let held = case;
+            case_of(held.move_units(member))
+        }
+        Call::Miss { member, price } => {
+            let held = case;
+            case_of(held.miss(member, price))
+        }
+        Call::Finish => {
+            let held = case;
+            case_of(held.finish())
+        }
         Call::Unknown => case,
     }
 }
@@ -521,7 +537,7 @@ pub fn apply(held: Held, bytes: &[u8]) -> Applied
 // ---- many calls
 
 // Where a string ends: an end below its begin or above the number of bytes is held to them.
-fn cut_at(at: usize, n: usize, end: usize) -> usize
+pub fn cut_at(at: usize, n: usize, end: usize) -> usize
     ensures { λ r. ⌜ r ≡ cutAt at n end ⌝ }
 {
     if end < at {

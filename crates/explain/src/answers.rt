@@ -7,40 +7,110 @@ use book::Stage;
 use case::Case;
 use wire::Call;
 
-// ---- the sentence of each number
+// The tags of calls that share a number for different reasons.
+const POOL: u8 = 2;
 
-fn sentence_to_8(answer: u8, out: &mut [u8], at: usize) -> usize {
-    match answer {
-        1 => words::put(out, at, b"not a call: unknown tag or wrong length"),
-        2 => words::put(out, at, b"not allowed"),
-        3 => words::put(out, at, b"no such pool, or not the next pool"),
-        4 => words::put(out, at, b"no such member, or given already"),
-        5 => words::put(out, at, b"a number is out of range"),
-        6 => words::put(out, at, b"below the least bid"),
-        7 => words::put(out, at, b"no more bids are kept"),
-        _ => words::put(out, at, b"no open unit"),
+const MEMBER: u8 = 3;
+
+const ROUND: u8 = 4;
+
+const PAY: u8 = 10;
+
+// ---- the sentence of each number, which speaks of the call at hand
+
+// One of two sentences.
+fn either(test: bool, yes: &[u8], no: &[u8], out: &mut [u8], at: usize) -> usize {
+    if test {
+        words::put(out, at, yes)
+    } else {
+        words::put(out, at, no)
     }
 }
 
-fn sentence_to_16(answer: u8, out: &mut [u8], at: usize) -> usize {
+// The sentences of 1 to 8; the tag is that of the call, and `given` whether it is a MEMBER that is given already.
+fn sentence_to_8(tag: u8, given: bool, answer: u8, out: &mut [u8], at: usize) -> usize {
+    match answer {
+        1 => either(
+            tag == ROUND,
+            b"wrong number of reserves",
+            b"not a call: unknown tag or wrong length",
+            out,
+            at,
+        ),
+        2 => words::put(out, at, b"not allowed"),
+        3 => either(
+            tag == POOL,
+            b"not the next pool",
+            b"the pool is not in the case",
+            out,
+            at,
+        ),
+        4 => either(
+            given,
+            b"the member is given already",
+            b"the member is not in the set",
+            out,
+            at,
+        ),
+        5 => words::put(out, at, b"a number is out of range"),
+        6 => words::put(out, at, b"below the least bid"),
+        7 => words::put(out, at, b"no more bids are kept"),
+        _ => either(
+            tag == ROUND,
+            b"no unit is open",
+            b"no unit of the pool is open",
+            out,
+            at,
+        ),
+    }
+}
+
+// The sentences of 9 to 16.
+fn sentence_to_16(tag: u8, answer: u8, out: &mut [u8], at: usize) -> usize {
     match answer {
         9 => words::put(out, at, b"the pool has a positive market value"),
-        10 => words::put(out, at, b"nobody is short, or not all is given"),
+        10 => either(
+            tag == ROUND,
+            b"not all pools and members are given",
+            b"nobody is short in the pool",
+            out,
+            at,
+        ),
         11 => words::put(out, at, b"a unit is open"),
         12 => words::put(out, at, b"prefunded resources cover the requirement"),
         13 => words::put(out, at, b"prefunded resources are below the requirement"),
-        14 => words::put(out, at, b"more than the member owes, or nothing owed"),
+        14 => either(
+            tag == PAY,
+            b"more than the member owes",
+            b"the member owes nothing",
+            out,
+            at,
+        ),
         15 => words::put(out, at, b"a member owes"),
         _ => words::put(out, at, b"no unit is allocated or moved to the member"),
     }
 }
 
-// The sentence of a refusal.
-fn write_sentence(answer: u8, out: &mut [u8], at: usize) -> usize {
+// Whether a call is a MEMBER for one of the members given.
+fn given_already(tag: u8, m: u32, given: u32) -> bool {
+    if tag != MEMBER {
+        return false;
+    }
+    if m < 32 {
+        return sets::has(given, m as u8);
+    }
+    false
+}
+
+// The sentence of a refusal; the members are those given before the call.
+fn write_sentence(call: Call, members: u32, answer: u8, out: &mut [u8], at: usize) -> usize {
+    let flat = forms::flat(call);
+    let numbers = flat.numbers;
     if answer < 9 {
-        sentence_to_8(answer, out, at)
+        let given = given_already(flat.tag, numbers[0], members);
+        sentence_to_8(flat.tag, given, answer, out, at)
     } else {
-        sentence_to_16(answer, out, at)
+        sentence_to_16(flat.tag, answer, out, at)
     }
 }
 
@@ -107,7 +177,7 @@ fn fault_length(present: bool, book: Book, out: &mut [u8], at: usize) -> usize {
         return at;
     }
     let head = book.head;
-    let said = with_number(out, at, b" (pools of the case ", head.pools as u64);
+    let said = with_number(out, at, b" (the case takes ", head.pools as u64);
     words::put(out, said, b")")
 }
 
@@ -313,7 +383,8 @@ fn write_refusal(
     let book = case.book;
     let number = with_number(out, at, b"    refused ", answer as u64);
     let said = words::put(out, number, b": ");
-    let sentence = write_sentence(answer, out, said);
+    let members = book.members;
+    let sentence = write_sentence(call, members.given, answer, out, said);
     if answer == 2 {
         return fault_stage(present, stage, out, sentence);
     }

@@ -415,16 +415,18 @@ impl Units {
 
     // ---- what is read of them
 
-    // The open units of a pool.
+    // The open units of a pool. A place that is a number in the text is read without a copy of all counts.
     pub fn open_units(self, pool: u8) -> u16
         ensures { λ r. ⌜ r ≡ openOf self pool ⌝ }
     {
-        if 4 <= pool {
-            return 0;
-        }
-        let at = lists::place(pool);
         let counts = self.counts;
-        counts[at]
+        match pool {
+            0 => counts[0],
+            1 => counts[1],
+            2 => counts[2],
+            3 => counts[3],
+            _ => 0,
+        }
     }
 
     // How many units of a pool are open (0), sold (1), allocated (2), moved (3) or torn (4). The pools of the bids are lent.

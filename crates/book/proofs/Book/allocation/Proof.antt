@@ -10,14 +10,14 @@ use Rattle.book.proofs.Book.allocation.Tie as tie
 shortfalls-requires : tie.Need-shortfalls-requires
 shortfalls-requires c κs = search needs
 
+total-shortfall-requires : tie.Need-total-shortfall-requires
+total-shortfall-requires c κs = search needs
+
 open-units-requires : tie.Need-open-units-requires
 open-units-requires c κs = search needs
 
 cast-smaller : tie.Need-cast-smaller
 cast-smaller c = search needs
-
-sum-of-shortfalls-requires : tie.Need-sum-of-shortfalls-requires
-sum-of-shortfalls-requires c κs = c .before .shortfalls .ensures .1
 
 smaller-requires : tie.Need-smaller-requires
 smaller-requires c κs = search needs
@@ -36,16 +36,16 @@ narrowed16-requires c κs = search needs
 
 returns : tie.Need-returns
 unfolding allocationIn shortIn
-returns c = c .narrowed16 .ensures ∙ ap (heldTo most16) (ap (λ (r : Answer). r .1) (c .before .before .split .ensures) ∙ simp (c .before .before .before .before .before .smaller .ensures, c .before .before .before .before .before .before .sum-of-shortfalls .ensures, c .before .before .before .before .before .before .before .open-units .ensures, c .before .before .before .before .before .before .before .before .shortfalls .ensures .0))
+returns c = c .narrowed16 .ensures ∙ ap (heldTo most16) (ap (λ (r : Answer). r .1) (c .before .before .split .ensures) ∙ simp (c .before .before .before .before .before .smaller .ensures, c .before .before .before .before .before .before .open-units .ensures, c .before .before .before .before .before .before .before .total-shortfall .ensures, c .before .before .before .before .before .before .before .before .shortfalls .ensures .0))
 
 pub allocation-spec : {M : Type 1} → statement M
 allocation-spec =
     tie.close
     (tie.spec
     shortfalls-requires
+    total-shortfall-requires
     open-units-requires
     cast-smaller
-    sum-of-shortfalls-requires
     smaller-requires
     slice-aggregate-split
     slice-aggregate-split-2
