@@ -75,6 +75,26 @@ struct ledger_shown ledger_calls(const uint8_t *bytes, size_t bytes_len, const s
 void ledger_holdings(const uint8_t *bytes, size_t bytes_len, const size_t *ends, size_t ends_len, const uint8_t *members, size_t members_len,
                      const uint8_t *pools, size_t pools_len, const uint32_t *prices, size_t prices_len, uint64_t *units, size_t units_len);
 
+/* ---- Splitting and the auction alone. `rt staticlib splitting` and `rt staticlib auction` write libsplitting.a and libauction.a, which have these. */
+
+/* Splits q by the weights into the shares and answers 0. It answers 1 where the runs differ in length or have more than 512 places, and 5 where q is above
+ * 16,000,000,000 or a weight above 1,000,000,000; the shares are then as they were. */
+uint8_t ledger_split(uint64_t q, const uint64_t *weights, size_t weights_len, uint64_t *shares, size_t shares_len);
+
+/* A bid: its units, and its price in cents, positive paid to the house and negative by the house. */
+struct ledger_bid {
+    uint16_t units;
+    int32_t price;
+};
+
+/* Allots open units to bids, each wins counts[k], and answers 0. It answers 1 where the runs differ in length or have more than 256 bids, and 5 where a number is out
+ * of range (open units to 1,000, a bid's units 1 to 1,000, a price from -1,000,000 to 1,000,000 cents); the counts are then as they were. */
+uint8_t ledger_auction_records(const struct ledger_bid *bids, size_t bids_len, uint16_t open_units, int32_t reserve, uint64_t *counts, size_t counts_len);
+
+/* The same over flat runs of units and prices, with prices as cents + 1,000,000. */
+uint8_t ledger_auction(uint64_t open_units, uint32_t reserve, const uint64_t *units, size_t units_len, const uint32_t *prices, size_t prices_len,
+                       uint64_t *counts, size_t counts_len);
+
 #ifdef __cplusplus
 }
 #endif

@@ -1,6 +1,6 @@
-/* The example of document 01 through include/ledger.h. From the top of the repository, after `rt staticlib exports`:
+/* The example of document 01 through include/ledger.h. From the top of the repository, after `rt staticlib` of exports, auction and splitting:
  *
- *     cc -std=c11 -Wall -Wextra -I include tests/linked/example.c target/staticlib/libexports.a -o target/example && target/example
+ *     cc -std=c11 -Wall -Wextra -Werror -I include tests/linked/example.c target/staticlib/lib{exports,auction,splitting}.a -o target/example && target/example
  *
  * It prints what document 01 prints, and ends with 1 where a number differs. */
 #include <ledger.h>
@@ -96,6 +96,20 @@ int main(void) {
     uint64_t units[] = {9, 9, 9, 9};
     ledger_holdings(input, sizeof input, ends, calls, members, 3, pools, 3, prices, 3, units, 4);
     wrong |= units[0] != 4 || units[1] != 4 || units[2] != 0 || units[3] != 9;
+
+    /* Splitting and the auction alone: 6 by 5 and 3, and the four bids of the example. */
+    const uint64_t weights[] = {5, 3};
+    uint64_t shares[] = {0, 0};
+    wrong |= ledger_split(6, weights, 2, shares, 2) != 0 || shares[0] != 4 || shares[1] != 2;
+    const struct ledger_bid bids[] = {{4, -10}, {5, -20}, {3, -20}, {5, -40}};
+    uint64_t counts[] = {0, 0, 0, 0};
+    wrong |= ledger_auction_records(bids, 4, 10, -30, counts, 4) != 0;
+    wrong |= counts[0] != 4 || counts[1] != 4 || counts[2] != 2 || counts[3] != 0;
+    const uint64_t flat_units[] = {4, 5, 3, 5};
+    const uint32_t flat_prices[] = {1000000 - 10, 1000000 - 20, 1000000 - 20, 1000000 - 40};
+    uint64_t flat_counts[] = {0, 0, 0, 0};
+    wrong |= ledger_auction(10, 1000000 - 30, flat_units, 4, flat_prices, 4, flat_counts, 4) != 0;
+    wrong |= memcmp(counts, flat_counts, sizeof counts) != 0;
 
     fputs(text, stdout);
     wrong |= strcmp(text, expected) != 0 || shown.prices != -160;

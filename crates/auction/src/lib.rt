@@ -220,8 +220,15 @@ pub fn allot(open_units: u64, reserve: u32, units: &[u64], prices: &[u32], won: 
 }
 
 // The auction run alone, over flat runs of units and prices.
+pub fn alone(open_units: u64, reserve: u32, units: &[u64], prices: &[u32], counts: &mut [u64]) -> u8
+    ensures { λ r. ⌜ _≡_ {A = Answer} (r, now (counts .exit)) (allotInto 1 bidLimit open_units reserve (now (units .entry)) (now (prices .entry)) (now (counts .entry))) ⌝ }
+{
+    run(1, BID_LIMIT, open_units, reserve, units, prices, counts)
+}
+
+// The same for C.
 #[no_mangle]
-pub extern "C" fn alone(
+pub extern "C" fn ledger_auction(
     open_units: u64,
     reserve: u32,
     units: &[u64],
@@ -230,7 +237,7 @@ pub extern "C" fn alone(
 ) -> u8
     ensures { λ r. ⌜ _≡_ {A = Answer} (r, now (counts .exit)) (allotInto 1 bidLimit open_units reserve (now (units .entry)) (now (prices .entry)) (now (counts .entry))) ⌝ }
 {
-    run(1, BID_LIMIT, open_units, reserve, units, prices, counts)
+    alone(open_units, reserve, units, prices, counts)
 }
 
 // A bid as it is lent: its units and its price in cents, positive paid to the house and negative by the house.
@@ -322,7 +329,7 @@ fn alone_over(bids: Bids, n: usize, open_units: u16, reserve: i32, counts: &mut 
 
 // The auction run alone, over a lent run of bid records. Every record is checked before a count is written.
 #[no_mangle]
-pub extern "C" fn alone_lent(
+pub extern "C" fn ledger_auction_records(
     bids: &[BidRecord],
     open_units: u16,
     reserve: i32,

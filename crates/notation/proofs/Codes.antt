@@ -7,18 +7,42 @@ use native.Mathlib.Omega.{arith}
 use lib.Dec.{eqb}
 use lib.ListN.{getD}
 use borrow.Author.Tests.{lt-ltb, le-ltb, le-leb, lt-leb, eq-eqb, ne-eqb}
-use Rattle.lists.specs.Lists.{if_then_else_, tab, oneIf}
+use Rattle.lists.specs.Lists.{if_then_else_, tab, all, oneIf}
 use Rattle.lists.proofs.Places.{getD-tab}
 use Rattle.sets.specs.Set.{withMember}
 use Rattle.wire.specs.declared.Call.the-variants.{Close, Allocate, Tear, Call as CallCall, Pay, Move, Miss, Finish, Unknown}
 use Rattle.spelling.specs.Words.{keys, keyOf}
+use Rattle.spelling.proofs.Tables.{entry-small}
 use Rattle.notation.specs.Reading.{letterOf, grown, codeOf, codeFrom, keyCode, tagNamed, limitOf, numberOf, callOf}
 use Rattle.notation.specs.Computing.{computing}
 
-abbrev pub codes : List ℕ
-codes = 0 ∷ 0 ∷ 0 ∷ 0 ∷ 0 ∷ 0 ∷ 0 ∷ 0 ∷ 17284499 ∷ 12748404 ∷ 14140118611 ∷ 8556773 ∷ 16392370 ∷ 437853486 ∷ 218564 ∷ 8902245 ∷ 540140 ∷ 22488723 ∷ 427595 ∷ 0 ∷ 0 ∷ 0 ∷ 0 ∷ 0 ∷ 441878706 ∷ 125490089330091502 ∷ 198110728356 ∷ 0 ∷ 0 ∷ 0 ∷ 0 ∷ 0 ∷ 624487389363 ∷ 0 ∷ 0 ∷ 0 ∷ 0 ∷ 0 ∷ 0 ∷ 0 ∷ 540140 ∷ 441878706 ∷ 22488723 ∷ 17376357 ∷ 0 ∷ 0 ∷ 0 ∷ 0 ∷ 0 ∷ 0 ∷ 0 ∷ 0 ∷ 0 ∷ 0 ∷ 0 ∷ 0 ∷ 540140 ∷ 17376357 ∷ 0 ∷ 0 ∷ 0 ∷ 0 ∷ 0 ∷ 0 ∷ 540140 ∷ 17376357 ∷ 0 ∷ 0 ∷ 0 ∷ 0 ∷ 0 ∷ 0 ∷ 0 ∷ 0 ∷ 0 ∷ 0 ∷ 0 ∷ 0 ∷ 0 ∷ 0 ∷ 441878706 ∷ 47699412 ∷ 0 ∷ 0 ∷ 0 ∷ 0 ∷ 0 ∷ 0 ∷ 441878706 ∷ 0 ∷ 0 ∷ 0 ∷ 0 ∷ 0 ∷ 0 ∷ 0 ∷ 441878706 ∷ 17376357 ∷ 0 ∷ 0 ∷ 0 ∷ 0 ∷ 0 ∷ 0 ∷ 0 ∷ 0 ∷ 0 ∷ 0 ∷ 0 ∷ 0 ∷ 0 ∷ 0 ∷ []
+-- which key stands before the numbers of each call
+abbrev pub rows : List ℕ
+rows =
+    0 ∷ 0 ∷ 0 ∷ 0 ∷ 0 ∷ 0 ∷ 0 ∷ 0
+    ∷ 1 ∷ 2 ∷ 3 ∷ 4 ∷ 5 ∷ 6 ∷ 7 ∷ 8
+    ∷ 9 ∷ 10 ∷ 11 ∷ 0 ∷ 0 ∷ 0 ∷ 0 ∷ 0
+    ∷ 12 ∷ 13 ∷ 14 ∷ 0 ∷ 0 ∷ 0 ∷ 0 ∷ 0
+    ∷ 15 ∷ 0 ∷ 0 ∷ 0 ∷ 0 ∷ 0 ∷ 0 ∷ 0
+    ∷ 9 ∷ 12 ∷ 10 ∷ 16 ∷ 0 ∷ 0 ∷ 0 ∷ 0
+    ∷ 0 ∷ 0 ∷ 0 ∷ 0 ∷ 0 ∷ 0 ∷ 0 ∷ 0
+    ∷ 9 ∷ 16 ∷ 0 ∷ 0 ∷ 0 ∷ 0 ∷ 0 ∷ 0
+    ∷ 9 ∷ 16 ∷ 0 ∷ 0 ∷ 0 ∷ 0 ∷ 0 ∷ 0
+    ∷ 0 ∷ 0 ∷ 0 ∷ 0 ∷ 0 ∷ 0 ∷ 0 ∷ 0
+    ∷ 12 ∷ 17 ∷ 0 ∷ 0 ∷ 0 ∷ 0 ∷ 0 ∷ 0
+    ∷ 12 ∷ 0 ∷ 0 ∷ 0 ∷ 0 ∷ 0 ∷ 0 ∷ 0
+    ∷ 12 ∷ 16 ∷ 0 ∷ 0 ∷ 0 ∷ 0 ∷ 0 ∷ 0
+    ∷ 0 ∷ 0 ∷ 0 ∷ 0 ∷ 0 ∷ 0 ∷ 0 ∷ 0
+    ∷ []
 
-codes-are : codes ≡ tab 112 (λ k. codeOf (getD keys k []))
+abbrev pub codes : List ℕ
+codes = 0 ∷ 17284499 ∷ 12748404 ∷ 14140118611 ∷ 8556773 ∷ 16392370 ∷ 437853486 ∷ 218564 ∷ 8902245 ∷ 540140 ∷ 22488723 ∷ 427595 ∷ 441878706 ∷ 125490089330091502 ∷ 198110728356 ∷ 624487389363 ∷ 17376357 ∷ 47699412 ∷ []
+
+pub row-in : (k : ℕ) → getD rows k 0 ≤ 17
+unfolding all
+row-in k = entry-small 17 rows k refl
+
+codes-are : tab 112 (λ k. getD codes (getD rows k 0) 0) ≡ tab 112 (λ k. codeOf (getD keys k []))
 unfolding computing
 codes-are = refl
 
@@ -30,11 +54,12 @@ pub key-past : (tag i : ℕ) → tag < 14 → 8 ≤ i → keyCode tag i ≡ 0
 unfolding keyCode keyOf codeFrom
 key-past tag i l h = rw (lt-ltb tag 14 l, le-ltb i 8 h)
 
-pub key-in : (tag i : ℕ) → tag < 14 → i < 8 → keyCode tag i ≡ getD codes (tag * 8 + i) 0
+pub key-in : (tag i : ℕ) → tag < 14 → i < 8 → keyCode tag i ≡ getD codes (getD rows (tag * 8 + i) 0) 0
 unfolding keyCode keyOf
 key-in tag i l h =
     rw (lt-ltb tag 14 l, lt-ltb i 8 h)
-    (sym (ap (λ (l : List ℕ). getD l (tag * 8 + i) 0) codes-are ∙ getD-tab 112 (λ k. codeOf (getD keys k [])) (tag * 8 + i) 0 (omega arith)))
+    (sym (getD-tab 112 (λ k. codeOf (getD keys k [])) (tag * 8 + i) 0 (omega arith)) ∙ ap (λ (l : List ℕ). getD l (tag * 8 + i) 0) (sym codes-are)
+    ∙ getD-tab 112 (λ k. getD codes (getD rows k 0) 0) (tag * 8 + i) 0 (omega arith))
 
 abbrev pub limits : List ℕ
 limits = 0 ∷ 256 ∷ 65536 ∷ 32 ∷ 4294967296 ∷ 2147483648 ∷ []

@@ -4,21 +4,21 @@ use mathlib.Core.List.{List, [], _∷_}
 use Prim.Native.Nat.{ℕ, suc}
 use Rattle.spelling.specs.Words.{keyOf, separator}
 use Rattle.notation.specs.declared.Scan.{Scan}
-use Rattle.notation.specs.Reading.{settle, onComma, ended, markRead, byteRead, step, scan, keyCode}
+use Rattle.notation.specs.Reading.{onList, onComma, ended, markRead, byteRead, step, scan, keyCode}
 use Rattle.notation.specs.Computing.{computing}
 use Rattle.notation.proofs.Numbers.{mid, Settles, Plain, Before}
 
 -- ---- what stands before a number
 
--- a space, a comma or the line's end looks only at what the word or number before it comes to
+-- a space, a comma behind a number, or the line's end looks only at what the word or number before it comes to
 space-step : (s : Scan) (tag item : ℕ) (ns : List ℕ) (h : Settles s tag item ns) (i : ℕ) → step s 32 i ≡ mid tag item (h .start) (h .value) ns
 unfolding step byteRead
 space-step s tag item ns h i = rw (h .active) (h .is)
 
 comma-step : (s : Scan) (tag item : ℕ) (ns : List ℕ) (h : Settles s tag item ns) → Plain s → (i : ℕ)
-    → step s 44 i ≡ step (mid tag item (h .start) (h .value) ns) 44 i
-unfolding step byteRead markRead onComma settle
-comma-step s tag item ns h p i = rw (h .active, p, h .is)
+    → step s 44 i ≡ onList (mid tag item (h .start) (h .value) ns) i
+unfolding step byteRead markRead onComma
+comma-step s tag item ns h p i = rw (h .active, h .is, p .0, p .1)
 
 pub end-step : (s : Scan) (tag item : ℕ) (ns : List ℕ) (h : Settles s tag item ns) (i : ℕ) → step s 10 i ≡ ended (mid tag item (h .start) (h .value) ns) i
 unfolding step byteRead

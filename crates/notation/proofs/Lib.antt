@@ -5,3 +5,4 @@ pub mod Keys
 pub mod Sets
 pub mod Lines
 pub mod RoundTrip
+pub mod Returns

@@ -1,14 +1,14 @@
 -- A number that is written is read back. Assumes nothing.
 use mathlib.Core.Path.{_≡_, refl, ap, _∙_}
-use mathlib.Core.Bool.{Bool, true, false, _&&_}
+use mathlib.Core.Bool.{Bool, true, false, _&&_, not}
 use mathlib.Core.List.{List, [], _∷_, _++_}
 use Prim.Native.Nat.{ℕ, zero, suc, _+_, _-_, _*_, _/_, _%_, _^_, _≤_, _<_, min}
 use native.Mathlib.Nat.{pow-suc, div-lt-iff-lt-mul}
 use native.Mathlib.Omega.{arith}
 use lib.Dec.{eqb, leb, ltb}
 use lib.ListN.{length, set}
-use borrow.Author.Tests.{lt-ltb, le-leb, ltb-true, ltb-false, ne-eqb}
-use Rattle.lists.specs.Lists.{between, oneIf}
+use borrow.Author.Tests.{lt-ltb, le-leb, lt-leb, ltb-true, ltb-false, ne-eqb}
+use Rattle.lists.specs.Lists.{oneIf}
 use Rattle.lists.proofs.Bools.{cases}
 use Rattle.machine.specs.Printed.{decimal}
 use Rattle.forms.specs.Forms.{kindOf}
@@ -146,9 +146,9 @@ pub record Settles (s : Scan) (tag item : ℕ) (ns : List ℕ) : Type 0 where
   pub is : settle s ≡ mid tag item start value ns
   pub active : leb 7 (s .phase) ≡ false
 
--- no member of a set
+-- in a number, and in no member of a set
 abbrev pub Plain : Scan → Type 0
-Plain s = (eqb (s .phase) 5 && eqb (kindOf (s .tag) (s .item)) 3) ≡ false
+Plain s = (s .phase ≡ 5) × (eqb (kindOf (s .tag) (s .item)) 3 ≡ false)
 
 -- before number `item`
 pub record Before (s : Scan) (tag item : ℕ) (ns : List ℕ) : Type 0 where
@@ -158,15 +158,15 @@ pub record Before (s : Scan) (tag item : ℕ) (ns : List ℕ) : Type 0 where
 
 module _ (tag item : ℕ) (ns : List ℕ) where
   -- the end of a number that fits
-  pub end-number : (start value point : ℕ) (minus : Bool) (members kind n : ℕ) → kindOf tag item ≡ kind → between 1 2 point ≡ false
+  pub end-number : (start value point : ℕ) (minus : Bool) (members kind n : ℕ) → kindOf tag item ≡ kind → (leb 4 kind && not (eqb point 3)) ≡ false
       → ltb value (limitOf kind + oneIf minus) ≡ true → numberOf kind minus members value ≡ n
       → settle (num tag item start value point minus members ns) ≡ mid tag (min (item + 1) 8) start value (set ns item n)
   unfolding settle settleNumber
   end-number start value point minus members kind n k p f e =
-      rw (p, k, f, e)
+      rw (k, p, f, e)
 
   plain-of : (start value point : ℕ) (minus : Bool) (members kind : ℕ) → kindOf tag item ≡ kind → (kind ≡ 3 → ⊥) → Plain (num tag item start value point minus members ns)
-  plain-of start value point minus members kind k h = rw (k, ne-eqb kind 3 h)
+  plain-of start value point minus members kind k h = (refl, rw (k, ne-eqb kind 3 h))
 
   -- the point
   point-read : (start value i : ℕ) (minus : Bool) (members kind : ℕ) → kindOf tag item ≡ kind → 4 ≤ kind
@@ -195,7 +195,7 @@ module _ (tag item : ℕ) (ns : List ℕ) where
     pub plain : Plain s
 
   read-as : (s : Scan) (n start value point : ℕ) (minus : Bool) (kind : ℕ) → s ≡ num tag item start value point minus 0 ns → kindOf tag item ≡ kind → (kind ≡ 3 → ⊥)
-      → between 1 2 point ≡ false → ltb value (limitOf kind + oneIf minus) ≡ true → numberOf kind minus 0 value ≡ n → Read-as s n
+      → (leb 4 kind && not (eqb point 3)) ≡ false → ltb value (limitOf kind + oneIf minus) ≡ true → numberOf kind minus 0 value ≡ n → Read-as s n
   read-as s n start value point minus kind is k h p f e =
       rw is record {
         settles = record { start = start; value = value; is = end-number start value point minus 0 kind n k p f e; active = refl };
@@ -212,7 +212,7 @@ module _ (tag item : ℕ) (ns : List ℕ) where
       ∙ digits-read tag item i false 0 ns _ i (first-digit tag item (b .start) (b .value) 0 ns i) 20 n (omega arith) (omega arith) (omega arith)
       in
       rw (k, ← number-low kind n h)
-      (read-as _ n i n 0 false kind e k (λ z. omega arith) refl (lt-ltb n (limitOf kind + 0) (omega arith))
+      (read-as _ n i n 0 false kind e k (λ z. omega arith) (rw (lt-leb 4 kind (omega arith))) (lt-ltb n (limitOf kind + 0) (omega arith))
       (number-plain kind 0 n false (λ z. omega arith) (λ z. omega arith) ∙ omega arith))
 
   -- an amount

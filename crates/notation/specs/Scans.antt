@@ -6,7 +6,7 @@ use lib.ListN.{set}
 use Rattle.notation.specs.declared.Scan.{Scan}
 
 -- the phases: 0 before the call's name, 1 in it, 2 behind the name or a number, 3 in a key, 4 before a number, 5 in a number, 6 behind a minus sign,
--- 7 the line has ended, 8 the line is refused
+-- 7 the line has ended, 8 the line is refused, 9 behind a carriage return
 
 -- nothing is read
 abbrev pub begin : Scan

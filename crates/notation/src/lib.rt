@@ -2,9 +2,10 @@
 ghost use mathlib.Core.Path.{_≡_};
 ghost use mathlib.Core.Bool.{cond};
 ghost use Prim.Native.Nat.{_+_, _-_, _%_, _^_, _≤_, _<_, min};
+ghost use lib.Dec.{eqb};
 ghost use lib.ListN.{set};
 ghost use Rattle.notation.specs.Scans.{begin, withPhase, inWord, named, longer, negative, gathered, stored, refused};
-ghost use Rattle.notation.specs.Reading.{letterOf, grown, keyCode, tagNamed, limitOf, numberOf, settleName, settleKey, settleNumber, settleDash, settle, nextPoint, moreDigits, onLetter, onDigit, onMinus, onPoint, onMember, onList, onComma, complete, ended, markRead, byteRead, step, scan, callOf, outcome, readLine};
+ghost use Rattle.notation.specs.Reading.{letterOf, grown, keyCode, tagNamed, limitOf, numberOf, strangeness, strange, settleName, settleKey, settleNumber, settleDash, settle, nextPoint, moreDigits, onLetter, onDigit, onMinus, onPoint, onMember, onList, onComma, complete, ended, returned, behind, markRead, byteRead, step, scan, callOf, outcome, readLine};
 use wire::Call;
 
 // What is known of a line while it is read.
@@ -21,22 +22,38 @@ pub struct Scan {
     pub reason: u8,
 }
 
-// What a line is: nothing, where it is empty or a comment; a call; or refused, at a place counted from 0, for a reason.
+// What a line is: nothing, where it is empty or a comment; a call; or refused, at a place counted from 0, for a reason, with the
+// call's tag (0 before its name is read) and the number that was to come.
 pub enum Read {
     Nothing,
     Called(Call),
-    Refused { at: usize, reason: u8 },
+    Refused {
+        at: usize,
+        reason: u8,
+        tag: u8,
+        item: usize,
+    },
 }
 
-// The keys as numbers, eight for each tag.
-const KEYS: [u64; 112] = [
-    0,
-    0,
-    0,
-    0,
-    0,
-    0,
-    0,
+// Which key stands before the numbers of each call, eight for each tag; 0 is none.
+const KEYS: [u8; 112] = *b"\
+    \x00\x00\x00\x00\x00\x00\x00\x00\
+    \x01\x02\x03\x04\x05\x06\x07\x08\
+    \x09\x0a\x0b\x00\x00\x00\x00\x00\
+    \x0c\x0d\x0e\x00\x00\x00\x00\x00\
+    \x0f\x00\x00\x00\x00\x00\x00\x00\
+    \x09\x0c\x0a\x10\x00\x00\x00\x00\
+    \x00\x00\x00\x00\x00\x00\x00\x00\
+    \x09\x10\x00\x00\x00\x00\x00\x00\
+    \x09\x10\x00\x00\x00\x00\x00\x00\
+    \x00\x00\x00\x00\x00\x00\x00\x00\
+    \x0c\x11\x00\x00\x00\x00\x00\x00\
+    \x0c\x00\x00\x00\x00\x00\x00\x00\
+    \x0c\x10\x00\x00\x00\x00\x00\x00\
+    \x00\x00\x00\x00\x00\x00\x00\x00";
+
+// The keys as numbers.
+const CODES: [u64; 18] = [
     0,
     17284499,
     12748404,
@@ -49,99 +66,12 @@ const KEYS: [u64; 112] = [
     540140,
     22488723,
     427595,
-    0,
-    0,
-    0,
-    0,
-    0,
     441878706,
     125490089330091502,
     198110728356,
-    0,
-    0,
-    0,
-    0,
-    0,
     624487389363,
-    0,
-    0,
-    0,
-    0,
-    0,
-    0,
-    0,
-    540140,
-    441878706,
-    22488723,
     17376357,
-    0,
-    0,
-    0,
-    0,
-    0,
-    0,
-    0,
-    0,
-    0,
-    0,
-    0,
-    0,
-    540140,
-    17376357,
-    0,
-    0,
-    0,
-    0,
-    0,
-    0,
-    540140,
-    17376357,
-    0,
-    0,
-    0,
-    0,
-    0,
-    0,
-    0,
-    0,
-    0,
-    0,
-    0,
-    0,
-    0,
-    0,
-    441878706,
     47699412,
-    0,
-    0,
-    0,
-    0,
-    0,
-    0,
-    441878706,
-    0,
-    0,
-    0,
-    0,
-    0,
-    0,
-    0,
-    441878706,
-    17376357,
-    0,
-    0,
-    0,
-    0,
-    0,
-    0,
-    0,
-    0,
-    0,
-    0,
-    0,
-    0,
-    0,
-    0,
 ];
 
 // What the numbers of each kind are below.
@@ -337,7 +267,8 @@ fn key(tag: u8, i: usize) -> u64
         return 0;
     }
     let k = place(tag) * 8 + i;
-    KEYS[k]
+    let n = place(KEYS[k]);
+    CODES[n]
 }
 
 // The call that a word names; 0 is none.
@@ -408,6 +339,39 @@ fn number(kind: u8, minus: bool, set: u32, value: u64) -> u32
     low_four(value)
 }
 
+// Why a byte is not expected.
+fn strange_reason(s: Scan) -> u8
+    ensures { λ r. ⌜ r ≡ strangeness s ⌝ }
+{
+    let phase = s.phase;
+    if phase < 2 {
+        return 1;
+    }
+    if phase == 3 {
+        return 8;
+    }
+    if 4 <= phase {
+        return 3;
+    }
+    let kind = forms::kind(s.tag, s.item);
+    if kind == 0 {
+        return 5;
+    }
+    let k = key(s.tag, s.item);
+    if k == 0 {
+        return 7;
+    }
+    2
+}
+
+// A byte that is not expected at its place.
+fn not_expected(s: Scan, at: usize) -> Scan
+    ensures { λ r. ⌜ r ≡ strange s at ⌝ }
+{
+    let reason = strange_reason(s);
+    refuse(s, at, reason)
+}
+
 // A word ends: the name of a call.
 fn settle_name(s: Scan) -> Scan
     ensures { λ r. ⌜ r ≡ settleName s ⌝ }
@@ -432,11 +396,11 @@ fn settle_key(s: Scan) -> Scan
 fn settle_number(s: Scan) -> Scan
     ensures { λ r. ⌜ r ≡ settleNumber s ⌝ }
 {
-    let open = lists::both(1 <= s.point, s.point <= 2);
+    let k = forms::kind(s.tag, s.item);
+    let open = lists::both(4 <= k, s.point != 3);
     if open {
         return refuse(s, s.start, 3);
     }
-    let k = forms::kind(s.tag, s.item);
     let most = limit(k) + lists::one_if(s.minus);
     if s.value < most {
         let n = number(k, s.minus, s.set, s.value);
@@ -491,11 +455,11 @@ fn on_letter(s: Scan, l: u64, at: usize) -> Scan
     }
     if phase == 2 {
         let k = key(s.tag, s.item);
-        let no = refuse(s, at, 5);
+        let no = not_expected(s, at);
         let yes = word(s, 3, at, l);
         return pick(k == 0, no, yes);
     }
-    refuse(s, at, 3)
+    not_expected(s, at)
 }
 
 // The digits behind the point, with one more.
@@ -537,7 +501,7 @@ fn on_digit(s: Scan, d: u64, at: usize) -> Scan
     }
     let k = forms::kind(s.tag, s.item);
     let test = lists::both(phase == 6, k == 5);
-    let no = refuse(s, at, 7);
+    let no = not_expected(s, at);
     let yes = word(s, 5, s.start, d);
     pick(test, yes, no)
 }
@@ -550,7 +514,7 @@ fn on_minus(s: Scan, at: usize) -> Scan
     let empty = lists::both(k == 3, s.set == 0);
     let fits = lists::either(k == 5, empty);
     let test = lists::both(s.phase == 4, fits);
-    let no = refuse(s, at, 7);
+    let no = not_expected(s, at);
     let yes = with_minus(s, at);
     pick(test, yes, no)
 }
@@ -562,7 +526,7 @@ fn on_point(s: Scan, at: usize) -> Scan
     let k = forms::kind(s.tag, s.item);
     let fits = lists::both(s.point == 0, 4 <= k);
     let test = lists::both(s.phase == 5, fits);
-    let no = refuse(s, at, 7);
+    let no = not_expected(s, at);
     let yes = with_value(s, s.value, 1);
     pick(test, yes, no)
 }
@@ -589,7 +553,7 @@ fn on_list(t: Scan, at: usize) -> Scan
     let kind = forms::kind(t.tag, t.item);
     let more = lists::both(k == 0, kind != 0);
     let test = lists::both(t.phase == 2, more);
-    let no = refuse(t, at, 7);
+    let no = not_expected(t, at);
     let yes = to_phase(t, 4);
     pick(test, yes, no)
 }
@@ -598,9 +562,15 @@ fn on_list(t: Scan, at: usize) -> Scan
 fn on_comma(s: Scan, at: usize) -> Scan
     ensures { λ r. ⌜ r ≡ onComma s at ⌝ }
 {
+    let phase = s.phase;
+    if phase == 2 {
+        return refuse(s, at, 7);
+    }
+    if phase != 5 {
+        return not_expected(s, at);
+    }
     let k = forms::kind(s.tag, s.item);
-    let member = lists::both(s.phase == 5, k == 3);
-    if member {
+    if k == 3 {
         return on_member(s);
     }
     let t = settled(s);
@@ -616,6 +586,13 @@ fn is_complete(t: Scan) -> bool
     lists::either(k == 0, round)
 }
 
+// Why a line ends too early.
+fn short_reason(phase: u8) -> u8
+    ensures { λ r. ⌜ r ≡ cond (eqb phase 4) 9 6 ⌝ }
+{
+    if phase == 4 { 9 } else { 6 }
+}
+
 // The line's end, behind a word or a number.
 fn end_at(t: Scan, at: usize) -> Scan
     ensures { λ r. ⌜ r ≡ ended t at ⌝ }
@@ -626,9 +603,30 @@ fn end_at(t: Scan, at: usize) -> Scan
     let whole = is_complete(t);
     let call = lists::both(t.phase == 2, whole);
     let test = lists::either(t.phase == 0, call);
-    let no = refuse(t, at, 6);
+    let reason = short_reason(t.phase);
+    let no = refuse(t, at, reason);
     let yes = to_phase(t, 7);
     pick(test, yes, no)
+}
+
+// A carriage return, behind a line that has ended.
+fn return_at(t: Scan, at: usize) -> Scan
+    ensures { λ r. ⌜ r ≡ returned t at ⌝ }
+{
+    let yes = word(t, 9, at, t.value);
+    pick(t.phase == 8, t, yes)
+}
+
+// A byte behind the line's end.
+fn on_rest(s: Scan, b: u8, at: usize) -> Scan
+    ensures { λ r. ⌜ r ≡ behind s b at ⌝ }
+{
+    let first = lists::both(s.phase == 7, b == 13);
+    let other = lists::both(9 <= s.phase, b != 10);
+    let no = refuse(s, s.start, 10);
+    let yes = return_at(s, at);
+    let rest = pick(other, no, s);
+    pick(first, yes, rest)
 }
 
 // The number of a digit.
@@ -658,7 +656,7 @@ fn on_mark(s: Scan, b: u8, at: usize) -> Scan
     }
     let l = letter(b);
     if l == 0 {
-        return refuse(s, at, 7);
+        return not_expected(s, at);
     }
     on_letter(s, l, at)
 }
@@ -671,21 +669,25 @@ fn on_byte(s: Scan, b: u8, at: usize) -> Scan
     if space {
         return settled(s);
     }
-    let line = lists::either(b == 10, b == 13);
-    let end = lists::either(b == 35, line);
+    let end = lists::either(b == 35, b == 10);
     if end {
         let t = settled(s);
         return end_at(t, at);
     }
+    if b == 13 {
+        let t = settled(s);
+        let u = end_at(t, at);
+        return return_at(u, at);
+    }
     on_mark(s, b, at)
 }
 
-// A byte at a place; behind the end, and where the line is refused, nothing changes.
+// A byte at a place; where the line is refused, nothing changes.
 fn stepped(s: Scan, b: u8, at: usize) -> Scan
     ensures { λ r. ⌜ r ≡ step s b at ⌝ }
 {
     if 7 <= s.phase {
-        return s;
+        return on_rest(s, b, at);
     }
     on_byte(s, b, at)
 }
@@ -801,7 +803,7 @@ fn bid_of(n: [u32; 8]) -> Call
     }
 }
 
-// The calls from ALLOCATE on.
+// The calls from CLOSE on.
 fn later_call(tag: u8, n: [u32; 8]) -> Call
     requires { ⌜ 6 ≤ tag ⌝ }
     ensures { λ r. ⌜ r ≡ callOf tag 0 n ⌝ }
@@ -880,6 +882,8 @@ fn outcome_of(s: Scan) -> Read
         return Read::Refused {
             at: s.start,
             reason: s.reason,
+            tag: s.tag,
+            item: s.item,
         };
     }
     if s.tag == 0 {

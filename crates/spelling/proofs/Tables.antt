@@ -39,15 +39,16 @@ piece-is k h = ap (λ (l : List (List ℕ)). getD l k []) pieces-are ∙ getD-ta
 pub piece-long : (k : ℕ) → k < 126 → length (getD pieces k []) ≡ getD lengths k 0
 piece-long k h = sym (ap (λ (l : List ℕ). getD l k 0) lengths-are ∙ getD-tab 126 _ k 0 h)
 
-entry-small : (l : List ℕ) (k : ℕ) → all (λ n. leb n 16) l ≡ true → getD l k 0 ≤ 16
+-- an entry of a list whose entries are all at most a number
+pub entry-small : (most : ℕ) (l : List ℕ) (k : ℕ) → all (λ n. leb n most) l ≡ true → getD l k 0 ≤ most
 unfolding all
-entry-small [] k e = omega arith
-entry-small (x ∷ l) zero e = leb-true x 16 (and-left (leb x 16) (all (λ n. leb n 16) l) e)
-entry-small (x ∷ l) (suc k) e = entry-small l k (and-right (leb x 16) (all (λ n. leb n 16) l) e)
+entry-small most [] k e = omega arith
+entry-small most (x ∷ l) zero e = leb-true x most (and-left (leb x most) (all (λ n. leb n most) l) e)
+entry-small most (x ∷ l) (suc k) e = entry-small most l k (and-right (leb x most) (all (λ n. leb n most) l) e)
 
 pub lengths-small : (k : ℕ) → getD lengths k 0 ≤ 16
 unfolding all
-lengths-small k = entry-small lengths k refl
+lengths-small k = entry-small 16 lengths k refl
 
 -- a letter of a piece lies within the letters
 pub letter-in : (k j : ℕ) → k < 126 → j < getD lengths k 0 → getD starts k 0 + j < length letters

@@ -6,7 +6,7 @@ use native.Mathlib.Numerals.{add-one}
 use native.Mathlib.Omega.{arith}
 use lib.ListN.{length, getD, take, drop}
 use lib.Seq.{sets}
-use borrow.Author.Tests.{lt-ltb, le-ltb, eq-eqb, ne-eqb}
+use borrow.Author.Tests.{lt-ltb, le-ltb, le-leb, lt-leb, eq-eqb, ne-eqb}
 use Rattle.sets.specs.Set.{members}
 use Rattle.machine.specs.Printed.{decimal}
 use Rattle.wire.specs.Asked.{asked}
@@ -17,7 +17,8 @@ use Rattle.forms.specs.Forms.{formOf, flattened}
 use Rattle.forms.specs.Encode.{Written}
 use Rattle.forms.specs.Put.{Put}
 use Rattle.forms.proofs.Values.{rest-next, rest-none, flat-form, round-tag}
-use Rattle.spelling.specs.Text.{moneyText, priceText, membersText, moreText, numberText, itemText, itemsText, lineText, lineForm, lineInto}
+use Rattle.spelling.specs.Text.{moneyText, priceText, membersText, moreText, numberText, itemText, itemsText, lineText, lineForm, lineInto, keyInto}
+use Rattle.spelling.specs.Words.{keyOf, separator}
 
 module _ (p : ℕ) where
   pub price-low : p < 1000000 → 45 ∷ moneyText (1000000 - p) ≡ priceText p
@@ -130,3 +131,25 @@ module _ (call : Call) (out : List ℕ) where
       let pr : r ≡ length t = omega (arith, p .behind) in
       ap (λ (k : ℕ). (k, new)) pr ∙ ap (λ (o : List ℕ). (length t, o)) (p .stored)
       ∙ sym (line-long h ∙ ap (λ (t : List ℕ). (length t, sets out 0 t)) is)
+
+-- ---- what stands before a number
+
+module _ (tag i : ℕ) (out : List ℕ) where
+  pub key-short : length out < 16 → keyInto tag i out ≡ (0, out)
+  unfolding keyInto
+  key-short h = rw (lt-ltb (length out) 16 h)
+
+  pub key-no-call : 16 ≤ length out → 14 ≤ tag → keyInto tag i out ≡ (0, out)
+  unfolding keyInto
+  key-no-call h t = rw (le-ltb (length out) 16 h, le-leb 14 tag t)
+
+  pub key-no-number : 16 ≤ length out → tag < 14 → 8 ≤ i → keyInto tag i out ≡ (0, out)
+  unfolding keyInto
+  key-no-number h t l = rw (le-ltb (length out) 16 h, lt-leb 14 tag t, le-leb 8 i l)
+
+  pub key-put : (r : ℕ) (new : List ℕ) → 16 ≤ length out → tag < 14 → i < 8 → Put out 0 (separator (keyOf tag i)) 16 r new
+      → _≡_ {A = Written} (r, new) (keyInto tag i out)
+  unfolding keyInto
+  key-put r new h t l p =
+      let e : r ≡ length (separator (keyOf tag i)) = omega (arith, p .behind) in
+      rw (le-ltb (length out) 16 h, lt-leb 14 tag t, lt-leb 8 i l) (λ k. (e k, p .stored k))

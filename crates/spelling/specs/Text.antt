@@ -2,7 +2,7 @@
 use mathlib.Core.List.{List, [], _∷_, _++_}
 use mathlib.Core.Option.{Option}
 use Prim.Native.Nat.{ℕ, zero, suc, _+_, _-_, _/_, _%_, _^_}
-use lib.Dec.{eqb, ltb}
+use lib.Dec.{eqb, leb, ltb}
 use lib.ListN.{length}
 use lib.Seq.{sets}
 use Rattle.lists.specs.Lists.{if_then_else_}
@@ -68,3 +68,13 @@ unfoldable pub lineInto : Option Wire.Call → List ℕ → Written
 lineInto call out =
     let t = lineForm (formOf call) in
     if ltb (length out) 8192 then (0, out) else (length t, sets out 0 t)
+
+-- what stands before number i of a call, at the front of a buffer, and its length; nothing is put where no call has such a number, or into a buffer of less
+-- than 16 bytes
+unfoldable pub keyInto : (tag i : ℕ) → List ℕ → Written
+keyInto tag i out =
+    let t = separator (keyOf tag i) in
+    if ltb (length out) 16 then (0, out)
+    else if leb 14 tag then (0, out)
+    else if leb 8 i then (0, out)
+    else (length t, sets out 0 t)

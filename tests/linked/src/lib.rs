@@ -8,12 +8,12 @@ mod c {
 
     #[link(name = "splitting", kind = "static")]
     unsafe extern "C" {
-        pub fn split(q: u64, weights: *const u64, n: usize, shares: *mut u64, m: usize) -> u8;
+        pub fn ledger_split(q: u64, weights: *const u64, n: usize, shares: *mut u64, m: usize) -> u8;
     }
 
     #[link(name = "auction", kind = "static")]
     unsafe extern "C" {
-        pub fn alone(
+        pub fn ledger_auction(
             open_units: u64,
             reserve: u32,
             units: *const u64,
@@ -23,19 +23,26 @@ mod c {
             counts: *mut u64,
             c: usize,
         ) -> u8;
-        pub fn alone_lent(bids: *const BidRecord, n: usize, open_units: u16, reserve: i32, counts: *mut u64, c: usize) -> u8;
+        pub fn ledger_auction_records(
+            bids: *const BidRecord,
+            n: usize,
+            open_units: u16,
+            reserve: i32,
+            counts: *mut u64,
+            c: usize,
+        ) -> u8;
     }
 }
 
-/// `splitting::split`.
+/// `ledger_split` of `splitting`.
 pub fn split(q: u64, weights: &[u64], shares: &mut [u64]) -> u8 {
-    unsafe { c::split(q, weights.as_ptr(), weights.len(), shares.as_mut_ptr(), shares.len()) }
+    unsafe { c::ledger_split(q, weights.as_ptr(), weights.len(), shares.as_mut_ptr(), shares.len()) }
 }
 
-/// `auction::alone`.
+/// `ledger_auction` of `auction`.
 pub fn alone(open_units: u64, reserve: u32, units: &[u64], prices: &[u32], counts: &mut [u64]) -> u8 {
     unsafe {
-        c::alone(
+        c::ledger_auction(
             open_units,
             reserve,
             units.as_ptr(),
@@ -48,9 +55,9 @@ pub fn alone(open_units: u64, reserve: u32, units: &[u64], prices: &[u32], count
     }
 }
 
-/// `auction::alone_lent`.
+/// `ledger_auction_records` of `auction`.
 pub fn alone_lent(bids: &[BidRecord], open_units: u16, reserve: i32, counts: &mut [u64]) -> u8 {
-    unsafe { c::alone_lent(bids.as_ptr(), bids.len(), open_units, reserve, counts.as_mut_ptr(), counts.len()) }
+    unsafe { c::ledger_auction_records(bids.as_ptr(), bids.len(), open_units, reserve, counts.as_mut_ptr(), counts.len()) }
 }
 
 /// Random numbers from a seed (splitmix64).

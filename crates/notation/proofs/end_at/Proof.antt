@@ -18,6 +18,9 @@ both-requires c κs = search needs
 either-requires : tie.Need-either-requires
 either-requires c κs = search needs
 
+short-reason-requires : tie.Need-short-reason-requires
+short-reason-requires c κs = search needs
+
 refuse-requires : tie.Need-refuse-requires
 refuse-requires c κs = search needs
 
@@ -29,7 +32,7 @@ pick-requires c κs = search needs
 
 returns-2 : tie.Need-returns-2
 unfolding ended
-returns-2 c = simp (ne-eqb _ _ (c .before .before .before .before .before .before .before .before .if1 .left), c .pick .ensures, c .before .to-phase .ensures, c .before .before .refuse .ensures, c .before .before .before .either .ensures, c .before .before .before .before .before .both .ensures, c .before .before .before .before .before .before .before .is-complete .ensures)
+returns-2 c = simp (ne-eqb _ _ (c .before .before .before .before .before .before .before .before .before .if1 .left), c .pick .ensures, c .before .to-phase .ensures, c .before .before .refuse .ensures, c .before .before .before .short-reason .ensures, c .before .before .before .before .either .ensures, c .before .before .before .before .before .before .both .ensures, c .before .before .before .before .before .before .before .before .is-complete .ensures)
 
 pub end-at-spec : {M : Type 1} → statement M
 end-at-spec =
@@ -39,6 +42,7 @@ end-at-spec =
     is-complete-requires
     both-requires
     either-requires
+    short-reason-requires
     refuse-requires
     to-phase-requires
     pick-requires

@@ -25,8 +25,8 @@ kind-requires c κs = search needs
 both-requires : tie.Need-both-requires
 both-requires c κs = search needs
 
-refuse-requires : tie.Need-refuse-requires
-refuse-requires c κs = search needs
+not-expected-requires : tie.Need-not-expected-requires
+not-expected-requires c κs = search needs
 
 word-requires-2 : tie.Need-word-requires-2
 word-requires-2 c κs = search needs
@@ -36,7 +36,7 @@ pick-requires c κs = search needs
 
 returns-3 : tie.Need-returns-3
 unfolding onDigit
-returns-3 c = simp (ne-eqb _ _ (c .before .before .before .before .before .before .if1 .left), ne-eqb _ _ (c .before .before .before .before .before .if2 .left), c .pick .ensures, c .before .word2 .ensures, c .before .before .refuse .ensures, c .before .before .before .both .ensures, c .before .before .before .before .kind .ensures)
+returns-3 c = simp (ne-eqb _ _ (c .before .before .before .before .before .before .if1 .left), ne-eqb _ _ (c .before .before .before .before .before .if2 .left), c .pick .ensures, c .before .word2 .ensures, c .before .before .not-expected .ensures, c .before .before .before .both .ensures, c .before .before .before .before .kind .ensures)
 
 pub on-digit-spec : {M : Type 1} → statement M
 on-digit-spec =
@@ -48,7 +48,7 @@ on-digit-spec =
     returns-2
     kind-requires
     both-requires
-    refuse-requires
+    not-expected-requires
     word-requires-2
     pick-requires
     returns-3)

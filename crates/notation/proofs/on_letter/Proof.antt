@@ -28,8 +28,8 @@ returns-2 c = simp (ne-eqb _ _ (c .before .before .before .before .if1 .left), �
 key-requires : tie.Need-key-requires
 key-requires c κs = search needs
 
-refuse-requires : tie.Need-refuse-requires
-refuse-requires c κs = search needs
+not-expected-requires : tie.Need-not-expected-requires
+not-expected-requires c κs = search needs
 
 word-requires-2 : tie.Need-word-requires-2
 word-requires-2 c κs = search needs
@@ -39,14 +39,14 @@ pick-requires c κs = search needs
 
 returns-3 : tie.Need-returns-3
 unfolding onLetter
-returns-3 c = simp (ne-eqb _ _ (c .before .before .before .before .before .before .before .if1 .left), ← c .before .before .before .before .before .before .either .ensures, c .before .before .before .before .before .if2 .left, eq-eqb _ _ (c .before .before .before .before .if3 .taken), c .pick .ensures, c .before .word2 .ensures, c .before .before .refuse .ensures, c .before .before .before .key .ensures)
+returns-3 c = simp (ne-eqb _ _ (c .before .before .before .before .before .before .before .if1 .left), ← c .before .before .before .before .before .before .either .ensures, c .before .before .before .before .before .if2 .left, eq-eqb _ _ (c .before .before .before .before .if3 .taken), c .pick .ensures, c .before .word2 .ensures, c .before .before .not-expected .ensures, c .before .before .before .key .ensures)
 
-refuse-requires-2 : tie.Need-refuse-requires-2
-refuse-requires-2 c κs = search needs
+not-expected-requires-2 : tie.Need-not-expected-requires-2
+not-expected-requires-2 c κs = search needs
 
 returns-4 : tie.Need-returns-4
 unfolding onLetter
-returns-4 c = simp (ne-eqb _ _ (c .before .before .before .before .if1 .left), ← c .before .before .before .either .ensures, c .before .before .if2 .left, ne-eqb _ _ (c .before .if3 .left), c .refuse2 .ensures)
+returns-4 c = simp (ne-eqb _ _ (c .before .before .before .before .if1 .left), ← c .before .before .before .either .ensures, c .before .before .if2 .left, ne-eqb _ _ (c .before .if3 .left), c .not-expected2 .ensures)
 
 pub on-letter-spec : {M : Type 1} → statement M
 on-letter-spec =
@@ -59,9 +59,9 @@ on-letter-spec =
     with-value-requires
     returns-2
     key-requires
-    refuse-requires
+    not-expected-requires
     word-requires-2
     pick-requires
     returns-3
-    refuse-requires-2
+    not-expected-requires-2
     returns-4)

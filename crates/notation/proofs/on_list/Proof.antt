@@ -21,8 +21,8 @@ both-requires c κs = search needs
 both-requires-2 : tie.Need-both-requires-2
 both-requires-2 c κs = search needs
 
-refuse-requires : tie.Need-refuse-requires
-refuse-requires c κs = search needs
+not-expected-requires : tie.Need-not-expected-requires
+not-expected-requires c κs = search needs
 
 to-phase-requires : tie.Need-to-phase-requires
 to-phase-requires c κs = search needs
@@ -32,7 +32,7 @@ pick-requires c κs = search needs
 
 returns-2 : tie.Need-returns-2
 unfolding onList
-returns-2 c = simp (ne-eqb _ _ (c .before .before .before .before .before .before .before .before .if1 .left), c .pick .ensures, c .before .to-phase .ensures, c .before .before .refuse .ensures, c .before .before .before .both2 .ensures, c .before .before .before .before .before .both .ensures, c .before .before .before .before .before .before .kind .ensures, c .before .before .before .before .before .before .before .key .ensures)
+returns-2 c = simp (ne-eqb _ _ (c .before .before .before .before .before .before .before .before .if1 .left), c .pick .ensures, c .before .to-phase .ensures, c .before .before .not-expected .ensures, c .before .before .before .both2 .ensures, c .before .before .before .before .before .both .ensures, c .before .before .before .before .before .before .kind .ensures, c .before .before .before .before .before .before .before .key .ensures)
 
 pub on-list-spec : {M : Type 1} → statement M
 on-list-spec =
@@ -43,7 +43,7 @@ on-list-spec =
     kind-requires
     both-requires
     both-requires-2
-    refuse-requires
+    not-expected-requires
     to-phase-requires
     pick-requires
     returns-2)

@@ -49,12 +49,12 @@ returns-4 c = simp (ne-eqb _ _ (c .before .before .before .before .before .befor
 letter-requires : tie.Need-letter-requires
 letter-requires c κs = search needs
 
-refuse-requires : tie.Need-refuse-requires
-refuse-requires c κs = search needs
+not-expected-requires : tie.Need-not-expected-requires
+not-expected-requires c κs = search needs
 
 returns-5 : tie.Need-returns-5
 unfolding markRead
-returns-5 c = simp (ne-eqb _ _ (c .before .before .before .before .before .before .before .if1 .left), ne-eqb _ _ (c .before .before .before .before .before .before .if2 .left), ne-eqb _ _ (c .before .before .before .before .before .if3 .left), ← c .before .before .before .before .both .ensures, c .before .before .before .if4 .left, ← c .before .before .letter .ensures .0, eq-eqb _ _ (c .before .if5 .taken), c .refuse .ensures)
+returns-5 c = simp (ne-eqb _ _ (c .before .before .before .before .before .before .before .if1 .left), ne-eqb _ _ (c .before .before .before .before .before .before .if2 .left), ne-eqb _ _ (c .before .before .before .before .before .if3 .left), ← c .before .before .before .before .both .ensures, c .before .before .before .if4 .left, ← c .before .before .letter .ensures .0, eq-eqb _ _ (c .before .if5 .taken), c .not-expected .ensures)
 
 on-letter-requires : tie.Need-on-letter-requires
 on-letter-requires c κs = search needs
@@ -78,7 +78,7 @@ on-mark-spec =
     on-digit-requires
     returns-4
     letter-requires
-    refuse-requires
+    not-expected-requires
     returns-5
     on-letter-requires
     returns-6)

@@ -16,8 +16,8 @@ either-requires c κs = search needs
 both-requires-2 : tie.Need-both-requires-2
 both-requires-2 c κs = search needs
 
-refuse-requires : tie.Need-refuse-requires
-refuse-requires c κs = search needs
+not-expected-requires : tie.Need-not-expected-requires
+not-expected-requires c κs = search needs
 
 with-minus-requires : tie.Need-with-minus-requires
 with-minus-requires c κs = search needs
@@ -27,7 +27,7 @@ pick-requires c κs = search needs
 
 returns : tie.Need-returns
 unfolding onMinus
-returns c = simp (c .pick .ensures, c .before .with-minus .ensures, c .before .before .refuse .ensures, c .before .before .before .both2 .ensures, c .before .before .before .before .before .either .ensures, c .before .before .before .before .before .before .both .ensures, c .before .before .before .before .before .before .before .before .kind .ensures)
+returns c = simp (c .pick .ensures, c .before .with-minus .ensures, c .before .before .not-expected .ensures, c .before .before .before .both2 .ensures, c .before .before .before .before .before .either .ensures, c .before .before .before .before .before .before .both .ensures, c .before .before .before .before .before .before .before .before .kind .ensures)
 
 pub on-minus-spec : {M : Type 1} → statement M
 on-minus-spec =
@@ -37,7 +37,7 @@ on-minus-spec =
     both-requires
     either-requires
     both-requires-2
-    refuse-requires
+    not-expected-requires
     with-minus-requires
     pick-requires
     returns)

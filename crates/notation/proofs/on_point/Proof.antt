@@ -13,8 +13,8 @@ both-requires c κs = search needs
 both-requires-2 : tie.Need-both-requires-2
 both-requires-2 c κs = search needs
 
-refuse-requires : tie.Need-refuse-requires
-refuse-requires c κs = search needs
+not-expected-requires : tie.Need-not-expected-requires
+not-expected-requires c κs = search needs
 
 with-value-requires : tie.Need-with-value-requires
 with-value-requires c κs = search needs
@@ -24,7 +24,7 @@ pick-requires c κs = search needs
 
 returns : tie.Need-returns
 unfolding onPoint
-returns c = simp (c .pick .ensures, c .before .with-value .ensures, c .before .before .refuse .ensures, c .before .before .before .both2 .ensures, c .before .before .before .before .before .both .ensures, c .before .before .before .before .before .before .before .kind .ensures)
+returns c = simp (c .pick .ensures, c .before .with-value .ensures, c .before .before .not-expected .ensures, c .before .before .before .both2 .ensures, c .before .before .before .before .before .both .ensures, c .before .before .before .before .before .before .before .kind .ensures)
 
 pub on-point-spec : {M : Type 1} → statement M
 on-point-spec =
@@ -33,7 +33,7 @@ on-point-spec =
     kind-requires
     both-requires
     both-requires-2
-    refuse-requires
+    not-expected-requires
     with-value-requires
     pick-requires
     returns)

@@ -1,16 +1,16 @@
--- `fields::take_bytes` is safe and ends. Assumes nothing.
+-- `fields::to_fields::take_bytes` is safe and ends. Assumes nothing.
 use mathlib.Core.Path.{_≡_}
 use Prim.Native.Nat.{_-_, _≤_}
 use lib.ListN.{length}
 use borrow.Author.Needs.{needs}
-use Rattle.fields.proofs.take_bytes.Statement.{statement}
-use Rattle.fields.proofs.take_bytes.Tie as tie
+use Rattle.fields.proofs.to_fields.take_bytes.Statement.{statement}
+use Rattle.fields.proofs.to_fields.take_bytes.Tie as tie
 
 abbrev Inv-loop : tie.InvT-loop
-Inv-loop buf got line₀ out₀ kept₀ i₀ line out kept i = (kept .n ≤ 65536) × (65536 ≤ length line) × (length line ≡ length line₀) × (length out ≡ length out₀)
+Inv-loop buf got line₀ one₀ out₀ kept₀ i₀ line one out kept i = (kept .n ≤ 65536) × (65536 ≤ length line) × (length line ≡ length line₀) × (length one ≡ length one₀) × (length out ≡ length out₀)
 
 abbrev μ-loop : tie.MeasureT-loop
-μ-loop buf got line₀ out₀ kept₀ i₀ line out kept i = got - i
+μ-loop buf got line₀ one₀ out₀ kept₀ i₀ line one out kept i = got - i
 
 loop-holds : tie.Need-loop-holds Inv-loop μ-loop
 loop-holds c = search needs
@@ -36,6 +36,9 @@ same-length c = search needs
 same-length-2 : tie.Need-same-length-2 Inv-loop μ-loop
 same-length-2 c = search needs
 
+same-length-3 : tie.Need-same-length-3 Inv-loop μ-loop
+same-length-3 c = search needs
+
 returns : tie.Need-returns Inv-loop μ-loop
 returns c = search needs
 
@@ -53,4 +56,5 @@ take-bytes-spec =
     loop-again
     same-length
     same-length-2
+    same-length-3
     returns)

@@ -1,4 +1,4 @@
--- `auction::alone_lent` meets its contract. `gather` reads the lent run into flat arrays, `alone_over` does the rest at the counts' own borrow, and the auction over
+-- `auction::ledger_auction_records` meets its contract. `gather` reads the lent run into flat arrays, `alone_over` does the rest at the counts' own borrow, and the auction over
 -- the arrays is the auction over the records. Assumes nothing.
 use mathlib.Core.Path.{_≡_, refl, ap, _∙_}
 use Prim.Native.Nat.{ℕ}
@@ -56,16 +56,16 @@ use Rattle.auction.proofs.alone_over as alone-over
 use Rattle.auction.proofs.alone_over.Symbol as alone-over-def
 use Rattle.auction.proofs.alone_over.Symbol.{name as #auction·alone-over}
 use Rattle.auction.proofs.alone_over.Met as alone-over-thm
-use Rattle.auction.proofs.alone_lent.Key.{name as #auction·alone-lent}
-use Rattle.auction.proofs.alone_lent as alone-lent
-use Rattle.auction.proofs.alone_lent.Statement as stated
-use Rattle.auction.proofs.alone_lent.Code as code
+use Rattle.auction.proofs.ledger_auction_records.Key.{name as #auction·ledger-auction-records}
+use Rattle.auction.proofs.ledger_auction_records as ledger-auction-records
+use Rattle.auction.proofs.ledger_auction_records.Statement as stated
+use Rattle.auction.proofs.ledger_auction_records.Code as code
 
 -- the element's type
 abbrev R : RattleType
 R = T.the-row
 
-abbrev stayed : Stays (alone-lent.ended .signature .params) (alone-lent.ended .kept)
+abbrev stayed : Stays (ledger-auction-records.ended .signature .params) (ledger-auction-records.ended .kept)
 stayed = (stay-none-slice (0 ∷ []) tt (plain (λ _. R)) yes, (stay-none (λ _. u16) yes, (stay-none (λ _. i32) yes, (gave-slice (1 ∷ []) tt (plain (λ _. u64)), tt))))
 
 module _ {M : Type 1} (𝓤 : URA M) (H : Heap 𝓤) (A : Atoms 𝓤) (mem : Memory → SProp 𝓤) (run : Routine → Fun 𝓤) where
@@ -90,14 +90,14 @@ module _ {M : Type 1} (𝓤 : URA M) (H : Heap 𝓤) (A : Atoms 𝓤) (W : Given
   abbrev yv : Val
   yv = sliceVal (y .ptr) (length (y .now))
 
-  abbrev a : Args alone-lent.signature κs
+  abbrev a : Args ledger-auction-records.signature κs
   a = (x, (on, (z, (y, tt))))
 
-  abbrev at : Vals alone-lent.signature κs
+  abbrev at : Vals ledger-auction-records.signature κs
   at = (xv ∷ [], (vint w16 on ∷ [], (vint w32 (ofZ w32 z) ∷ [], (yv ∷ [], tt))))
 
   abbrev Post : Val → SProp 𝓤
-  Post = walkOf 𝓤 H A alone-lent.ended stayed (alone-lent.clauses 𝓤 H A mem run) .post ((κs, (q, (q′, tt)), tt, a, at), tt)
+  Post = walkOf 𝓤 H A ledger-auction-records.ended stayed (ledger-auction-records.clauses 𝓤 H A mem run) .post ((κs, (q, (q′, tt)), tt, a, at), tt)
 
   abbrev OwnX : Fml
   OwnX = ShrSlice (named 0) κ R .own x (xv ∷ [])
@@ -137,12 +137,12 @@ module _ {M : Type 1} (𝓤 : URA M) (H : Heap 𝓤) (A : Atoms 𝓤) (W : Given
         → ent 𝓤 (⋆ 𝓤 H A ((‵ (flft κ q) ⊛ ‵ ftrue) ∷ (‵ (flft κ′ q′) ⊛ ‵ ftrue) ∷ ‵ OwnX ∷ ‵ (finally u64 (y .name) zs) ∷ ‵ (u8 .own r (w ∷ [])) ∷ [])) (Post w)
     exits r w zs e l =
         qed W ((‵ (flft κ q) ⊛ ‵ ftrue) ∷ (‵ (flft κ′ q′) ⊛ ‵ ftrue) ∷ ‵ OwnX ∷ ‵ (finally u64 (y .name) zs) ∷ ‵ (u8 .own r (w ∷ [])) ∷ []) ∵
-        suffices ! _ (ends-at 𝓤 H A alone-lent.ended stayed (alone-lent.clauses 𝓤 H A mem run) W ((κs, (q, (q′, tt)), tt, a, at), tt) w r (tt, (tt, (tt, (zs, tt)))) (tt, (tt, (tt, (l, tt))))) $ says ! e $
+        suffices ! _ (ends-at 𝓤 H A ledger-auction-records.ended stayed (ledger-auction-records.clauses 𝓤 H A mem run) W ((κs, (q, (q′, tt)), tt, a, at), tt) w r (tt, (tt, (tt, (zs, tt)))) (tt, (tt, (tt, (l, tt))))) $ says ! e $
         split ! $ move ! (0 ∷ 2 ∷ []) $ join ! $ frame ! $ move ! (2 ∷ 0 ∷ []) $ fjoin ! $
         owned ! i32 (Is i32) (sint-makes 𝓤 H A W w32) z _ gz $ fjoin ! $ owned ! u16 (Is u16) (uint-makes 𝓤 H A W w16) on _ go $ fjoin ! $ move ! (1 ∷ 0 ∷ []) $ fjoin ! $ done !
 
     module _ (C : Calls 𝓤 H) (Λ : Loops 𝓤 H) (fm : FmC 𝓤 H (W .laws) C) (known-gather : Triple 𝓤 (C #auction·gather) (Gather 𝓤 H A mem run)) (known-alone-over : Triple 𝓤 (C #auction·alone-over) (Over 𝓤 H A mem run)) where
-      walk : ent 𝓤 (onEntry 𝓤 H A alone-lent.signature κs (q, (q′, tt)) a at) (WpFn 𝓤 H C Λ code.function (xv ∷ vint w16 on ∷ vint w32 (ofZ w32 z) ∷ yv ∷ []) Post)
+      walk : ent 𝓤 (onEntry 𝓤 H A ledger-auction-records.signature κs (q, (q′, tt)) a at) (WpFn 𝓤 H C Λ code.function (xv ∷ vint w16 on ∷ vint w32 (ofZ w32 z) ∷ yv ∷ []) Post)
       walk =
           qed W ((‵ (flft κ q) ⊛ ‵ (flft κ′ q′) ⊛ ‵ ftrue) ∷ ‵ (owns (ShrSlice (named 0) κ R ∷ u16 ∷ i32 ∷ MutSlice (named 1) κ′ u64 ∷ []) a at) ∷ []) ∵ enter ! C Λ code.function (xv ∷ vint w16 on ∷ vint w32 (ofZ w32 z) ∷ yv ∷ []) _ $
           alloc1 ! (λ l₀. alloc1 ! (λ l₁. alloc1 ! (λ l₂. alloc1 ! (λ l₃. alloc1 ! (λ l₄. alloc1 ! (λ l₅. alloc1 ! (λ l₆. alloc1 ! (λ l₇. alloc1 ! (λ l₈. alloc0 ! $ params1 ! $
@@ -179,23 +179,23 @@ module _ {M : Type 1} (𝓤 : URA M) (H : Heap 𝓤) (A : Atoms 𝓤) (W : Given
           keep ! (4 ∷ 1 ∷ 5 ∷ 2 ∷ 0 ∷ []) $ by ! (exits r w (ws .1 .1 .1 .1 .0) (e₂ ∙ (ap (λ (g : Bids). aloneOver g n on z (y .now)) e₁ ∙ same-auction (x .now) on z (y .now))) l))))))))))))))))))))
 
 module _ {M : Type 1} (𝓤 : URA M) (H : Heap 𝓤) (A : Atoms 𝓤) (W : Given 𝓤 H A) (mem : Memory → SProp 𝓤) (run : Routine → Fun 𝓤) (𝓣 : Tables 𝓤 H) (known-gather : Triple 𝓤 (𝓣 .C #auction·gather) (Gather 𝓤 H A mem run)) (known-alone-over : Triple 𝓤 (𝓣 .C #auction·alone-over) (Over 𝓤 H A mem run)) where
-  alone-lent-walks : Walks 𝓤 H A alone-lent.ended stayed (WpFn 𝓤 H (𝓣 .C) (𝓣 .Λ) code.function) (alone-lent.clauses 𝓤 H A mem run)
-  alone-lent-walks = walked 𝓤 H A alone-lent.ended stayed (alone-lent.clauses 𝓤 H A mem run) (WpFn 𝓤 H (𝓣 .C) (𝓣 .Λ) code.function)
+  ledger-auction-records-walks : Walks 𝓤 H A ledger-auction-records.ended stayed (WpFn 𝓤 H (𝓣 .C) (𝓣 .Λ) code.function) (ledger-auction-records.clauses 𝓤 H A mem run)
+  ledger-auction-records-walks = walked 𝓤 H A ledger-auction-records.ended stayed (ledger-auction-records.clauses 𝓤 H A mem run) (WpFn 𝓤 H (𝓣 .C) (𝓣 .Λ) code.function)
       (λ κs. (slice-vals, (uint-vals w16, (sint-vals w32, (slice-vals, tt))))) (λ κs. (shr-slice-tells (named 0) (κs .0) R, (uint-tells w16, (sint-tells w32, (mut-slice-tells (named 1) (κs .1 .0) u64, tt)))))
       (λ κs qs bounds a g are. via 𝓤 _ (fst∗ 𝓤 _ (emp 𝓤))
       (walk 𝓤 H A W mem run (κs .0) (κs .1 .0) (qs .0) (qs .1 .0) (a .0) (a .1 .0) (a .1 .1 .0) (a .1 .1 .1 .0) (are .0) (are .1 .0) (are .1 .1 .0) (are .1 .1 .1 .0) (𝓣 .C) (𝓣 .Λ) (fmOf 𝓤 H (W .laws) 𝓣) known-gather known-alone-over))
 
-  alone-lent-meets : Meets 𝓤 H A alone-lent.signature (WpFn 𝓤 H (𝓣 .C) (𝓣 .Λ) code.function) (alone-lent.spec 𝓤 H A mem run)
-  alone-lent-meets =
-      walk-meets 𝓤 H A alone-lent.ended stayed W
+  ledger-auction-records-meets : Meets 𝓤 H A ledger-auction-records.signature (WpFn 𝓤 H (𝓣 .C) (𝓣 .Λ) code.function) (ledger-auction-records.spec 𝓤 H A mem run)
+  ledger-auction-records-meets =
+      walk-meets 𝓤 H A ledger-auction-records.ended stayed W
       (goes-none-slice 𝓤 H A W 2 (0 ∷ []) tt (plain (λ _. R)) yes, (goes-none 𝓤 H A W 2 (λ _. u16) yes (λ κs x f. refl), (goes-none 𝓤 H A W 2 (λ _. i32) yes (λ κs x f. refl), (goes-gave-slice 𝓤 H A W 2 1 tt (plain (λ _. u64)), tt))))
-      (alone-lent.clauses 𝓤 H A mem run) (WpFn 𝓤 H (𝓣 .C) (𝓣 .Λ) code.function) (WpFn-mono 𝓤 H (W .laws) 𝓣 code.function) alone-lent-walks
+      (ledger-auction-records.clauses 𝓤 H A mem run) (WpFn 𝓤 H (𝓣 .C) (𝓣 .Λ) code.function) (WpFn-mono 𝓤 H (W .laws) 𝓣 code.function) ledger-auction-records-walks
 
-pub alone-lent-spec : {M : Type 1} → stated.statement M
+pub ledger-auction-records-spec : {M : Type 1} → stated.statement M
 unfolding code.routine tablesOf
-alone-lent-spec 𝓤 H 𝓜 𝓖 𝓡 =
-    entered 𝓤 H (tripleOf 𝓤 H (𝓖 .A) alone-lent.signature (alone-lent.spec 𝓤 H (𝓖 .A) (𝓜 .mem) (𝓡 .run)))
-    (tables 𝓤 H 𝓜 𝓡 code.env .C) (tables 𝓤 H 𝓜 𝓡 code.env .Λ) #auction·alone-lent code.function (code.unfolded 𝓤 H 𝓜 𝓡)
-    (alone-lent-meets 𝓤 H (𝓖 .A) (givenOf 𝓤 H 𝓜 𝓖) (𝓜 .mem) (𝓡 .run) (tablesOf 𝓤 H 𝓜 (tables 𝓤 H 𝓜 𝓡 code.env))
+ledger-auction-records-spec 𝓤 H 𝓜 𝓖 𝓡 =
+    entered 𝓤 H (tripleOf 𝓤 H (𝓖 .A) ledger-auction-records.signature (ledger-auction-records.spec 𝓤 H (𝓖 .A) (𝓜 .mem) (𝓡 .run)))
+    (tables 𝓤 H 𝓜 𝓡 code.env .C) (tables 𝓤 H 𝓜 𝓡 code.env .Λ) #auction·ledger-auction-records code.function (code.unfolded 𝓤 H 𝓜 𝓡)
+    (ledger-auction-records-meets 𝓤 H (𝓖 .A) (givenOf 𝓤 H 𝓜 𝓖) (𝓜 .mem) (𝓡 .run) (tablesOf 𝓤 H 𝓜 (tables 𝓤 H 𝓜 𝓡 code.env))
     (cited 𝓤 H (Gather 𝓤 H (𝓖 .A) (𝓜 .mem) (𝓡 .run)) 𝓜 𝓡 code.env #auction·gather gather-def.routine code.calls-auction·gather (gather-thm.met 𝓤 H 𝓜 𝓖 𝓡))
     (cited 𝓤 H (Over 𝓤 H (𝓖 .A) (𝓜 .mem) (𝓡 .run)) 𝓜 𝓡 code.env #auction·alone-over alone-over-def.routine code.calls-auction·alone-over (alone-over-thm.met 𝓤 H 𝓜 𝓖 𝓡)))

@@ -1,16 +1,16 @@
--- `fields::take_parts` is safe and ends. Assumes nothing.
+-- `fields::to_text::take_parts` is safe and ends. Assumes nothing.
 use mathlib.Core.Path.{_≡_}
 use Prim.Native.Nat.{_-_, _≤_, _<_}
 use lib.ListN.{length}
 use borrow.Author.Needs.{needs}
-use Rattle.fields.proofs.take_parts.Statement.{statement}
-use Rattle.fields.proofs.take_parts.Tie as tie
+use Rattle.fields.proofs.to_text.take_parts.Statement.{statement}
+use Rattle.fields.proofs.to_text.take_parts.Tie as tie
 
 abbrev Inv-loop : tie.InvT-loop
-Inv-loop first buf got field₀ out₀ n₀ i₀ field out n i = (n < 65538) × (65538 ≤ length field) × (length field ≡ length field₀) × (length out ≡ length out₀)
+Inv-loop buf got field₀ one₀ out₀ part₀ i₀ field one out part i = (part .n < 65538) × (65538 ≤ length field) × (length field ≡ length field₀) × (length one ≡ length one₀) × (length out ≡ length out₀)
 
 abbrev μ-loop : tie.MeasureT-loop
-μ-loop first buf got field₀ out₀ n₀ i₀ field out n i = got - i
+μ-loop buf got field₀ one₀ out₀ part₀ i₀ field one out part i = got - i
 
 loop-holds : tie.Need-loop-holds Inv-loop μ-loop
 loop-holds c = search needs
@@ -36,6 +36,9 @@ same-length c = search needs
 same-length-2 : tie.Need-same-length-2 Inv-loop μ-loop
 same-length-2 c = search needs
 
+same-length-3 : tie.Need-same-length-3 Inv-loop μ-loop
+same-length-3 c = search needs
+
 returns : tie.Need-returns Inv-loop μ-loop
 returns c = search needs
 
@@ -53,4 +56,5 @@ take-parts-spec =
     loop-again
     same-length
     same-length-2
+    same-length-3
     returns)
