@@ -1,5 +1,6 @@
 // What is printed: lines gather in a lent buffer, which is written when it is nearly full and after each read. Once a write has failed, which is told on
 // standard error, the place is behind the buffer, where nothing is put any more.
+
 // Where the buffer is written: a line is shorter than what is left behind this place.
 const NEARLY_FULL: usize = 98_304;
 
