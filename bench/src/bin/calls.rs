@@ -4,9 +4,10 @@
 use model::write::{self, Head};
 use model::{Counts, Ledger};
 use std::hint::black_box;
+use std::time::Instant;
 
 /// Rounds of the two in turn; the least time counts.
-const ROUNDS: usize = 15;
+const ROUNDS: usize = 25;
 /// A call is taken so many times in a round that the calls before it are less than a hundredth of the round, which lasts some milliseconds.
 const SHARE: f64 = 100.0;
 const SECONDS: f64 = 0.005;
@@ -26,7 +27,7 @@ mod c {
         pub fn ledger_each(
             before: *const u8,
             b: usize,
-            before_ends: *const usize,
+            cuts: *const usize,
             d: usize,
             bytes: *const u8,
             n: usize,
@@ -102,14 +103,14 @@ fn counts(before: &Strings) -> Counts {
     ledger
 }
 
-/// The seconds that the model takes for the call, once in each of some ledgers.
+/// The seconds by the clock that the model takes for the call, once in each of some ledgers: too short for other work to come between, or to be told by processor time.
 fn counted(before: &Strings, call: &[u8]) -> f64 {
     let mut ledgers: Vec<Counts> = (0..LEDGERS).map(|_| counts(before)).collect();
-    let start = seconds();
+    let start = Instant::now();
     for ledger in &mut ledgers {
         black_box(ledger.call(black_box(call)));
     }
-    (seconds() - start) / LEDGERS as f64
+    start.elapsed().as_secs_f64() / LEDGERS as f64
 }
 
 /// What `timing::ledger_each` has to tell of the call: the answer, or else the open units of pool 0 or the smaller charge of member 0.
@@ -164,9 +165,11 @@ fn bids() -> impl Iterator<Item = Vec<u8>> {
     (0..128u32).map(|i| write::bid((i % 4) as u8, (i % 32) as u8, 1, -1 - (i % 40) as i32))
 }
 
-/// 256 bids of 20 units: over four pools or one, and over so many prices.
+/// 256 bids of 1 to 30 units: over four pools or one, and over so many prices.
 fn many_bids(pools: u32, prices: u32) -> impl Iterator<Item = Vec<u8>> {
-    (0..256u32).map(move |i| write::bid((i % pools) as u8, (i % 32) as u8, 20, -1 - (i * 7 % prices) as i32))
+    (0..256u32).map(move |i| {
+        write::bid((i % pools) as u8, (i % 32) as u8, 1 + (i * 13 % 30) as u16, -1 - (i * 7 % prices) as i32)
+    })
 }
 
 fn main() {
@@ -228,7 +231,7 @@ fn main() {
     time("MISS", &called, &write::miss(3, 0), false, MIDDLE);
     time("MOVE, 4,000 units of 384 groups", &called, &write::move_units(3), false, MOVE_ALL);
     let paid = called.with((0..32).map(|m| write::pay(m, 1_000_000)));
-    time("FINISH", &paid, &write::finish(), false, SMALL);
+    time("FINISH", &paid, &write::finish(), false, MIDDLE);
     time("FINISH and its result", &paid, &write::finish(), true, CLOSE);
 
     let few = round
@@ -236,4 +239,14 @@ fn main() {
         .with(one(write::close()))
         .with(one(write::call()));
     time("MOVE, 4,000 units of 4 groups", &few, &write::move_units(3), false, MOVE);
+
+    let covered = none
+        .with(one(write::head(&Head { hedge_loss: 0, ..head })))
+        .with((0..4).map(|pool| write::pool(pool, 1000, 0)))
+        .with((0..32).map(|m| write::member(m, 1_000_000, [0; 4])))
+        .with(one(write::round(&[-1000; 4])))
+        .with(one(write::close()));
+    time("ALLOCATE, nobody is short", &covered, &write::allocate(0, -5), false, DECLINED);
+    let torn = covered.with((0..4).map(|pool| write::tear(pool, -5)));
+    time("CALL, enough is prefunded", &torn, &write::call(), false, DECLINED);
 }

@@ -2,6 +2,7 @@
 use mathlib.Core.Path.{_≡_, refl, sym, ap, ap₂, _∙_}
 use mathlib.Core.Bool.{false}
 use mathlib.Core.List.{List, [], _∷_, _++_, append-assoc, append-nil}
+use mathlib.Core.Option.{none}
 use Prim.Native.Nat.{ℕ, zero, suc, _+_, _-_, _≤_}
 use native.Mathlib.Omega.{arith}
 use lib.Dec.{leb}
@@ -9,20 +10,25 @@ use lib.ListN.{length, take, drop, length-append, length-take, length-drop}
 use lib.Seq.{take-append-le, drop-append-le, drop-drop}
 use borrow.Author.Tests.{le-leb}
 use Rattle.lists.proofs.Bools.{cases, and-both}
-use Rattle.machine.specs.Printed.{Line, text}
+use Rattle.machine.specs.Run.{runFrom}
+use Rattle.machine.specs.Printed.{Line, sLine, fieldsIn, text}
 use Rattle.case.specs.declared.Held.{Held}
 use Rattle.case.specs.Cases.{noHeld}
+use Rattle.case.specs.Claim.{Bytes}
 use Rattle.case.specs.Strings.{bytesOf}
 use Rattle.case.specs.Input.{fieldSize, wholeFirst, frontFields, ledgerAfter}
 use Rattle.case.proofs.Fields.{size-whole}
 use Rattle.case.proofs.Fronts.{fields-all}
 use Rattle.case.proofs.Running.{after-two}
+use Rattle.case.proofs.Claim.{ledger-tied, fields-bytes}
 use Rattle.report.specs.Texts.{ledgerLines, cutLines, heldLines, wholeFields}
 use Rattle.report.specs.Parts.{whole, rest, joined, streamed, Streams}
-use Rattle.report.proofs.Placing.{text-append}
+use Rattle.report.proofs.Placing.{text-append, text-one}
+use Rattle.report.proofs.Widths.{line-most}
+use Rattle.report.proofs.Ending.{held-most}
 use Rattle.report.proofs.Wholes.{First, first-of, fields-next, fields-none}
 use Rattle.report.proofs.Taking.{lines-two, bytes-two}
-use Rattle.report.proofs.Splitting.{left-cut}
+use Rattle.report.proofs.Splitting.{cutFields, left-cut, fields-split, cut-after}
 use Rattle.report.proofs.Printing.{printed-is}
 
 -- ---- the whole fields of bytes behind bytes
@@ -90,7 +96,53 @@ fields-apart (suc k) s t h =
       fields = ap (λ (fs : List (List ℕ)). fs ++ whole (drop (bytesOf fs) s ++ t)) (sym e);
     })
 
+-- what is left of bytes behind bytes
+pub rest-then : (s t : List ℕ) → rest (s ++ t) ≡ rest (rest s ++ t)
+rest-then s t =
+    let a = fields-apart (length s) s t (omega arith) in
+    let more = whole (rest s ++ t) in
+    ap (λ (fs : List (List ℕ)). drop (bytesOf fs) (s ++ t)) (a .fields)
+    ∙ ap (λ (n : ℕ). drop n (s ++ t)) (bytes-two (whole s) more)
+    ∙ sym (drop-drop (bytesOf more) (bytesOf (whole s)) (s ++ t))
+    ∙ ap (drop (bytesOf more)) (drop-append-le (bytesOf (whole s)) s t (a .fits))
+
+-- what is held after bytes behind bytes
+pub after-then : (h : Held) (s t : List ℕ) → ledgerAfter h (whole (s ++ t)) ≡ ledgerAfter (ledgerAfter h (whole s)) (whole (rest s ++ t))
+after-then h s t =
+    let a = fields-apart (length s) s t (omega arith) in
+    ap (ledgerAfter h) (a .fields) ∙ after-two h (whole s) (whole (rest s ++ t))
+
+-- one more part
+pub joined-more : (parts : List (List ℕ)) (part : List ℕ) → joined (parts ++ (part ∷ [])) ≡ joined parts ++ part
+unfolding joined
+joined-more [] part = append-nil part
+joined-more (p ∷ parts) part = ap (λ (s : List ℕ). p ++ s) (joined-more parts part) ∙ sym (append-assoc p (joined parts) part)
+
 -- ---- what is printed
+
+cut-most : (s : List ℕ) → length (text (cutLines s)) ≤ 44
+unfolding cutLines text sLine
+cut-most [] = omega arith
+cut-most (x ∷ s) = omega (arith, ap length (text-one (sLine (x ∷ []) 1)), line-most (sLine (x ∷ []) 1))
+
+-- the text behind the s lines of the whole fields has at most 4,096 bytes
+pub end-most : (input : List ℕ) → Bytes input → length (text (cutLines (rest input) ++ heldLines (ledgerAfter noHeld (whole input)))) ≤ 4096
+end-most input bytes =
+    let held = ledgerAfter noHeld (whole input) in
+    let fs = fieldsIn (length input) input in
+    let cut : wholeFirst (rest input) ≡ false = left-cut (length input) input (omega arith) in
+    let same : ledgerAfter noHeld fs ≡ held =
+    ap (ledgerAfter noHeld) (fields-split (length input) input (omega arith))
+    ∙ after-two noHeld (whole input) (cutFields (rest input))
+    ∙ cut-after held (rest input) cut in
+    omega (
+      arith,
+      ap length (text-append (cutLines (rest input)) (heldLines held)),
+      length-append (text (cutLines (rest input))) (text (heldLines held)),
+      cut-most (rest input),
+      ap (λ (h : Held). length (text (heldLines h))) same,
+      held-most (ledgerAfter noHeld fs) (runFrom none fs) (ledger-tied fs (fields-bytes (length input) input bytes)),
+    )
 
 -- what is printed for some bytes, from what is held on
 abbrev printedFrom : Held → List ℕ → List ℕ
@@ -102,11 +154,7 @@ printed-then h s t =
     let a = fields-apart (length s) s t (omega arith) in
     let held = ledgerAfter h (whole s) in
     let more = whole (rest s ++ t) in
-    let r : rest (s ++ t) ≡ rest (rest s ++ t) =
-    ap (λ (fs : List (List ℕ)). drop (bytesOf fs) (s ++ t)) (a .fields)
-    ∙ ap (λ (n : ℕ). drop n (s ++ t)) (bytes-two (whole s) more)
-    ∙ sym (drop-drop (bytesOf more) (bytesOf (whole s)) (s ++ t))
-    ∙ ap (drop (bytesOf more)) (drop-append-le (bytesOf (whole s)) s t (a .fits)) in
+    let r : rest (s ++ t) ≡ rest (rest s ++ t) = rest-then s t in
     let last : List Line = cutLines (rest (rest s ++ t)) ++ heldLines (ledgerAfter held more) in
     ap₂ (λ (fs : List (List ℕ)) (x : List ℕ). text (ledgerLines h fs ++ (cutLines x ++ heldLines (ledgerAfter h fs)))) (a .fields) r
     ∙ ap₂ (λ (ls : List Line) (k : Held). text (ls ++ (cutLines (rest (rest s ++ t)) ++ heldLines k))) (lines-two h (whole s) more) (after-two h (whole s) more)
