@@ -157,5 +157,9 @@ for cmd, name, lines in [('bin/ledger', b'ledger', 1), ('bin/explain', b'explain
     inputs_that_fail(cmd, name, b''.join(r.stdout.splitlines(keepends=True)[:calls * lines]))
     live_use(cmd, r.stdout, lines)
 
+# an input that ends within a field is not taken for a whole case
+r = run('bin/explain', WORKED[:-1])
+tell('bin/explain, a field that is cut off', r.stdout.endswith(b'\nNot the whole case: the input ends within a field.\n'), r.stdout[-200:])
+
 print('%d failed' % failed)
 sys.exit(failed != 0)

@@ -158,13 +158,26 @@ fn write_cut(rest: &[u8], out: &mut [u8], at: usize) -> usize {
     paper::end_line(out, said)
 }
 
+// The last line, where bytes of a field that is cut off are left: what stands above is not the whole case.
+fn write_incomplete(left: usize, out: &mut [u8], at: usize) -> usize {
+    if left == 0 {
+        return at;
+    }
+    paper::line(
+        out,
+        at,
+        b"\nNot the whole case: the input ends within a field.",
+    )
+}
+
 fn run(buf: &mut [u8], out: &mut [u8]) {
     let rest = take_input(buf, out);
     let len = rest.len;
     let held = rest.held;
     if rest.ended {
         let cut = write_cut(&buf[0..len], out, 0);
-        let end = tables::write_tables(held, out, cut);
+        let shown = tables::write_tables(held, out, cut);
+        let end = write_incomplete(len, out, shown);
         paper::flush(out, end);
     }
 }
