@@ -180,6 +180,13 @@ for text in sorted(pathlib.Path('examples').glob('*.txt')):
     r = run(['bin/run', str(text)])
     tell('bin/run %s' % text, r.returncode == 0 and r.stderr == b'' and r.stdout == text.with_suffix('.out').read_bytes(), r)
 
+# ---- what docs/USING.md quotes is what the example prints
+
+printed = open('examples/one-default.out').read().splitlines()
+blocks = open('docs/USING.md').read().split('```')[1::2]
+quoted = [line for block in blocks for line in block.splitlines() if line]
+tell('docs/USING.md quotes examples/one-default.out', len(quoted) > 80 and all(line in printed for line in quoted), [line for line in quoted if line not in printed])
+
 # ---- the scripts, with an `rt` that says what they are told
 
 SAYS = '''#!/bin/sh

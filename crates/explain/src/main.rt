@@ -7,11 +7,10 @@ mod ranges;
 mod tables;
 
 ghost use mathlib.Core.Path.{_≡_};
-ghost use Prim.Native.Nat.{_+_, _≤_};
+ghost use Prim.Native.Nat.{_≤_};
 ghost use lib.ListN.{length};
 ghost use Rattle.case.specs.Cases.{applied};
 use case::Held;
-use libc::STDIN_FILENO;
 
 // What is held after a part of an input, the bytes that its whole fields took, and the place behind the text.
 struct Taken {
@@ -26,35 +25,11 @@ struct Step {
     at: usize,
 }
 
-// What is held when the input has ended, how many bytes of a field that is cut off are left at the buffer's front, and the place behind the text.
+// What is held when the reading stops, how many bytes of a field that is cut off are left at the buffer's front, and whether the input ended.
 struct Rest {
     held: Held,
     len: usize,
-    at: usize,
-}
-
-// One read into the buffer from a place on: how many bytes came.
-fn read_at(buf: &mut [u8], at: usize) -> usize
-    requires { ⌜ at ≤ length (now buf) ⌝ }
-    ensures { λ r. ⌜ at + r ≤ length (now (buf .entry)) ⌝ }
-{
-    let part = &mut buf[at..];
-    let got = libc::read(STDIN_FILENO, part);
-    io::count(got, part)
-}
-
-// Moves the bytes between two places to the front, and says how many they are.
-fn slide(buf: &mut [u8], start: usize, end: usize) -> usize
-    requires { ⌜ (start ≤ end) × (end ≤ length (now buf)) ⌝ }
-    ensures { λ r. ⌜ r ≤ end ⌝ }
-{
-    let n = end - start;
-    let mut i: usize = 0;
-    while i < n {
-        buf[i] = buf[start + i];
-        i += 1;
-    }
-    n
+    ended: bool,
 }
 
 // A byte as a wider number.
@@ -121,27 +96,50 @@ fn take_part(held: Held, input: &[u8], out: &mut [u8], at: usize) -> Taken
     }
 }
 
-// Reads and takes until the input ends.
+// Reads and takes until the input ends, or a read or a write fails. What a read brought is written before the next.
 fn take_input(buf: &mut [u8], out: &mut [u8]) -> Rest
     ensures { λ r. ⌜ r .len ≤ length (now (buf .entry)) ⌝ }
 {
     let mut held = Held::none();
     let mut len: usize = 0;
-    let mut at: usize = 0;
     let mut turns = u64::MAX;
     while turns > 0 {
         turns -= 1;
-        let got = read_at(buf, len);
-        if got == 0 {
-            return Rest { held, len, at };
+        let got = feed::read(buf, len);
+        let more = got.len;
+        if got.failed {
+            os::fail(b"explain: standard input");
+            return Rest {
+                held,
+                len,
+                ended: false,
+            };
         }
-        let end = len + got;
-        let taken = take_part(held, &buf[0..end], out, at);
+        if more == 0 {
+            return Rest {
+                held,
+                len,
+                ended: true,
+            };
+        }
+        let end = len + more;
+        let taken = take_part(held, &buf[0..end], out, 0);
+        let used = taken.used;
         held = taken.held;
-        at = taken.at;
-        len = slide(buf, taken.used, end);
+        len = feed::slide(buf, used, end);
+        if paper::flush(out, taken.at) != 0 {
+            return Rest {
+                held,
+                len,
+                ended: false,
+            };
+        }
     }
-    Rest { held, len, at }
+    Rest {
+        held,
+        len,
+        ended: false,
+    }
 }
 
 // A field that is cut off by the input's end, of which these bytes are left.
@@ -160,12 +158,28 @@ fn write_cut(rest: &[u8], out: &mut [u8], at: usize) -> usize {
     paper::end_line(out, said)
 }
 
+// The last line, where bytes of a field that is cut off are left: what stands above is not the whole case.
+fn write_incomplete(left: usize, out: &mut [u8], at: usize) -> usize {
+    if left == 0 {
+        return at;
+    }
+    paper::line(
+        out,
+        at,
+        b"\nNot the whole case: the input ends within a field.",
+    )
+}
+
 fn run(buf: &mut [u8], out: &mut [u8]) {
     let rest = take_input(buf, out);
     let len = rest.len;
-    let cut = write_cut(&buf[0..len], out, rest.at);
-    let end = tables::write_tables(rest.held, out, cut);
-    paper::flush(out, end);
+    let held = rest.held;
+    if rest.ended {
+        let cut = write_cut(&buf[0..len], out, 0);
+        let shown = tables::write_tables(held, out, cut);
+        let end = write_incomplete(len, out, shown);
+        paper::flush(out, end);
+    }
 }
 
 fn main() {

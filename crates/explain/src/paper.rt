@@ -1,15 +1,12 @@
-// What is printed: lines gather in a lent buffer, which is written when it is nearly full.
-use libc::STDOUT_FILENO;
+// What is printed: lines gather in a lent buffer, which is written when it is nearly full and after each read. Once a write has failed, which is told on
+// standard error, the place is behind the buffer, where nothing is put any more.
 
 // Where the buffer is written: a line is shorter than what is left behind this place.
 const NEARLY_FULL: usize = 98_304;
 
 // Writes what stands before the place, and begins anew.
 pub fn flush(out: &mut [u8], at: usize) -> usize {
-    if at <= out.len() {
-        io::write_all(STDOUT_FILENO, &out[0..at]);
-    }
-    0
+    feed::flush(out, at, b"explain: standard output")
 }
 
 // The end of a line.

@@ -7,10 +7,10 @@ use Rattle.explain.proofs.take_input.Statement.{statement}
 use Rattle.explain.proofs.take_input.Tie as tie
 
 abbrev Inv-loop : tie.InvT-loop
-Inv-loop buf₀ out₀ held₀ len₀ at₀ turns₀ buf out held len at turns = (len ≤ length buf) × (length buf ≡ length buf₀) × (length out ≡ length out₀)
+Inv-loop buf₀ out₀ held₀ len₀ turns₀ t11 buf out held len turns = (len ≤ length buf) × (length buf ≡ length buf₀) × (length out ≡ length out₀)
 
 abbrev μ-loop : tie.MeasureT-loop
-μ-loop buf₀ out₀ held₀ len₀ at₀ turns₀ buf out held len at turns = turns
+μ-loop buf₀ out₀ held₀ len₀ turns₀ t11 buf out held len turns = turns
 
 none-requires : tie.Need-none-requires Inv-loop μ-loop
 none-requires c κs = search needs
@@ -21,8 +21,14 @@ loop-holds c = search needs
 sub-turns : tie.Need-sub-turns Inv-loop μ-loop
 sub-turns c = search needs
 
-read-at-requires : tie.Need-read-at-requires Inv-loop μ-loop
-read-at-requires c κs = search needs
+read-requires : tie.Need-read-requires Inv-loop μ-loop
+read-requires c κs = search needs
+
+slice-aggregate-fail : tie.Need-slice-aggregate-fail Inv-loop μ-loop
+slice-aggregate-fail c = search needs
+
+fail-requires : tie.Need-fail-requires Inv-loop μ-loop
+fail-requires c κs = search needs
 
 same-length : tie.Need-same-length Inv-loop μ-loop
 same-length c = search needs
@@ -32,6 +38,15 @@ same-length-2 c = search needs
 
 returns : tie.Need-returns Inv-loop μ-loop
 returns c = search needs
+
+same-length-3 : tie.Need-same-length-3 Inv-loop μ-loop
+same-length-3 c = search needs
+
+same-length-4 : tie.Need-same-length-4 Inv-loop μ-loop
+same-length-4 c = search needs
+
+returns-2 : tie.Need-returns-2 Inv-loop μ-loop
+returns-2 c = search needs
 
 add-end : tie.Need-add-end Inv-loop μ-loop
 add-end c = search needs
@@ -51,20 +66,32 @@ take-part-requires c κs = search needs
 slide-requires : tie.Need-slide-requires Inv-loop μ-loop
 slide-requires c κs = search needs
 
+flush-requires : tie.Need-flush-requires Inv-loop μ-loop
+flush-requires c κs = search needs
+
+same-length-5 : tie.Need-same-length-5 Inv-loop μ-loop
+same-length-5 c = search needs
+
+same-length-6 : tie.Need-same-length-6 Inv-loop μ-loop
+same-length-6 c = search needs
+
+returns-3 : tie.Need-returns-3 Inv-loop μ-loop
+returns-3 c = search needs
+
 loop-less : tie.Need-loop-less Inv-loop μ-loop
 loop-less c = search needs
 
 loop-again : tie.Need-loop-again Inv-loop μ-loop
 loop-again c = search needs
 
-same-length-3 : tie.Need-same-length-3 Inv-loop μ-loop
-same-length-3 c = search needs
+same-length-7 : tie.Need-same-length-7 Inv-loop μ-loop
+same-length-7 c = search needs
 
-same-length-4 : tie.Need-same-length-4 Inv-loop μ-loop
-same-length-4 c = search needs
+same-length-8 : tie.Need-same-length-8 Inv-loop μ-loop
+same-length-8 c = search needs
 
-returns-2 : tie.Need-returns-2 Inv-loop μ-loop
-returns-2 c = search needs
+returns-4 : tie.Need-returns-4 Inv-loop μ-loop
+returns-4 c = search needs
 
 pub take-input-spec : {M : Type 1} → statement M
 take-input-spec =
@@ -75,18 +102,27 @@ take-input-spec =
     none-requires
     loop-holds
     sub-turns
-    read-at-requires
+    read-requires
+    slice-aggregate-fail
+    fail-requires
     same-length
     same-length-2
     returns
+    same-length-3
+    same-length-4
+    returns-2
     add-end
     sub-take-part
     part-take-part-start
     part-take-part-end
     take-part-requires
     slide-requires
+    flush-requires
+    same-length-5
+    same-length-6
+    returns-3
     loop-less
     loop-again
-    same-length-3
-    same-length-4
-    returns-2)
+    same-length-7
+    same-length-8
+    returns-4)
