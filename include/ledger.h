@@ -75,6 +75,12 @@ struct ledger_shown ledger_calls(const uint8_t *bytes, size_t bytes_len, const s
 void ledger_holdings(const uint8_t *bytes, size_t bytes_len, const size_t *ends, size_t ends_len, const uint8_t *members, size_t members_len,
                      const uint8_t *pools, size_t pools_len, const uint32_t *prices, size_t prices_len, uint64_t *units, size_t units_len);
 
+/* ---- The program. `rt staticlib stream` writes libstream.a, which has this, and needs the kit's C code of `os` (libos_c.a). */
+
+/* Runs the program `ledger` from standard input to standard output, and says whether the input ended and all was written; a C program can end with that as
+ * its status. */
+bool ledger_stream(void);
+
 /* ---- Splitting and the auction alone. `rt staticlib splitting` and `rt staticlib auction` write libsplitting.a and libauction.a, which have these. */
 
 /* Splits q by the weights into the shares and answers 0. It answers 1 where the runs differ in length or have more than 512 places, and 5 where q is above
