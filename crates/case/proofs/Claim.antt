@@ -8,9 +8,9 @@ use Prim.Native.Nat.{ℕ, zero, suc, _+_, _*_}
 use lib.Dec.{eqb}
 use lib.ListN.{length, drop}
 use borrow.Author.Tests.{eqb-true, not-false}
-use Rattle.lists.specs.Lists.{if_then_else_}
+use Rattle.lists.specs.Lists.{if_then_else_, Bytes}
 use Rattle.lists.proofs.Bools.{same-choice}
-use Rattle.lists.proofs.Each.{Each}
+use Rattle.lists.proofs.Each.{Each, each-take, each-drop}
 use Rattle.lists.specs.Tests.{Passed}
 use Rattle.machine.specs.Wire.{Head, Call, HEAD, decode}
 use Rattle.machine.specs.State as M
@@ -30,11 +30,10 @@ use Rattle.case.specs.declared.Ran.{Ran}
 use Rattle.case.specs.View.{view}
 use Rattle.case.specs.Cases.{caseAfter, caseAnswerTo, firstAnswerTo, answerTo, afterAsked, takeAsked, applied, noHeld}
 use Rattle.case.specs.Readings.{seen}
-use Rattle.case.specs.Claim.{Bytes, Read, Agrees, ledgerFrom}
+use Rattle.case.specs.Claim.{Read, Agrees, ledgerFrom}
 use Rattle.case.specs.Input.{Runs, ledgerAfter, ledgerAnswers}
 use Rattle.case.proofs.Steps.{next-shown, head-shown}
-use Rattle.case.proofs.Decoded.{AllRead, drop-bytes, read-fits, decoded-read, answer-shown, first-shown}
-use Rattle.case.proofs.Strings.{take-bytes}
+use Rattle.case.proofs.Decoded.{AllRead, read-fits, decoded-read, answer-shown, first-shown}
 use Rattle.case.proofs.Observations.{case-observed, none-observed}
 
 -- ---- what is held, and the machine's state
@@ -197,7 +196,7 @@ fields-bytes (suc k) (tag ∷ []) b = (b, tt)
 fields-bytes (suc k) (tag ∷ high ∷ []) b = (b, tt)
 fields-bytes (suc k) (tag ∷ high ∷ low ∷ rest) b =
     let n = high * 256 + low in
-    ((b .0, (b .1 .0, (b .1 .1 .0, take-bytes n rest (b .1 .1 .1)))), fields-bytes k (drop n rest) (drop-bytes n rest (b .1 .1 .1)))
+    ((b .0, (b .1 .0, (b .1 .1 .0, each-take _ n rest (b .1 .1 .1)))), fields-bytes k (drop n rest) (each-drop _ n rest (b .1 .1 .1)))
 
 -- ---- the contract of `run`
 

@@ -3,26 +3,28 @@ use mathlib.Core.Path.{_≡_, refl, sym, ap, _∙_}
 use mathlib.Core.Bool.{true, _&&_}
 use mathlib.Core.List.{List, [], _∷_}
 use mathlib.Core.Option.{Option, none, some}
-use Prim.Native.Nat.{ℕ, zero, suc, _+_, _*_, _/_, _%_, _^_, _≤_, _<_}
+use Prim.Native.Nat.{ℕ, _+_, _*_, _/_, _%_, _≤_}
 use native.Mathlib.Omega.{arith}
 use lib.Dec.{leb, eqb}
-use lib.ListN.{length, take, drop, getD}
+use lib.ListN.{length, drop, getD}
 use borrow.Author.Tests.{leb-true}
-use Rattle.lists.specs.Lists.{between, tab}
+use Rattle.lists.specs.Lists.{between, tab, Bytes}
 use Rattle.lists.specs.Tests.{firstOf}
 use Rattle.lists.proofs.Bools.{either, by-test, and-left, and-right}
+use Rattle.lists.proofs.Each.{each-drop}
 use Rattle.lists.proofs.Places.{length-tab, tab-self}
-use Rattle.machine.specs.Wire.{Head, Call, HEAD, POOL, MEMBER, ROUND, BID, CLOSE, ALLOCATE, TEAR, CALL, PAY, MOVE, MISS, FINISH, bigEndian, number, price, rightLength, callOf, decode}
+use Rattle.machine.specs.Wire.{Head, Call, HEAD, POOL, MEMBER, ROUND, BID, CLOSE, ALLOCATE, TEAR, CALL, PAY, MOVE, MISS, FINISH, number, price, rightLength, callOf, decode}
 use Rattle.machine.specs.Roll.{Entry}
 use Rattle.machine.specs.State as M
 use Rattle.machine.specs.Refusals.{tests, refusal}
+use Rattle.machine.proofs.Bytes.{Byte, four-bytes}
 use Rattle.machine.proofs.Stages.{letter-some}
 use Rattle.machine.proofs.Invariant.{CaseOk}
 use Rattle.machine.proofs.Reached.{Fits}
 use Rattle.book.proofs.Sound.{Sound}
 use Rattle.case.specs.declared.Case.{Case}
 use Rattle.case.specs.View.{view}
-use Rattle.case.specs.Claim.{Bytes, Read}
+use Rattle.case.specs.Claim.{Read}
 use Rattle.case.specs.Cases.{headFrom, caseAnswer, firstAnswer}
 use Rattle.book.proofs.AnswersShown.{head-answer, pool-answer, member-answer, round-answer, bid-answer, close-answer, allocate-answer, tear-answer, call-answer, pay-answer, move-answer, miss-answer, finish-answer}
 
@@ -44,20 +46,6 @@ read-fits (MOVE m) r = tt
 read-fits (MISS m price) r = tt
 read-fits FINISH r = tt
 
--- what is left behind some bytes
-pub drop-bytes : (n : ℕ) (xs : List ℕ) → Bytes xs → Bytes (drop n xs)
-drop-bytes zero xs h = h
-drop-bytes (suc n) [] h = tt
-drop-bytes (suc n) (x ∷ xs) h = drop-bytes n xs (h .1)
-
-four-bytes : (s : List ℕ) → Bytes s → bigEndian 0 (take 4 s) < 2 ^ 32
-unfolding bigEndian
-four-bytes [] h = omega arith
-four-bytes (a ∷ []) h = omega (arith, h .0)
-four-bytes (a ∷ b ∷ []) h = omega (arith, h .0, h .1 .0)
-four-bytes (a ∷ b ∷ c ∷ []) h = omega (arith, h .0, h .1 .0, h .1 .1 .0)
-four-bytes (a ∷ b ∷ c ∷ d ∷ s) h = omega (arith, h .0, h .1 .0, h .1 .1 .0, h .1 .1 .1 .0)
-
 -- a ROUND's length is at most 16
 round-few : (tag : ℕ) (v : List ℕ) → rightLength tag (length v) ≡ true → eqb tag 4 ≡ true → length v / 4 ≤ 4
 unfolding rightLength
@@ -69,7 +57,7 @@ round-few tag v right four =
 call-read : (tag : ℕ) (v : List ℕ) → Bytes v → rightLength tag (length v) ≡ true → Read (callOf tag v)
 unfolding callOf number
 call-read tag v h right =
-    either Read (eqb tag 1) (four-bytes (drop 3 v) (drop-bytes 3 v h))
+    either Read (eqb tag 1) (four-bytes (drop 3 v) (each-drop Byte 3 v h))
     (either Read (eqb tag 2) tt
     (either Read (eqb tag 3) (length-tab 4 (λ p. number (5 + 2 * p) 2 v))
     (by-test Read (eqb tag 4) (λ four. omega (arith, round-few tag v right four, length-tab (length v / 4) (λ p. price (4 * p) v))) (λ other.

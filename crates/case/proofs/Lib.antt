@@ -1,11 +1,10 @@
-pub mod Fields
 pub mod Signed
 pub mod Outcomes
 pub mod Decoded
-pub mod Strings
 pub mod Replaying
 pub mod Fronts
 pub mod Running
+pub mod Parts
 pub mod Showing
 pub mod SetupSteps
 pub mod BiddingSteps

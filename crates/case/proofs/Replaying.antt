@@ -11,8 +11,8 @@ use Rattle.case.specs.declared.Held.{Held}
 use Rattle.case.specs.declared.Applied.{Applied}
 use Rattle.case.specs.Cases.{applied}
 use Rattle.case.specs.Input.{ledgerAfter, ledgerAnswers, Replays}
-use Rattle.case.specs.Strings.{cutAt, stringsFrom, stringsIn, inFront}
-use Rattle.case.proofs.Strings.{cut-to, front-next}
+use Rattle.input.specs.Strings.{cutAt, stringsFrom, stringsIn, inFront}
+use Rattle.input.proofs.Strings.{cut-to, front-next}
 
 pub record Going (first : Held) (bytes ends old new : List ℕ) (held : Held) (at k : ℕ) : Type 0 where
   pub size : length new ≡ length old

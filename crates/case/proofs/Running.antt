@@ -17,11 +17,13 @@ use Rattle.case.specs.declared.Held.{Held}
 use Rattle.case.specs.declared.Applied.{Applied}
 use Rattle.case.specs.declared.Front.{Front}
 use Rattle.case.specs.Cases.{answerTo, afterAsked, takeAsked, applied, noHeld}
-use Rattle.case.specs.Strings.{inFront, bytesOf}
-use Rattle.case.specs.Input.{ledgerAfter, ledgerAnswers, frontSize, frontFields, FieldsTaken}
+use Rattle.input.specs.Strings.{inFront, bytesOf}
+use Rattle.input.specs.Fields.{frontSize, frontFields}
+use Rattle.case.specs.Input.{ledgerAfter, ledgerAnswers, FieldsTaken}
 use Rattle.case.proofs.Outcomes.{take-declined, take-accepted}
-use Rattle.case.proofs.Strings.{front-long, front-taken, front-left}
-use Rattle.case.proofs.Fronts.{front-most, front-zero, front-none, bytes-most, fields-few, fields-most, fields-stop, fields-rest, fields-front, rest-all, no-entry}
+use Rattle.input.proofs.Strings.{front-long, front-taken, front-left}
+use Rattle.input.proofs.Pieces.{front-zero, front-none, bytes-most, fields-few, fields-most, fields-stop, fields-rest}
+use Rattle.input.proofs.Fronts.{front-most, fields-front, rest-all, no-entry}
 
 -- ---- one call, asked first
 
@@ -87,11 +89,11 @@ module _ (input old new : List ℕ) (held : Held) (at count : ℕ) (g : Going in
   -- the fields left are these and those behind them
   left-then : left input old at count ≡ fs ++ left input old (at + bytesOf fs) (count + length fs)
   left-then =
-      fields-rest true (length old - count) m (drop at input) (omega (arith, part-long))
+      fields-rest (frontSize true) (front-most true) (length old - count) m (drop at input) (omega (arith, part-long))
       ∙ ap₂ (λ (n : ℕ) (r : List ℕ). fs ++ frontFields true n r) (omega arith) (drop-drop (bytesOf fs) at input)
 
   few : length (ledgerAnswers held fs) ≤ length (drop count new)
-  few = omega (arith, answers-long held fs, fields-most true m (drop at input))
+  few = omega (arith, answers-long held fs, fields-most (frontSize true) (front-most true) m (drop at input))
 
   abbrev next : List ℕ
   next = take count new ++ part'
@@ -112,8 +114,8 @@ module _ (input old new : List ℕ) (held : Held) (at count : ℕ) (g : Going in
   pub goes : Going input old next (front .held) (at + front .used) (count + front .count)
   goes = rw (taken .held, taken .used, taken .count) (record {
     size = length-append (take count new) part' ∙ omega (arith, before, ap length (taken .told), front-long (ledgerAnswers held fs) (drop count new), part-long, g .room);
-    room = omega (arith, fields-most true m (drop at input), part-long, g .room);
-    place = omega (arith, bytes-most true m (drop at input), length-drop at input, g .place);
+    room = omega (arith, fields-most (frontSize true) (front-most true) m (drop at input), part-long, g .room);
+    place = omega (arith, bytes-most (frontSize true) (front-most true) m (drop at input), length-drop at input, g .place);
     told =
         rw taken-all
         (append-assoc (take count new) (ledgerAnswers held fs) _
@@ -169,7 +171,7 @@ module _ (input old new : List ℕ) (held : Held) (at count : ℕ) (g : Going in
 -- where the input is at its end no field is left
 pub none-behind : (input old : List ℕ) (at count : ℕ) → length input ≤ at → left input old at count ≡ []
 none-behind input old at count l =
-    front-none true (length old - count) (drop at input) (omega (arith, front-most true (drop at input), length-drop at input))
+    front-none (frontSize true) (front-most true) (length old - count) (drop at input) (omega (arith, front-most true (drop at input), length-drop at input))
 
 -- no field has no bytes
 no-bytes : (fs : List (List ℕ)) → length fs ≡ 0 → bytesOf fs ≡ 0
@@ -183,7 +185,7 @@ pub taken-within : (input old new : List ℕ) (held : Held) (at count : ℕ) →
     → (at + front .used ≤ length input) × (count + front .count ≤ length old) × (front .count ≤ front .used)
 taken-within input old new held at count g ends ends' part' front taken =
     let next = goes input old new held at count g ends ends' part' front taken in
-    (next .place, next .room, omega (arith, taken .count, taken .used, fields-few true (min (length (drop count new)) (length ends)) (drop at input)))
+    (next .place, next .room, omega (arith, taken .count, taken .used, fields-few (frontSize true) (front-most true) (min (length (drop count new)) (length ends)) (drop at input)))
 
 -- where none was taken, none is left
 pub none-taken : (input old new : List ℕ) (held : Held) (at count : ℕ) → Going input old new held at count → (ends ends' part' : List ℕ) (front : Front)
@@ -197,9 +199,9 @@ none-taken input old new held at count g ends ends' part' front taken some-room 
     let empty : length fs ≡ 0 = omega (arith, taken .count) in
     ⊎-elim
     (λ more.
-    let stop : frontSize true rest ≡ 0 = ap (λ (n : ℕ). frontSize true (drop n rest)) (sym (no-bytes fs empty)) ∙ fields-stop true m rest (omega arith) in
-    front-none true (length old - count) rest stop)
-    (λ full. let z : length old - count ≡ 0 = omega arith in ap (λ (n : ℕ). frontFields true n rest) z ∙ front-zero true rest)
+    let stop : frontSize true rest ≡ 0 = ap (λ (n : ℕ). frontSize true (drop n rest)) (sym (no-bytes fs empty)) ∙ fields-stop (frontSize true) (front-most true) m rest (omega arith) in
+    front-none (frontSize true) (front-most true) (length old - count) rest stop)
+    (λ full. let z : length old - count ≡ 0 = omega arith in ap (λ (n : ℕ). frontFields true n rest) z ∙ front-zero (frontSize true) (front-most true) rest)
     (lt-or-le 0 (length (drop count new)))
 
 -- and the answers are as they were

@@ -13,7 +13,7 @@ use mathlib.Core.Option.{none, some}
 use Prim.Native.Nat.{ℕ, _+_, _≤_, _<_, _^_}
 use lib.IntN.{pos, _-ℤ_}
 use lib.ListN.{length, getD}
-use Rattle.lists.specs.Lists.{sum, Each}
+use Rattle.lists.specs.Lists.{sum, Each, Bytes}
 use Rattle.lists.specs.Tests.{Passed, First}
 use Rattle.sets.specs.Set.{member, members}
 use Rattle.auction.specs.Price.{atLeast0}
@@ -40,10 +40,6 @@ ledgerFrom h [] = []
 ledgerFrom h (call ∷ calls) =
     let next = applied h call in
     seen (next .answer) (next .held) ∷ ledgerFrom (next .held) calls
-
--- a string of bytes
-abbrev pub Bytes : List ℕ → Type 0
-Bytes = Each (λ b. b < 256)
 
 -- the ledger and the roll's machine agree in every answer and every observation, after every call of every list of byte strings
 abbrev pub Agrees : Type 0

@@ -1,7 +1,6 @@
 pub mod Cases
 pub mod View
 pub mod Readings
-pub mod Strings
 pub mod Input
 pub mod Claim
 pub mod Computing

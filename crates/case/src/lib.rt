@@ -3,18 +3,17 @@ ghost use mathlib.Core.Path.{_≡_};
 ghost use mathlib.Core.Bool.{Bool};
 ghost use mathlib.Core.List.{[], _∷_};
 ghost use mathlib.Core.Option.{some};
-ghost use Prim.Native.Nat.{_<_, _^_, min};
+ghost use Prim.Native.Nat.{_<_, _^_};
 ghost use lib.IntN.{subℕ};
 ghost use lib.ListN.{set};
 ghost use Rattle.machine.specs.Wire.{POOL, MEMBER, BID, CLOSE, ALLOCATE, TEAR, CALL, PAY, MOVE, MISS, FINISH};
 ghost use Rattle.wire.specs.Asked.{asked};
 ghost use Rattle.wire.specs.declared.Call.the-variants.{Round};
-ghost use Rattle.lists.specs.Lists.{if_then_else_};
 ghost use Rattle.units.specs.Shown.{countOf};
 ghost use Rattle.case.specs.Cases.{newCase, reserveIf, reservesAnswer, firstAnswerTo, caseAnswerTo, answerTo, afterAsked, takeAsked, applied, headOutcome, outcomeOf, noHeld};
 ghost use Rattle.case.specs.Readings.{holdingIn, sumOfPricesIn};
-ghost use Rattle.case.specs.Strings.{cutAt, stringsIn};
-ghost use Rattle.case.specs.Input.{frontSize, Cuts, Replays, TakesFields, Runs};
+ghost use Rattle.input.specs.Strings.{stringsIn};
+ghost use Rattle.case.specs.Input.{Replays, TakesFields, Runs};
 use book::Book;
 use book::Stage;
 use units::Units;
@@ -536,16 +535,6 @@ pub fn apply(held: Held, bytes: &[u8]) -> Applied
 
 // ---- many calls
 
-// Where a string ends: an end below its begin or above the number of bytes is held to them.
-pub fn cut_at(at: usize, n: usize, end: usize) -> usize
-    ensures { λ r. ⌜ r ≡ cutAt at n end ⌝ }
-{
-    if end < at {
-        return at;
-    }
-    if end < n { end } else { n }
-}
-
 // Writes an answer, where there is room.
 fn put(answers: &mut [u8], k: usize, answer: u8)
     ensures { λ _. ⌜ now (answers .exit) ≡ set (now (answers .entry)) k answer ⌝ }
@@ -564,7 +553,7 @@ pub fn replay(held: Held, bytes: &[u8], ends: &[usize], answers: &mut [u8]) -> H
     let mut at: usize = 0;
     let mut k: usize = 0;
     while k < ends.len() {
-        let end = cut_at(at, bytes.len(), ends[k]);
+        let end = input::cut_at(at, bytes.len(), ends[k]);
         let call = wire::read_call(&bytes[at..end]);
         let answer = answer_to(present, case, call);
         put(answers, k, answer);
@@ -580,58 +569,6 @@ pub fn replay(held: Held, bytes: &[u8], ends: &[usize], answers: &mut [u8]) -> H
 
 // ---- the fields of an input
 
-// A byte as a wider number.
-fn wide(b: u8) -> usize
-    ensures { λ r. ⌜ (r ≡ b) × (r < 256) ⌝ }
-{
-    b as usize
-}
-
-// All n bytes where the input ends here, and else none.
-fn all_if(last: bool, n: usize) -> usize
-    ensures { λ r. ⌜ r ≡ (if last then n else 0) ⌝ }
-{
-    if last { n } else { 0 }
-}
-
-// The bytes of the first field of an input, and 0 where it is not all there. Where the input ends here, one that is cut off has all that is left.
-fn front_size(last: bool, input: &[u8]) -> usize
-    ensures { λ r. ⌜ r ≡ frontSize last (now (input .entry)) ⌝ }
-{
-    let n = input.len();
-    if n < 3 {
-        return all_if(last, n);
-    }
-    let size = 3 + wide(input[1]) * 256 + wide(input[2]);
-    if n < size { all_if(last, n) } else { size }
-}
-
-// The smaller of two numbers.
-fn least(a: usize, b: usize) -> usize
-    ensures { λ r. ⌜ r ≡ min a b ⌝ }
-{
-    if a < b { a } else { b }
-}
-
-// Where the fields at an input's front end, as many as there is room for.
-fn cut(last: bool, input: &[u8], room: usize, ends: &mut [usize]) -> usize
-    ensures { λ r. ⌜ Cuts last (now (input .entry)) room (now (ends .entry)) (now (ends .exit)) r ⌝ }
-{
-    let most = least(room, ends.len());
-    let mut at: usize = 0;
-    let mut k: usize = 0;
-    while k < most {
-        let size = front_size(last, &input[at..]);
-        if size == 0 {
-            return k;
-        }
-        at += size;
-        ends[k] = at;
-        k += 1;
-    }
-    k
-}
-
 // The fields at an input's front taken in turn, as many as there is room for answers and for where they end.
 pub fn take_fields(
     held: Held,
@@ -642,7 +579,7 @@ pub fn take_fields(
 ) -> Front
     ensures { λ r. ⌜ TakesFields held last (now (input .entry)) (now (ends .entry)) (now (answers .entry)) (now (ends .exit)) (now (answers .exit)) r ⌝ }
 {
-    let count = cut(last, input, answers.len(), ends);
+    let count = input::cut(last, input, answers.len(), ends);
     if count == 0 {
         return Front {
             held,

@@ -19,13 +19,9 @@ fn write_unknown(bytes: &[u8], out: &mut [u8], at: usize) -> usize {
 
 // The line of a call.
 pub fn write_call(call: Call, bytes: &[u8], out: &mut [u8], at: usize) -> usize {
-    let mut text = [0u8; 8192];
-    let n = spelling::write_text(call, &mut text);
-    if n == 0 {
+    let to = spelling::write_text(call, out, at);
+    if to == at {
         return write_unknown(bytes, out, at);
     }
-    if n <= 8192 {
-        return words::put(out, at, &text[0..n]);
-    }
-    at
+    to
 }

@@ -8,8 +8,12 @@ mod tables;
 
 ghost use mathlib.Core.Path.{_≡_};
 ghost use Prim.Native.Nat.{_≤_};
-ghost use lib.ListN.{length};
+ghost use lib.ListN.{length, take};
+ghost use Rattle.input.specs.Strings.{bytesOf};
+ghost use Rattle.input.specs.Fields.{whole, rest};
 ghost use Rattle.case.specs.Cases.{applied};
+ghost use Rattle.case.specs.Input.{ledgerAfter, HeldAfter};
+ghost use Rattle.feed.specs.Feeds.{Keeps, Fed};
 use case::Held;
 
 // What is held after a part of an input, the bytes that its whole fields took, and the place behind the text.
@@ -25,30 +29,18 @@ struct Step {
     at: usize,
 }
 
-// What is held when the reading stops, how many bytes of a field that is cut off are left at the buffer's front, and whether the input ended.
+// What is held after a turn, how many bytes are kept at the buffer's front, and the place behind the text.
+struct Turn {
+    held: Held,
+    len: usize,
+    at: usize,
+}
+
+// What is held when the reading stops, how many bytes of a field that is cut off are kept at the buffer's front, and whether the input ended.
 struct Rest {
     held: Held,
     len: usize,
     ended: bool,
-}
-
-// A byte as a wider number.
-fn wide(b: u8) -> usize
-    ensures { λ r. ⌜ (r ≡ b) × (r ≤ 255) ⌝ }
-{
-    b as usize
-}
-
-// The bytes of the first field of an input, and 0 where it is not all there.
-fn whole_size(input: &[u8]) -> usize
-    ensures { λ r. ⌜ r ≤ length (now (input .entry)) ⌝ }
-{
-    let n = input.len();
-    if n < 3 {
-        return 0;
-    }
-    let size = 3 + wide(input[1]) * 256 + wide(input[2]);
-    if n < size { 0 } else { size }
 }
 
 // One field: the call, its answer in words, and the stage and the open units after it.
@@ -68,26 +60,20 @@ fn take_field(held: Held, bytes: &[u8], out: &mut [u8], at: usize) -> Step
 }
 
 // The whole fields at the front of a part of an input, in turn.
-fn take_part(held: Held, input: &[u8], out: &mut [u8], at: usize) -> Taken
-    ensures { λ r. ⌜ r .used ≤ length (now (input .entry)) ⌝ }
+fn take_part(held: Held, input: &[u8], out: &mut [u8]) -> Taken
+    ensures { λ r. ⌜ (r .held ≡ ledgerAfter held (whole (now (input .entry)))) × (r .used ≡ bytesOf (whole (now (input .entry)))) ⌝ }
 {
     let mut next = held;
     let mut used: usize = 0;
-    let mut to = at;
-    while used < input.len() {
-        let size = whole_size(&input[used..]);
-        if size == 0 {
-            return Taken {
-                held: next,
-                used,
-                at: to,
-            };
-        }
+    let mut to: usize = 0;
+    let mut size = input::front_size(false, input);
+    while size != 0 {
         let end = used + size;
         let step = take_field(next, &input[used..end], out, to);
         next = step.held;
         to = step.at;
         used = end;
+        size = input::front_size(false, &input[used..]);
     }
     Taken {
         held: next,
@@ -96,44 +82,43 @@ fn take_part(held: Held, input: &[u8], out: &mut [u8], at: usize) -> Taken
     }
 }
 
-// Reads and takes until the input ends, or a read or a write fails. What a read brought is written before the next.
+// The bytes in front of a place taken: their whole fields, and what is left of them moved to the front.
+fn take_turn(held: Held, buf: &mut [u8], end: usize, out: &mut [u8]) -> Turn
+    requires { ⌜ end ≤ length (now buf) ⌝ }
+    ensures { λ r. ⌜ (r .held ≡ ledgerAfter held (whole (take end (now (buf .entry))))) × Keeps rest (take end (now (buf .entry))) (now (buf .entry)) (now (buf .exit)) (r .len) ⌝ }
+{
+    let taken = take_part(held, &buf[0..end], out);
+    let used = taken.used;
+    let next = taken.held;
+    Turn {
+        held: next,
+        len: feed::slide(buf, used, end),
+        at: taken.at,
+    }
+}
+
+// Reads and takes until the input ends, or a read or a write fails. What a read brought is written before the next. What is held is what the ledger holds.
 fn take_input(buf: &mut [u8], out: &mut [u8]) -> Rest
-    ensures { λ r. ⌜ r .len ≤ length (now (buf .entry)) ⌝ }
+    ensures { λ r. ⌜ Fed rest (HeldAfter (r .held)) (now (buf .exit)) (r .len) ⌝ }
 {
     let mut held = Held::none();
     let mut len: usize = 0;
     let mut turns = u64::MAX;
     while turns > 0 {
         turns -= 1;
-        let got = feed::read(buf, len);
+        let got = feed::read(buf, len, b"explain: standard input");
         let more = got.len;
-        if got.failed {
-            os::fail(b"explain: standard input");
-            return Rest {
-                held,
-                len,
-                ended: false,
-            };
-        }
         if more == 0 {
             return Rest {
                 held,
                 len,
-                ended: true,
+                ended: got.ended,
             };
         }
-        let end = len + more;
-        let taken = take_part(held, &buf[0..end], out, 0);
-        let used = taken.used;
-        held = taken.held;
-        len = feed::slide(buf, used, end);
-        if paper::flush(out, taken.at) != 0 {
-            return Rest {
-                held,
-                len,
-                ended: false,
-            };
-        }
+        let turn = take_turn(held, buf, len + more, out);
+        held = turn.held;
+        len = turn.len;
+        turns = feed::turns_left(turns, paper::flush(out, turn.at));
     }
     Rest {
         held,

@@ -8,9 +8,9 @@ use lib.ListN.{length, set, getD, length-set}
 use Rattle.lists.specs.Lists.{tab}
 use Rattle.lists.proofs.Places.{length-tab, tab-last}
 use Rattle.case.specs.declared.Held.{Held}
-use Rattle.case.specs.Strings.{inFront}
+use Rattle.input.specs.Strings.{inFront}
 use Rattle.exports.specs.Showing.{holdingShown, asks, holdingsOf}
-use Rattle.case.proofs.Strings.{front-next}
+use Rattle.input.proofs.Strings.{front-next}
 
 -- the answer to question k
 unfoldable pub answered : Held → List ℕ → List ℕ → List ℕ → ℕ → ℕ

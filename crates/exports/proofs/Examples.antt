@@ -1,7 +1,7 @@
 -- Worked examples of strings cut out of a run of bytes and of numbers written in front. Assumes nothing.
 use mathlib.Core.Path.{_≡_, refl}
 use mathlib.Core.List.{[], _∷_}
-use Rattle.case.specs.Strings.{cutAt, stringsFrom, stringsIn, inFront}
+use Rattle.input.specs.Strings.{cutAt, stringsFrom, stringsIn, inFront}
 
 -- the second end is below the first, and the last is above the number of bytes
 pub strings-cut : stringsIn (1 ∷ 2 ∷ 3 ∷ 4 ∷ []) (1 ∷ 0 ∷ 3 ∷ 9 ∷ []) ≡ (1 ∷ []) ∷ [] ∷ (2 ∷ 3 ∷ []) ∷ (4 ∷ []) ∷ []

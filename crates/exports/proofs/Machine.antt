@@ -26,11 +26,11 @@ use Rattle.case.specs.declared.Held.{Held}
 use Rattle.case.specs.View.{view}
 use Rattle.case.specs.Cases.{noHeld}
 use Rattle.case.specs.Readings.{countsIn, seen}
-use Rattle.case.specs.Strings.{stringsIn, inFront}
+use Rattle.input.specs.Strings.{stringsIn, inFront}
 use Rattle.case.specs.Input.{Replays}
-use Rattle.case.specs.Claim.{Bytes}
+use Rattle.lists.specs.Lists.{Bytes}
 use Rattle.case.proofs.Observations.{counts-at, prices-shown}
-use Rattle.case.proofs.Strings.{strings-bytes}
+use Rattle.input.proofs.Strings.{strings-bytes}
 use Rattle.case.proofs.Claim.{Tied, ledger-tied, ledger-answers, ledger-shows}
 use Rattle.exports.specs.declared.Shown.{Shown}
 use Rattle.exports.specs.Showing.{countTable, owesTable, noResult, resultShown, caseShown, shownOf, holdingShown, asks, holdingsOf}

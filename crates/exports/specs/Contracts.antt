@@ -5,7 +5,7 @@ use mathlib.Core.Option.{none}
 use Prim.Native.Nat.{ℕ}
 use Rattle.machine.specs.Run.{Observed, run, runFrom, observed}
 use Rattle.exports.specs.declared.Shown.{Shown}
-use Rattle.case.specs.Strings.{inFront}
+use Rattle.input.specs.Strings.{inFront}
 use Rattle.exports.specs.Showing.{asks}
 use Rattle.exports.specs.Machine.{shownBy}
 

@@ -7,7 +7,7 @@ ghost use lib.ListN.{length, set, drop};
 ghost use Rattle.machine.specs.Printed.{fieldsIn};
 ghost use Rattle.machine.specs.Run.{Observed, run as machineRun};
 ghost use Rattle.report.specs.Texts.{Prints};
-ghost use Rattle.case.specs.Strings.{stringsIn, inFront};
+ghost use Rattle.input.specs.Strings.{stringsIn, inFront};
 ghost use Rattle.exports.specs.Showing.{countTable, owesTable, resultShown, noneShown, caseShown, shownOf, holdingShown, holdingsOf};
 ghost use Rattle.exports.specs.Contracts.{Called, holdingsAfter};
 use book::Book;

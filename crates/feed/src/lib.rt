@@ -1,5 +1,6 @@
 // What the programs share: a read behind the bytes that are kept, a write that is whole or failed, and the bytes that are kept moved to the
-// buffer's front. No contract can say what is read or written; these say which bytes of the lent buffers may change.
+// buffer's front. No contract can say what is read or written; these say which bytes of the lent buffers may change. A read or a write that fails is told on
+// standard error, behind a name that is handed over.
 ghost use mathlib.Core.Path.{_≡_};
 ghost use Prim.Native.Nat.{_≤_, _<_};
 ghost use lib.ListN.{length};
@@ -8,10 +9,10 @@ use libc::EINTR;
 use libc::STDIN_FILENO;
 use libc::STDOUT_FILENO;
 
-// How many bytes came, 0 at the end of the input, or that the read failed; then `os::errno` says why.
+// How many bytes came; where none did, whether the input has ended, or else the read failed.
 pub struct Got {
     pub len: usize,
-    pub failed: bool,
+    pub ended: bool,
 }
 
 // Whether a call that answered this is to be made again: a signal came before it moved a byte.
@@ -29,28 +30,27 @@ fn read_once(buf: &mut [u8], at: usize) -> Got
 {
     let part = &mut buf[at..];
     let answer = libc::read(STDIN_FILENO, part);
-    let failed = answer < 0;
     Got {
         len: io::count(answer, part),
-        failed,
+        ended: 0 <= answer,
     }
 }
 
-// Reads from standard input into the buffer from a place on. A call that a signal interrupts is made again.
-pub fn read(buf: &mut [u8], at: usize) -> Got
+// The same, made again where a signal interrupts it.
+fn read_again(buf: &mut [u8], at: usize) -> Got
     ensures { λ r. ⌜ Reads at (now (buf .entry)) (now (buf .exit)) r ⌝ }
 {
     if buf.len() < at {
         return Got {
             len: 0,
-            failed: true,
+            ended: false,
         };
     }
     let mut turns = u64::MAX;
     while turns > 0 {
         turns -= 1;
         let got = read_once(buf, at);
-        if !got.failed {
+        if got.ended {
             return got;
         }
         if os::errno() != EINTR {
@@ -59,8 +59,20 @@ pub fn read(buf: &mut [u8], at: usize) -> Got
     }
     Got {
         len: 0,
-        failed: true,
+        ended: false,
     }
+}
+
+// Reads from standard input into the buffer from a place on. A read that fails is told.
+pub fn read(buf: &mut [u8], at: usize, name: &[u8]) -> Got
+    ensures { λ r. ⌜ Reads at (now (buf .entry)) (now (buf .exit)) r ⌝ }
+{
+    let got = read_again(buf, at);
+    if got.ended {
+        return got;
+    }
+    os::fail(name);
+    got
 }
 
 // Writes all of a text to standard output and answers true, or answers false at the first call that fails; then `os::errno` says why, and what stands
@@ -100,6 +112,13 @@ pub fn flush(out: &[u8], at: usize, name: &[u8]) -> usize
     }
     os::fail(name);
     STOPPED
+}
+
+// The turns that are left after a write: none where it failed.
+pub fn turns_left(turns: u64, at: usize) -> u64
+    ensures { λ r. ⌜ r ≤ turns ⌝ }
+{
+    if at == 0 { turns } else { 0 }
 }
 
 // Moves the bytes between two places to the front, and says how many they are. Where the places are not in order or behind the buffer, nothing moves.

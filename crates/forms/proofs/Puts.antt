@@ -1,12 +1,16 @@
 -- Texts put into a buffer one behind the other. Assumes nothing.
 use mathlib.Core.Path.{_≡_, refl, sym, ap, _∙_}
-use mathlib.Core.List.{List, [], _∷_, _++_, append-assoc, append-nil}
-use Prim.Native.Nat.{ℕ, _+_, _≤_}
+use mathlib.Core.List.{List, [], _∷_, _++_, map, append-assoc, append-nil}
+use Prim.Native.Nat.{ℕ, _+_, _≤_, _<_}
 use native.Mathlib.Omega.{arith}
 use lib.ListN.{length, set, length-append}
-use lib.Seq.{sets}
+use lib.Seq.{sets, length-sets}
+use Rattle.lines.specs.Placed.{Placed, placed}
+use Rattle.lines.proofs.Numbers.{placed-fits}
 use Rattle.lines.proofs.Stores.{sets-then, sets-earlier}
-use Rattle.forms.specs.Put.{Put}
+use borrow.Author.Tests.{lt-leb, le-leb}
+use Rattle.lists.specs.Lists.{joined}
+use Rattle.forms.specs.Put.{Put, Written, putInto}
 
 -- two texts
 pub put-then : {old mid new : List ℕ} {at p r m n : ℕ} (s t : List ℕ) → Put old at s m p mid → Put mid p t n r new → Put old at (s ++ t) (m + n) r new
@@ -31,6 +35,29 @@ put-as {old} {at = at} n {s} {t} h e p =
       short = omega (arith, p .short, ap length e);
       same = p .same;
     }
+
+-- ---- a text put where there is room
+
+pub into-short : (room : ℕ) (text out : List ℕ) (at : ℕ) → length out < at + room → putInto room text out at ≡ (at, out)
+unfolding putInto
+into-short room text out at h = rw (lt-leb (at + room) (length out) h)
+
+pub into-put : {out new : List ℕ} {at r m : ℕ} (room : ℕ) (text : List ℕ) → at + room ≤ length out → Put out at text m r new
+    → _≡_ {A = Written} (r, new) (putInto room text out at)
+unfolding putInto
+into-put {out} {new} {at} {r} room text h p =
+    rw (le-leb (at + room) (length out) h)
+    (ap (λ (k : ℕ). (k, new)) (p .behind) ∙ ap (λ (o : List ℕ). (at + length text, o)) (p .stored))
+
+-- a text that is placed where it fits
+pub put-placed : {old new : List ℕ} {at r : ℕ} (n : ℕ) (t : List ℕ) → length t ≤ n → at + length t ≤ length old → _≡_ {A = Placed} (r, new) (placed t old at)
+    → Put old at t n r new
+put-placed {old} {at = at} n t short fits is =
+    let e : _≡_ {A = Placed} _ (at + length t, sets old at t) = is ∙ placed-fits t old at fits in
+    let stored = ap (λ (p : Placed). p .1) e in
+    record { behind = ap (λ (p : Placed). p .0) e; stored = stored; short = short; same = ap length stored ∙ length-sets old at t }
+
+-- ---- bytes
 
 -- a byte before a text
 pub put-before : {old mid new : List ℕ} {at p q r m : ℕ} (b : ℕ) (t : List ℕ) → p ≡ at + 1 → Put old p t m r mid → Put mid at (b ∷ []) 1 q new → Put old at (b ∷ t) (m + 1) r new
@@ -81,3 +108,15 @@ putting-end n h e p = put-as n h (sym (append-nil (p .done)) ∙ ap (λ (l : Lis
 pub putting-most : {old : List ℕ} {at : ℕ} {whole rest : List ℕ} {m to : ℕ} {out : List ℕ} (n : ℕ) → m ≤ n
     → Putting old at whole rest m to out → Putting old at whole rest n to out
 putting-most n h p = record { done = p .done; put = put-as n h refl (p .put); is = p .is }
+
+-- ---- the texts of pieces one behind the other
+
+pub joined-map-more : (f : List ℕ → List ℕ) (ls : List (List ℕ)) (l : List ℕ) → joined (map f (ls ++ (l ∷ []))) ≡ joined (map f ls) ++ f l
+unfolding joined
+joined-map-more f [] l = append-nil (f l)
+joined-map-more f (k ∷ ls) l = ap (λ (s : List ℕ). f k ++ s) (joined-map-more f ls l) ∙ sym (append-assoc (f k) (joined (map f ls)) (f l))
+
+pub joined-map-two : (f : List ℕ → List ℕ) (ks ls : List (List ℕ)) → joined (map f (ks ++ ls)) ≡ joined (map f ks) ++ joined (map f ls)
+unfolding joined
+joined-map-two f [] ls = refl
+joined-map-two f (k ∷ ks) ls = ap (λ (s : List ℕ). f k ++ s) (joined-map-two f ks ls) ∙ sym (append-assoc (f k) (joined (map f ks)) (joined (map f ls)))

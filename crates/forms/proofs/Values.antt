@@ -6,7 +6,7 @@ use native.Mathlib.Numerals.{add-one}
 use native.Mathlib.Omega.{arith}
 use lib.Dec.{leb}
 use lib.ListN.{length, getD, take, drop}
-use lib.Seq.{sets, drop-cons, drop-length, getD-take, length-take-le}
+use lib.Seq.{drop-cons, drop-length, getD-take, length-take-le}
 use borrow.Author.Tests.{lt-ltb, le-ltb, eq-eqb, ne-eqb, leb-true}
 use Rattle.lists.specs.Lists.{between}
 use Rattle.lists.proofs.Bools.{cases, either, and-right}
@@ -15,8 +15,7 @@ use Rattle.wire.specs.declared.Call.{Call}
 use Rattle.wire.specs.declared.Call.the-variants.{Head as HeadCall, Pool, Member, Round, Bid, Close, Allocate, Tear, Call as CallCall, Pay, Move, Miss, Finish, Unknown}
 use Rattle.forms.specs.declared.Tagged.{Tagged}
 use Rattle.forms.specs.Forms.{kindOf, formOf, tagOf, numbersOf, flatRound, flattened}
-use Rattle.forms.specs.Put.{Put}
-use Rattle.forms.specs.Encode.{bytesOf, widthOf, rawOf, fieldBytes, valueFrom, tagged, encodeForm, encodedInto, Written}
+use Rattle.forms.specs.Encode.{bytesOf, widthOf, rawOf, fieldBytes, valueFrom, tagged, encodeForm}
 
 -- the numbers from number i on
 pub rest-next : (count i : ℕ) (xs : List ℕ) → length xs ≡ 8 → count ≤ 8 → i < count
@@ -118,32 +117,14 @@ flat-few (Miss m price) = omega arith
 flat-few Finish = omega arith
 flat-few Unknown = omega arith
 
-module _ (call : Call) (out : List ℕ) where
-  pub encoded-short : length out < 64 → encodedInto (asked call) out ≡ (0, out)
-  unfolding encodedInto
-  encoded-short h = rw (lt-ltb (length out) 64 h)
+-- the bytes of a call by its tag and its numbers
+module _ (call : Call) (f : Tagged) (e : f ≡ flattened call) where
+  encoded : encodeForm (formOf (asked call)) ≡ encodeForm (f .tag, take (f .count) (f .numbers))
+  encoded = ap encodeForm (flat-form call) ∙ ap (λ (g : Tagged). encodeForm (g .tag, take (g .count) (g .numbers))) (sym e)
 
-  encoded-long : 64 ≤ length out → encodedInto (asked call) out ≡ (length (encodeForm (formOf (asked call))), sets out 0 (encodeForm (formOf (asked call))))
-  unfolding encodedInto
-  encoded-long h = rw (le-ltb (length out) 64 h)
-
-  pub encoded-none : (f : Tagged) → 64 ≤ length out → f ≡ flattened call → f .tag ≡ 0 → encodedInto (asked call) out ≡ (0, out)
+  pub encoded-none : f .tag ≡ 0 → [] ≡ encodeForm (formOf (asked call))
   unfolding encodeForm
-  encoded-none f h e z =
-      encoded-long h
-      ∙ ap (λ (t : List ℕ). (length t, sets out 0 t))
-      (ap encodeForm (flat-form call) ∙ ap (λ (g : Tagged). encodeForm (g .tag, take (g .count) (g .numbers))) (sym e)
-      ∙ ap (λ (t : ℕ). encodeForm (t, take (f .count) (f .numbers))) z)
+  encoded-none z = sym (encoded ∙ ap (λ (t : ℕ). encodeForm (t, take (f .count) (f .numbers))) z)
 
-  pub encoded-some : (f : Tagged) (r m : ℕ) (new : List ℕ) → 64 ≤ length out → f ≡ flattened call → (f .tag ≡ 0 → ⊥)
-      → Put out 0 (tagged (f .tag) (valueFrom (f .tag) 0 (take (f .count) (f .numbers)))) m r new
-      → _≡_ {A = Written} (r, new) (encodedInto (asked call) out)
-  encoded-some f r m new h e z p =
-      let t = tagged (f .tag) (valueFrom (f .tag) 0 (take (f .count) (f .numbers))) in
-      let is : encodeForm (formOf (asked call)) ≡ t =
-      ap encodeForm (flat-form call) ∙ ap (λ (g : Tagged). encodeForm (g .tag, take (g .count) (g .numbers))) (sym e)
-      ∙ form-some (f .tag) (take (f .count) (f .numbers)) z
-      in
-      let pr : r ≡ length t = omega (arith, p .behind) in
-      ap (λ (k : ℕ). (k, new)) pr ∙ ap (λ (o : List ℕ). (length t, o)) (p .stored)
-      ∙ sym (encoded-long h ∙ ap (λ (t : List ℕ). (length t, sets out 0 t)) is)
+  pub encoded-some : (f .tag ≡ 0 → ⊥) → tagged (f .tag) (valueFrom (f .tag) 0 (take (f .count) (f .numbers))) ≡ encodeForm (formOf (asked call))
+  encoded-some z = sym (encoded ∙ form-some (f .tag) (take (f .count) (f .numbers)) z)

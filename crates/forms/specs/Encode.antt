@@ -6,11 +6,11 @@ use mathlib.Core.Option.{Option}
 use Prim.Native.Nat.{ℕ, zero, suc, _+_, _-_, _/_, _%_, _^_, _≤_, _<_}
 use lib.Dec.{eqb, ltb}
 use lib.ListN.{length}
-use lib.Seq.{sets}
 use Rattle.lists.specs.Lists.{if_then_else_}
 use Rattle.auction.specs.Price.{zeroPrice}
 use Rattle.machine.specs.Wire as Wire
 use Rattle.forms.specs.Forms.{Form, tagOf, numbersOf, formOf, kindOf}
+use Rattle.forms.specs.Put.{Written, putInto}
 
 -- a number in k bytes, big-endian
 unfoldable pub bytesOf : ℕ → ℕ → List ℕ
@@ -45,15 +45,9 @@ encodeForm (suc t, ns) = tagged (suc t) (valueFrom (suc t) 0 ns)
 unfoldable pub encode : Wire.Call → List ℕ
 encode c = encodeForm (tagOf c, numbersOf c)
 
--- a count and what a buffer holds
-abbrev pub Written : Type 0
-Written = ℕ × List ℕ
-
--- the bytes put at the front of a buffer, and how many they are; nothing is put into a buffer that has not the room of the longest field
-unfoldable pub encodedInto : Option Wire.Call → List ℕ → Written
-encodedInto call out =
-    let t = encodeForm (formOf call) in
-    if ltb (length out) 64 then (0, out) else (length t, sets out 0 t)
+-- the bytes put into a buffer from a place on, where there is room for 64, which no field passes
+abbrev pub encodedInto : Option Wire.Call → List ℕ → ℕ → Written
+encodedInto call out at = putInto 64 (encodeForm (formOf call)) out at
 
 -- every number of a list is below a limit
 unfoldable pub AllBelow : ℕ → List ℕ → Type 0

@@ -1,4 +1,4 @@
 pub mod Forms
-pub mod Encode
 pub mod Put
+pub mod Encode
 pub mod Computing

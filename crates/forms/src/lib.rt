@@ -5,8 +5,8 @@ ghost use Prim.Native.Nat.{_+_, _%_, _≤_, _<_};
 ghost use lib.ListN.{length, take};
 ghost use Rattle.wire.specs.Asked.{asked};
 ghost use Rattle.forms.specs.Forms.{kindOf, flatOf, flatRound, flattened};
-ghost use Rattle.forms.specs.Encode.{Written, tagged, bytesOf, rawOf, fieldBytes, valueFrom, encodedInto};
-ghost use Rattle.forms.specs.Put.{Put};
+ghost use Rattle.forms.specs.Encode.{tagged, bytesOf, rawOf, fieldBytes, valueFrom, encodedInto};
+ghost use Rattle.forms.specs.Put.{Put, Written};
 use wire::Call;
 
 // A call's tag, and its first `count` of eight numbers. Tag 0 is no call.
@@ -243,31 +243,35 @@ fn put_fields(out: &mut [u8], at: usize, tag: u8, count: usize, numbers: [u32; 8
     to
 }
 
-// A field at the front of the buffer, and its length: the value first, and then what stands before it.
-fn put_form(out: &mut [u8], tag: u8, count: usize, numbers: [u32; 8]) -> usize
-    requires { ⌜ (count ≤ 8) × (64 ≤ length (now out)) ⌝ }
-    ensures { λ r. ⌜ Put (now (out .entry)) 0 (tagged tag (valueFrom tag 0 (take count numbers))) 35 r (now (out .exit)) ⌝ }
+// A field from a place on, and the place behind it: the value first, and then what stands before it.
+fn put_form(out: &mut [u8], at: usize, tag: u8, count: usize, numbers: [u32; 8]) -> usize
+    requires { ⌜ (count ≤ 8) × (at + 64 ≤ length (now out)) ⌝ }
+    ensures { λ r. ⌜ Put (now (out .entry)) at (tagged tag (valueFrom tag 0 (take count numbers))) 35 r (now (out .exit)) ⌝ }
 {
-    let end = put_fields(out, 3, tag, count, numbers);
-    put(out, 2, (end - 3) as u8);
-    put(out, 1, 0);
-    put(out, 0, tag);
+    let from = at + 3;
+    let end = put_fields(out, from, tag, count, numbers);
+    put(out, at + 2, (end - from) as u8);
+    put(out, at + 1, 0);
+    put(out, at, tag);
     end
 }
 
-// The bytes of a call at the front of the buffer, and how many they are: 0 where the call is `Unknown`, or the buffer has less than 64 bytes.
-pub fn write_call(call: Call, out: &mut [u8]) -> usize
-    ensures { λ r. ⌜ _≡_ {A = Written} (r, now (out .exit)) (encodedInto (asked call) (now (out .entry))) ⌝ }
+// The bytes of a call from a place on, and the place behind them. Nothing is put where the call is `Unknown`, or less than 64 bytes are left.
+pub fn write_call(call: Call, out: &mut [u8], at: usize) -> usize
+    ensures { λ r. ⌜ (_≡_ {A = Written} (r, now (out .exit)) (encodedInto (asked call) (now (out .entry)) at)) × (r ≤ at + 64) ⌝ }
 {
-    if out.len() < 64 {
-        return 0;
+    if out.len() < at {
+        return at;
+    }
+    if out.len() - at < 64 {
+        return at;
     }
     let f = flat(call);
     let tag = f.tag;
     let count = f.count;
     let numbers = f.numbers;
     if tag == 0 {
-        return 0;
+        return at;
     }
-    put_form(out, tag, count, numbers)
+    put_form(out, at, tag, count, numbers)
 }

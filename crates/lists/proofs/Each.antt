@@ -4,7 +4,7 @@ use mathlib.Core.Bool.{Bool, true, false, false≢true}
 use mathlib.Core.List.{List, [], _∷_, _++_, map}
 use Prim.Native.Nat.{ℕ, zero, suc, _+_, _<_}
 use native.Mathlib.Omega.{arith}
-use lib.ListN.{length, getD, set, drop, replicate}
+use lib.ListN.{length, getD, set, take, drop, replicate}
 use Rattle.lists.specs.Lists.{if_then_else_, tab, keep, changeFirst, mapFrom}
 pub use Rattle.lists.specs.Lists.{Each}
 
@@ -12,6 +12,16 @@ module _ {A : Type 0} (P : A → Type 0) where
   pub each-append : (xs ys : List A) → Each P xs → Each P ys → Each P (xs ++ ys)
   each-append [] ys h g = g
   each-append (x ∷ xs) ys h g = (h .0, each-append xs ys (h .1) g)
+
+  pub each-take : (n : ℕ) (xs : List A) → Each P xs → Each P (take n xs)
+  each-take zero xs h = tt
+  each-take (suc n) [] h = tt
+  each-take (suc n) (x ∷ xs) h = (h .0, each-take n xs (h .1))
+
+  pub each-drop : (n : ℕ) (xs : List A) → Each P xs → Each P (drop n xs)
+  each-drop zero xs h = h
+  each-drop (suc n) [] h = tt
+  each-drop (suc n) (x ∷ xs) h = each-drop n xs (h .1)
 
   pub each-replicate : (n : ℕ) (x : A) → P x → Each P (replicate n x)
   each-replicate zero x h = tt

@@ -4,6 +4,7 @@ pub mod Places
 pub mod Keep
 pub mod Among
 pub mod Each
+pub mod Joined
 pub mod Counts
 pub mod Pairs
 pub mod Orders

@@ -1,7 +1,7 @@
 -- Sums, counts and parts of lists: the words in which the other definitions are written.
 use mathlib.Core.Bool.{Bool, true, false, _&&_, _||_, cond}
-use mathlib.Core.List.{List, [], _∷_, map}
-use Prim.Native.Nat.{ℕ, zero, suc, _+_, min}
+use mathlib.Core.List.{List, [], _∷_, _++_, map}
+use Prim.Native.Nat.{ℕ, zero, suc, _+_, _<_, min}
 use lib.Dec.{leb, eqb}
 use lib.ListN.{getD, drop}
 
@@ -95,3 +95,12 @@ sumByKey n key value l = tab n (λ k. sum (map (λ x. if eqb (key x) k then valu
 abbrev pub Each : {A : Type 0} → (A → Type 0) → List A → Type 0
 Each P [] = Unit {0}
 Each P (x ∷ xs) = P x × Each P xs
+
+-- lists one behind the other
+unfoldable pub joined : {A : Type 0} → List (List A) → List A
+joined [] = []
+joined (l ∷ ls) = l ++ joined ls
+
+-- a string of bytes
+abbrev pub Bytes : List ℕ → Type 0
+Bytes = Each (λ b. b < 256)

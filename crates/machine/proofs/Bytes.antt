@@ -10,7 +10,7 @@ use lib.Dec.{eqb}
 use lib.ListN.{length, take, drop}
 use Rattle.lists.specs.Lists.{between}
 use Rattle.lists.proofs.Bools.{either}
-use Rattle.lists.proofs.Each.{Each}
+use Rattle.lists.proofs.Each.{Each, each-drop}
 use Rattle.machine.specs.Wire.{Call, HEAD, POOL, MEMBER, ROUND, BID, CLOSE, ALLOCATE, TEAR, CALL, PAY, MOVE, MISS, FINISH, bigEndian, number, rightLength, callOf, decode}
 use Rattle.machine.specs.State.{Case, State, theCase}
 use Rattle.machine.specs.Calls.{accepted, afterPool, afterMember, afterRound, afterBid, afterClose, afterAllocate, afterTear, afterCall, afterPay, afterMove, afterMiss}
@@ -23,11 +23,6 @@ Byte b = b < 256
 
 abbrev pub Bytes : List (List ℕ) → Type 0
 Bytes calls = Each (Each Byte) calls
-
-pub each-drop : (n : ℕ) (xs : List ℕ) → Each Byte xs → Each Byte (drop n xs)
-each-drop zero xs h = h
-each-drop (suc n) [] h = tt
-each-drop (suc n) (x ∷ xs) h = each-drop n xs (h .1)
 
 pub four-bytes : (s : List ℕ) → Each Byte s → bigEndian 0 (take 4 s) < 2 ^ 32
 unfolding bigEndian
@@ -56,7 +51,7 @@ Small FINISH = Unit {0}
 call-small : (tag : ℕ) (v : List ℕ) → Each Byte v → Small (callOf tag v)
 unfolding callOf number
 call-small tag v h =
-    either Small (eqb tag 1) (four-bytes (drop 3 v) (each-drop 3 v h))
+    either Small (eqb tag 1) (four-bytes (drop 3 v) (each-drop Byte 3 v h))
     (either Small (eqb tag 2) tt
     (either Small (eqb tag 3) tt
     (either Small (eqb tag 4) tt

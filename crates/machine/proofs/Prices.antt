@@ -12,12 +12,12 @@ use mir.Syntax.{w32}
 use mir.Val.{SFits}
 use borrow.Author.Tests.{ltb-true, ltb-false}
 use Rattle.lists.proofs.Bools.{by-test}
-use Rattle.lists.proofs.Each.{Each}
+use Rattle.lists.proofs.Each.{Each, each-drop}
 use Rattle.auction.specs.Price.{zeroPrice, priceOk, cents}
 use Rattle.auction.specs.Lent.{bits, held}
 use Rattle.auction.proofs.Signed.{held-in-range, held-cents}
 use Rattle.machine.specs.Wire.{number, price, signed}
-use Rattle.machine.proofs.Bytes.{Byte, each-drop, four-bytes}
+use Rattle.machine.proofs.Bytes.{Byte, four-bytes}
 
 -- a number of 32 bits is the bits of what it means, which fits a signed number of 32 bits
 module _ (n : ℕ) (h : n < 2 ^ 32) where
@@ -35,7 +35,7 @@ module _ (n : ℕ) (h : n < 2 ^ 32) where
 module _ (at : ℕ) (v : List ℕ) (bytes : Each Byte v) where
   small : number at 4 v < 2 ^ 32
   unfolding number
-  small = four-bytes (drop at v) (each-drop at v bytes)
+  small = four-bytes (drop at v) (each-drop Byte at v bytes)
 
   -- the bytes of a price are held as a signed price is that is lent to the auction alone
   price-held : price at v ≡ held (signed (number at 4 v))

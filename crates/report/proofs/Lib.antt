@@ -1,9 +1,8 @@
 pub mod Placing
 pub mod Widths
 pub mod Lines
-pub mod Wholes
 pub mod Taking
 pub mod Ending
-pub mod Splitting
+pub mod CutOff
 pub mod Printing
 pub mod Streaming

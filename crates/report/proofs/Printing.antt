@@ -16,18 +16,20 @@ use Rattle.machine.specs.Printed.{Line, sLine, fieldsIn, linesFrom, text, print
 use Rattle.lines.specs.Placed.{Placed}
 use Rattle.case.specs.declared.Held.{Held}
 use Rattle.case.specs.Cases.{applied, noHeld}
-use Rattle.case.specs.Claim.{Bytes}
-use Rattle.case.specs.Strings.{bytesOf}
-use Rattle.case.specs.Input.{wholeFirst, ledgerAfter}
+use Rattle.lists.specs.Lists.{Bytes}
+use Rattle.input.specs.Strings.{bytesOf}
+use Rattle.input.specs.Fields.{wholeFirst}
+use Rattle.case.specs.Input.{ledgerAfter}
 use Rattle.case.proofs.Running.{after-two}
 use Rattle.case.proofs.Claim.{Tied, takes, ledger-tied, fields-bytes}
 use Rattle.report.specs.declared.Taken.{Taken}
 use Rattle.report.specs.Texts.{ledgerLines, heldLines, cutLines, placedLines, PartTaken, takePart, TakesPart, Prints}
-use Rattle.report.specs.Parts.{whole, rest}
+use Rattle.input.specs.Fields.{whole, rest}
 use Rattle.report.proofs.Placing.{text-append, text-one, lines-then, lines-fit}
 use Rattle.report.proofs.Widths.{line-most}
 use Rattle.report.proofs.Ending.{ends-tied, held-most}
-use Rattle.report.proofs.Splitting.{cutFields, left-cut, fields-split, cut-lines, cut-after}
+use Rattle.input.proofs.Parts.{cutFields, rest-cut, fields-split}
+use Rattle.report.proofs.CutOff.{cut-lines, cut-after}
 use Rattle.report.proofs.Taking.{lines-two}
 
 -- ---- the machine's lines are the program's
@@ -55,7 +57,7 @@ all input = whole input ++ cutFields (rest input)
 
 module _ (input : List ℕ) (bytes : Bytes input) where
   cut : wholeFirst (rest input) ≡ false
-  cut = left-cut (length input) input (omega arith)
+  cut = rest-cut input
 
   -- the lines of all fields
   fields-lines : ledgerLines noHeld (all input) ≡ ledgerLines noHeld (whole input) ++ cutLines (rest input)
@@ -91,7 +93,7 @@ module _ (input : List ℕ) (bytes : Bytes input) where
   cut-most (x ∷ s) = omega (arith, ap length (text-one (sLine (x ∷ []) 1)), line-most (sLine (x ∷ []) 1))
 
   -- what is printed behind the s lines of the whole fields
-  last-most : length (text (cutLines (rest input) ++ heldLines (after input))) ≤ 4096
+  pub last-most : length (text (cutLines (rest input) ++ heldLines (after input))) ≤ 4096
   last-most =
       omega (
         arith,
@@ -115,15 +117,19 @@ lines input = ledgerLines noHeld (whole input)
 abbrev printedLines : List ℕ → List Line
 printedLines input = lines input ++ (cutLines (rest input) ++ heldLines (after input))
 
-taken-is : (input old : List ℕ) → 4 * length input ≤ length old
-    → takePart noHeld input old
-    ≡ (record { held = after input; used = bytesOf (whole input); written = length (text (lines input)) }, sets old 0 (text (lines input)))
+-- what is taken where there is room
+pub taken-is : (h : Held) (input old : List ℕ) → 4 * length input ≤ length old
+    → takePart h input old
+    ≡ (
+      record { held = ledgerAfter h (whole input); used = bytesOf (whole input); written = length (text (ledgerLines h (whole input))) },
+      sets old 0 (text (ledgerLines h (whole input))),
+    )
 unfolding takePart
-taken-is input old room = rw (le-leb (4 * length input) (length old) room) refl
+taken-is h input old room = rw (le-leb (4 * length input) (length old) room) refl
 
 module _ (input old mid new last : List ℕ) (t : Taken) (to len : ℕ) (bytes : Bytes input) (room : 4 * length input + 4096 ≤ length old) (taken : TakesPart noHeld input old mid t) where
   is : _≡_ {A = PartTaken} (t, mid) (record { held = after input; used = bytesOf (whole input); written = length (text (lines input)) }, sets old 0 (text (lines input)))
-  is = taken .is ∙ taken-is input old (omega arith)
+  is = taken .is ∙ taken-is noHeld input old (omega arith)
 
   -- the s lines
   first : _≡_ {A = Placed} (t .written, mid) (placedLines (lines input) old 0)

@@ -11,7 +11,7 @@ use lib.Seq.{sets, length-sets, drop-cons, drop-drop}
 use borrow.Author.Tests.{le-leb, lt-leb, leb-true, eqb-true, eqb-false}
 use Rattle.lists.specs.Lists.{tab}
 use Rattle.lists.proofs.Bools.{cases, and-left}
-use Rattle.lists.proofs.Each.{Each, each-at}
+use Rattle.lists.proofs.Each.{Each, each-at, each-take, each-drop}
 use Rattle.lists.proofs.Places.{tab-of}
 use Rattle.machine.specs.Printed.{Line, sLine, text}
 use Rattle.lines.specs.Placed.{Placed, lineText}
@@ -19,17 +19,19 @@ use Rattle.lines.proofs.Stores.{sets-then}
 use Rattle.case.specs.declared.Held.{Held}
 use Rattle.case.specs.declared.Front.{Front}
 use Rattle.case.specs.Cases.{applied}
-use Rattle.case.specs.Claim.{Bytes}
-use Rattle.case.specs.Strings.{endsFrom, bytesOf}
-use Rattle.case.specs.Input.{wholeFirst, frontSize, ledgerAfter, ledgerAnswers, FieldsTaken}
-use Rattle.case.proofs.Fields.{size-whole}
-use Rattle.case.proofs.Strings.{front-at, ends-long, take-bytes}
-use Rattle.case.proofs.Decoded.{drop-bytes}
-use Rattle.case.proofs.Fronts.{front-most, front-none, front-next, front-zero, bytes-most, fields-most, fields-few, fields-chunk, rest-all, no-entry, fields-stop}
+use Rattle.lists.specs.Lists.{Bytes}
+use Rattle.input.specs.Strings.{endsFrom, bytesOf}
+use Rattle.input.specs.Fields.{wholeFirst, frontSize}
+use Rattle.case.specs.Input.{ledgerAfter, ledgerAnswers, FieldsTaken}
+use Rattle.input.proofs.Fields.{size-whole}
+use Rattle.input.proofs.Strings.{front-at, ends-long}
+use Rattle.input.proofs.Pieces.{front-none, front-next, front-zero, bytes-most, fields-most, fields-few, fields-chunk, fields-stop}
+use Rattle.input.proofs.Fronts.{front-most, rest-all, no-entry}
 use Rattle.case.proofs.Running.{after-two, answers-long}
 use Rattle.case.proofs.Small.{answer-most}
-use Rattle.report.specs.Texts.{ledgerLines, wholeFields, startOf, answerLine, takePart, TakesPart, placedLines}
-use Rattle.report.specs.Parts.{whole}
+use Rattle.report.specs.Texts.{ledgerLines, startOf, answerLine, takePart, TakesPart, placedLines}
+use Rattle.input.specs.Fields.{whole, wholeFields}
+use Rattle.input.proofs.Strings.{bytes-two}
 use Rattle.report.proofs.Placing.{text-append, text-line, lines-fit}
 use Rattle.report.proofs.Widths.{s-line-most}
 
@@ -46,16 +48,16 @@ size-three s more =
 module _ (P : List ℕ → Type 0) (s : List ℕ) (holds : (at : ℕ) → at < length s → 3 ≤ frontSize false (drop at s) → P (take (frontSize false (drop at s)) (drop at s))) where
   -- what holds of each field that can begin in the input holds of all of them
   each-whole : (n at : ℕ) → Each P (wholeFields n (drop at s))
-  each-whole zero at = rw (front-zero false (drop at s)) tt
+  each-whole zero at = rw (front-zero (frontSize false) (front-most false) (drop at s)) tt
   each-whole (suc n) at =
       let rest = drop at s in
       let size = frontSize false rest in
       cases (eqb size 0) _
-      (λ t. rw (front-none false (suc n) rest (eqb-true size 0 t)) tt)
+      (λ t. rw (front-none (frontSize false) (front-most false) (suc n) rest (eqb-true size 0 t)) tt)
       (λ t.
       let more = eqb-false size 0 t in
       let three = size-three rest more in
-      rw (front-next false n rest more, drop-drop size at s) (holds at (omega (arith, front-most false rest, length-drop at s)) three, each-whole n (at + size)))
+      rw (front-next (frontSize false) (front-most false) n rest more, drop-drop size at s) (holds at (omega (arith, front-most false rest, length-drop at s)) three, each-whole n (at + size)))
 
 three-bytes : (s : List ℕ) (n : ℕ) → Each (λ f. 3 ≤ length f) (wholeFields n s)
 three-bytes s n =
@@ -64,7 +66,7 @@ three-bytes s n =
     n 0
 
 field-bytes : (s : List ℕ) (n : ℕ) → Bytes s → Each Bytes (wholeFields n s)
-field-bytes s n b = each-whole Bytes s (λ at l three. take-bytes (frontSize false (drop at s)) (drop at s) (drop-bytes at s b)) n 0
+field-bytes s n b = each-whole Bytes s (λ at l three. each-take _ (frontSize false (drop at s)) (drop at s) (each-drop _ at s b)) n 0
 
 -- ---- their s lines
 
@@ -104,17 +106,17 @@ tag-next s f fs at (suc j) first later l =
 
 tag-at : (s : List ℕ) (n at k : ℕ) → k < length (wholeFields n (drop at s))
     → getD (getD (wholeFields n (drop at s)) k []) 0 0 ≡ getD s (startFrom at (endsFrom at (wholeFields n (drop at s))) k) 0
-tag-at s zero at k l = absurd (omega (arith, ap length (front-zero false (drop at s))))
+tag-at s zero at k l = absurd (omega (arith, ap length (front-zero (frontSize false) (front-most false) (drop at s))))
 tag-at s (suc n) at k l =
     let rest = drop at s in
     let size = frontSize false rest in
     cases (eqb size 0) _
-    (λ t. absurd (omega (arith, ap length (front-none false (suc n) rest (eqb-true size 0 t)))))
+    (λ t. absurd (omega (arith, ap length (front-none (frontSize false) (front-most false) (suc n) rest (eqb-true size 0 t)))))
     (λ t.
     let more = eqb-false size 0 t in
     let three = size-three rest more in
     let here : at < length s = omega (arith, front-most false rest, length-drop at s) in
-    let next : wholeFields (suc n) rest ≡ take size rest ∷ wholeFields n (drop (at + size) s) = front-next false n rest more ∙ ap (λ (r : List ℕ). take size rest ∷ wholeFields n r) (drop-drop size at s) in
+    let next : wholeFields (suc n) rest ≡ take size rest ∷ wholeFields n (drop (at + size) s) = front-next (frontSize false) (front-most false) n rest more ∙ ap (λ (r : List ℕ). take size rest ∷ wholeFields n r) (drop-drop size at s) in
     let long : length (take size rest) ≡ size = omega (arith, length-take size rest, front-most false rest) in
     rw next (tag-next s (take size rest) (wholeFields n (drop (at + size) s)) at k (first-byte s at size here three) (rw long (tag-at s n (at + size))) (rw next at l)))
 
@@ -179,11 +181,6 @@ unfolding ledgerLines ledgerAfter
 lines-two h [] b = refl
 lines-two h (f ∷ a) b = ap (λ (ls : List Line). sLine f (applied h f .answer) ∷ ls) (lines-two (applied h f .held) a b)
 
-pub bytes-two : (a b : List (List ℕ)) → bytesOf (a ++ b) ≡ bytesOf a + bytesOf b
-unfolding bytesOf
-bytes-two [] b = omega arith
-bytes-two (f ∷ a) b = omega (arith, bytes-two a b)
-
 -- ---- the loop
 
 pub record Taking (h : Held) (input old new : List ℕ) (held : Held) (used written : ℕ) : Type 0 where
@@ -232,20 +229,20 @@ module _ (h : Held) (input old new : List ℕ) (held : Held) (used written : ℕ
   gs = wholeFields m rest
 
   few : length gs ≤ m
-  few = fields-most false m rest
+  few = fields-most (frontSize false) (front-most false) m rest
 
   pub used-within : (used + front .used ≤ length input) × (front .count ≤ front .used)
   used-within = (
-    omega (arith, taken .used, bytes-most false m rest, length-drop used input, g .place),
-    omega (arith, taken .used, taken .count, fields-few false m rest),
+    omega (arith, taken .used, bytes-most (frontSize false) (front-most false) m rest, length-drop used input, g .place),
+    omega (arith, taken .used, taken .count, fields-few (frontSize false) (front-most false) m rest),
   )
 
   -- what is left behind these fields
   left : whole rest ≡ gs ++ whole (drop (used + bytesOf gs) input)
-  left = fields-chunk false m rest ∙ ap (λ (r : List ℕ). gs ++ whole r) (drop-drop (bytesOf gs) used input)
+  left = fields-chunk (frontSize false) (front-most false) m rest ∙ ap (λ (r : List ℕ). gs ++ whole r) (drop-drop (bytesOf gs) used input)
 
   short-lines : length (text (ledgerLines held gs)) ≤ 4 * bytesOf gs
-  short-lines = lines-short held gs (three-bytes rest m) (field-bytes rest m (drop-bytes used input bytes))
+  short-lines = lines-short held gs (three-bytes rest m) (field-bytes rest m (each-drop _ used input bytes))
 
   pub goes : (r : ℕ) (last : List ℕ) → _≡_ {A = Placed} (r, last) (placedLines (tab (front .count) (answerLine (take (length input - used) rest) ends' answers')) new written)
       → Taking h input old last (front .held) (used + front .used) r
@@ -288,8 +285,8 @@ module _ (h : Held) (input old new : List ℕ) (held : Held) (used written : ℕ
   unfolding bytesOf
   none-left some-answers some-ends none-there =
       let empty : length gs ≡ 0 = omega (arith, taken .count) in
-      let stop : frontSize false (drop (bytesOf gs) rest) ≡ 0 = fields-stop false m rest (omega arith) in
-      front-none false (length rest) rest (ap (λ (fs : List (List ℕ)). frontSize false (drop (bytesOf fs) rest)) (sym (no-entry gs empty)) ∙ stop)
+      let stop : frontSize false (drop (bytesOf gs) rest) ≡ 0 = fields-stop (frontSize false) (front-most false) m rest (omega arith) in
+      front-none (frontSize false) (front-most false) (length rest) rest (ap (λ (fs : List (List ℕ)). frontSize false (drop (bytesOf fs) rest)) (sym (no-entry gs empty)) ∙ stop)
 
 -- nothing is taken from a part for which there is no room
 pub takes-none : (h : Held) (input old : List ℕ) → length old / 4 < length input → TakesPart h input old old (record { held = h; used = 0; written = 0 })
@@ -321,4 +318,4 @@ takes h input old new held used written g stop =
 
 -- at the input's end none is left
 pub none-behind : (input : List ℕ) (used : ℕ) → length input ≤ used → whole (drop used input) ≡ []
-none-behind input used l = front-none false (length (drop used input)) (drop used input) (omega (arith, front-most false (drop used input), length-drop used input))
+none-behind input used l = front-none (frontSize false) (front-most false) (length (drop used input)) (drop used input) (omega (arith, front-most false (drop used input), length-drop used input))

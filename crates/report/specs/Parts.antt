@@ -4,27 +4,13 @@
 use mathlib.Core.Path.{_≡_}
 use mathlib.Core.List.{List, [], _∷_, _++_}
 use Prim.Native.Nat.{ℕ}
-use lib.ListN.{length, drop}
+use Rattle.lists.specs.Lists.{joined, Bytes}
 use Rattle.machine.specs.Printed.{text, printed}
+use Rattle.input.specs.Fields.{whole, rest}
 use Rattle.case.specs.declared.Held.{Held}
 use Rattle.case.specs.Cases.{noHeld}
-use Rattle.case.specs.Claim.{Bytes}
 use Rattle.case.specs.Input.{ledgerAfter}
-use Rattle.case.specs.Strings.{bytesOf}
-use Rattle.report.specs.Texts.{ledgerLines, cutLines, heldLines, wholeFields}
-
--- the whole fields at the front of some bytes
-abbrev pub whole : List ℕ → List (List ℕ)
-whole s = wholeFields (length s) s
-
--- what is left behind them
-abbrev pub rest : List ℕ → List ℕ
-rest s = drop (bytesOf (whole s)) s
-
--- parts, joined
-unfoldable pub joined : List (List ℕ) → List ℕ
-joined [] = []
-joined (part ∷ parts) = part ++ joined parts
+use Rattle.report.specs.Texts.{ledgerLines, cutLines, heldLines}
 
 -- what is written for parts that come in turn, from what is held and the bytes left of the parts before
 unfoldable pub streamed : Held → List ℕ → List (List ℕ) → List ℕ

@@ -1,7 +1,6 @@
 -- The printed text of the program's run, over its own structs: the lines of document 01 (`machine.specs.Printed`) of what is held, the s lines of
 -- a part of an input, and what a lent buffer holds after lines are put into it.
 use mathlib.Core.Path.{_≡_}
-use mathlib.Core.Bool.{false}
 use mathlib.Core.List.{List, [], _∷_, _++_, map}
 use Prim.Native.Nat.{ℕ, zero, suc, _+_, _*_, _≤_}
 use lib.Dec.{leb, eqb}
@@ -18,8 +17,9 @@ use Rattle.case.specs.declared.Case.{Case}
 use Rattle.case.specs.declared.Held.{Held}
 use Rattle.case.specs.Cases.{applied}
 use Rattle.case.specs.Readings.{countsIn}
-use Rattle.case.specs.Strings.{bytesOf}
-use Rattle.case.specs.Input.{frontFields, ledgerAfter}
+use Rattle.input.specs.Strings.{bytesOf}
+use Rattle.input.specs.Fields.{whole}
+use Rattle.case.specs.Input.{ledgerAfter}
 use Rattle.report.specs.declared.Taken.{Taken}
 use Rattle.report.specs.declared.Written.{Written}
 
@@ -73,10 +73,6 @@ placedLines (l ∷ ls) out at =
 
 -- ---- a part of an input
 
--- the whole fields at the front of an input, at most n
-abbrev pub wholeFields : ℕ → List ℕ → List (List ℕ)
-wholeFields n s = frontFields false n s
-
 -- where field k begins, from where fields end
 abbrev pub startOf : List ℕ → ℕ → ℕ
 startOf ends zero = 0
@@ -94,7 +90,7 @@ PartTaken = Taken × List ℕ
 -- four times the part's bytes
 unfoldable pub takePart : Held → List ℕ → List ℕ → PartTaken
 takePart h input out =
-    let fs = wholeFields (length input) input in
+    let fs = whole input in
     let t = text (ledgerLines h fs) in
     if leb (4 * length input) (length out) then (record { held = ledgerAfter h fs; used = bytesOf fs; written = length t }, sets out 0 t)
     else (record { held = h; used = 0; written = 0 }, out)

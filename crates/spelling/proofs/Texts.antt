@@ -5,7 +5,6 @@ use Prim.Native.Nat.{ℕ, zero, suc, _+_, _-_, _≤_, _<_}
 use native.Mathlib.Numerals.{add-one}
 use native.Mathlib.Omega.{arith}
 use lib.ListN.{length, getD, take, drop}
-use lib.Seq.{sets}
 use borrow.Author.Tests.{lt-ltb, le-ltb, le-leb, lt-leb, eq-eqb, ne-eqb}
 use Rattle.sets.specs.Set.{members}
 use Rattle.machine.specs.Printed.{decimal}
@@ -14,10 +13,9 @@ use Rattle.wire.specs.declared.Call.{Call}
 use Rattle.wire.specs.declared.Call.the-variants.{Head as HeadCall, Pool, Member, Round, Bid, Close, Allocate, Tear, Call as CallCall, Pay, Move, Miss, Finish, Unknown}
 use Rattle.forms.specs.declared.Tagged.{Tagged}
 use Rattle.forms.specs.Forms.{formOf, flattened}
-use Rattle.forms.specs.Encode.{Written}
-use Rattle.forms.specs.Put.{Put}
+use Rattle.forms.specs.Put.{Put, Written}
 use Rattle.forms.proofs.Values.{rest-next, rest-none, flat-form, round-tag}
-use Rattle.spelling.specs.Text.{moneyText, priceText, membersText, moreText, numberText, itemText, itemsText, lineText, lineForm, lineInto, keyInto}
+use Rattle.spelling.specs.Text.{moneyText, priceText, membersText, moreText, numberText, itemText, itemsText, lineText, lineForm, keyInto}
 use Rattle.spelling.specs.Words.{keyOf, separator}
 
 module _ (p : ℕ) where
@@ -102,35 +100,17 @@ tag-small (Miss m price) = omega arith
 tag-small Finish = omega arith
 tag-small Unknown = omega arith
 
-module _ (call : Call) (out : List ℕ) where
-  pub line-short : length out < 8192 → lineInto (asked call) out ≡ (0, out)
-  unfolding lineInto
-  line-short h = rw (lt-ltb (length out) 8192 h)
+-- the line of a call by its tag and its numbers
+module _ (call : Call) (f : Tagged) (e : f ≡ flattened call) where
+  line : lineForm (formOf (asked call)) ≡ lineForm (f .tag, take (f .count) (f .numbers))
+  line = ap lineForm (flat-form call) ∙ ap (λ (g : Tagged). lineForm (g .tag, take (g .count) (g .numbers))) (sym e)
 
-  line-long : 8192 ≤ length out → lineInto (asked call) out ≡ (length (lineForm (formOf (asked call))), sets out 0 (lineForm (formOf (asked call))))
-  unfolding lineInto
-  line-long h = rw (le-ltb (length out) 8192 h)
-
-  pub line-none : (f : Tagged) → 8192 ≤ length out → f ≡ flattened call → f .tag ≡ 0 → lineInto (asked call) out ≡ (0, out)
+  pub line-none : f .tag ≡ 0 → [] ≡ lineForm (formOf (asked call))
   unfolding lineForm
-  line-none f h e z =
-      line-long h
-      ∙ ap (λ (t : List ℕ). (length t, sets out 0 t))
-      (ap lineForm (flat-form call) ∙ ap (λ (g : Tagged). lineForm (g .tag, take (g .count) (g .numbers))) (sym e)
-      ∙ ap (λ (t : ℕ). lineForm (t, take (f .count) (f .numbers))) z)
+  line-none z = sym (line ∙ ap (λ (t : ℕ). lineForm (t, take (f .count) (f .numbers))) z)
 
-  pub line-some : (f : Tagged) (r m : ℕ) (new : List ℕ) → 8192 ≤ length out → f ≡ flattened call → (f .tag ≡ 0 → ⊥)
-      → Put out 0 (lineText (f .tag) (take (f .count) (f .numbers))) m r new
-      → _≡_ {A = Written} (r, new) (lineInto (asked call) out)
-  line-some f r m new h e z p =
-      let t = lineText (f .tag) (take (f .count) (f .numbers)) in
-      let is : lineForm (formOf (asked call)) ≡ t =
-      ap lineForm (flat-form call) ∙ ap (λ (g : Tagged). lineForm (g .tag, take (g .count) (g .numbers))) (sym e)
-      ∙ form-some (f .tag) (take (f .count) (f .numbers)) z
-      in
-      let pr : r ≡ length t = omega (arith, p .behind) in
-      ap (λ (k : ℕ). (k, new)) pr ∙ ap (λ (o : List ℕ). (length t, o)) (p .stored)
-      ∙ sym (line-long h ∙ ap (λ (t : List ℕ). (length t, sets out 0 t)) is)
+  pub line-some : (f .tag ≡ 0 → ⊥) → lineText (f .tag) (take (f .count) (f .numbers)) ≡ lineForm (formOf (asked call))
+  line-some z = sym (line ∙ form-some (f .tag) (take (f .count) (f .numbers)) z)
 
 -- ---- what stands before a number
 

@@ -11,7 +11,7 @@ use Rattle.sets.specs.Set.{members}
 use Rattle.machine.specs.Wire as Wire
 use Rattle.machine.specs.Printed.{decimal}
 use Rattle.forms.specs.Forms.{Form, tagOf, numbersOf, formOf, kindOf}
-use Rattle.forms.specs.Encode.{Written}
+use Rattle.forms.specs.Put.{Written, putInto}
 use Rattle.spelling.specs.Words.{keyOf, nameOf, separator}
 
 -- cents, with a point and two digits behind it
@@ -63,11 +63,9 @@ lineForm (suc t, ns) = lineText (suc t) ns
 unfoldable pub lineOf : Wire.Call → List ℕ
 lineOf c = lineForm (tagOf c, numbersOf c)
 
--- the line put at the front of a buffer, and its length; nothing is put into a buffer that has not the room of the longest line
-unfoldable pub lineInto : Option Wire.Call → List ℕ → Written
-lineInto call out =
-    let t = lineForm (formOf call) in
-    if ltb (length out) 8192 then (0, out) else (length t, sets out 0 t)
+-- the line put into a buffer from a place on, where there is room for 8,192 bytes, which no line passes
+abbrev pub lineInto : Option Wire.Call → List ℕ → ℕ → Written
+lineInto call out at = putInto 8192 (lineForm (formOf call)) out at
 
 -- what stands before number i of a call, at the front of a buffer, and its length; nothing is put where no call has such a number, or into a buffer of less
 -- than 16 bytes

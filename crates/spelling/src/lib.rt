@@ -6,8 +6,7 @@ ghost use lib.ListN.{length, take, getD};
 ghost use Rattle.sets.specs.Set.{members};
 ghost use Rattle.machine.specs.Printed.{decimal};
 ghost use Rattle.wire.specs.Asked.{asked};
-ghost use Rattle.forms.specs.Put.{Put};
-ghost use Rattle.forms.specs.Encode.{Written};
+ghost use Rattle.forms.specs.Put.{Put, Written};
 ghost use Rattle.spelling.specs.Words.{pieces};
 ghost use Rattle.spelling.specs.Text.{moneyText, priceText, membersText, moreText, numberText, itemText, itemsText, lineText, lineInto, keyInto};
 use wire::Call;
@@ -216,30 +215,33 @@ fn put_items(out: &mut [u8], at: usize, tag: u8, count: usize, numbers: [u32; 8]
     put(out, to, b'\n')
 }
 
-// A line at the front of the buffer, and its length.
-fn put_form(out: &mut [u8], tag: u8, count: usize, numbers: [u32; 8]) -> usize
-    requires { ⌜ (tag < 14) × (count ≤ 8) × (8192 ≤ length (now out)) ⌝ }
-    ensures { λ r. ⌜ Put (now (out .entry)) 0 (lineText tag (take count numbers)) 5681 r (now (out .exit)) ⌝ }
+// A line from a place on, and the place behind it.
+fn put_form(out: &mut [u8], at: usize, tag: u8, count: usize, numbers: [u32; 8]) -> usize
+    requires { ⌜ (tag < 14) × (count ≤ 8) × (at + 8192 ≤ length (now out)) ⌝ }
+    ensures { λ r. ⌜ Put (now (out .entry)) at (lineText tag (take count numbers)) 5681 r (now (out .exit)) ⌝ }
 {
-    let a = put_piece(out, 0, 112 + place(tag));
+    let a = put_piece(out, at, 112 + place(tag));
     put_items(out, a, tag, count, numbers)
 }
 
-// The line of a call at the front of the buffer, and its length: 0 where the call is `Unknown`, or the buffer has less than 8192 bytes.
-pub fn write_text(call: Call, out: &mut [u8]) -> usize
-    ensures { λ r. ⌜ _≡_ {A = Written} (r, now (out .exit)) (lineInto (asked call) (now (out .entry))) ⌝ }
+// The line of a call from a place on, and the place behind it. Nothing is put where the call is `Unknown`, or less than 8,192 bytes are left.
+pub fn write_text(call: Call, out: &mut [u8], at: usize) -> usize
+    ensures { λ r. ⌜ (_≡_ {A = Written} (r, now (out .exit)) (lineInto (asked call) (now (out .entry)) at)) × (r ≤ at + 8192) ⌝ }
 {
-    if out.len() < 8192 {
-        return 0;
+    if out.len() < at {
+        return at;
+    }
+    if out.len() - at < 8192 {
+        return at;
     }
     let f = forms::flat(call);
     let tag = f.tag;
     let count = f.count;
     let numbers = f.numbers;
     if tag == 0 {
-        return 0;
+        return at;
     }
-    put_form(out, tag, count, numbers)
+    put_form(out, at, tag, count, numbers)
 }
 
 // What stands before a call's number i, at the front of the buffer, and its length: its key between spaces, or a comma; 0 where there is no such number, or

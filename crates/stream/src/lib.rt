@@ -1,10 +1,10 @@
 // The loop of the program `ledger`: fields from standard input, and the text of document 01 to standard output. Everything that is printed is made by
 // `report`: the loop reads as much as there is, has every whole field of it taken, writes the s lines at once, and keeps what is left for the next read.
 // No contract can say what is read or written; that the text does not depend on where the reads end is `Streams` in the specs of `report`, and that
-// the loop is that of `Streams` is `TakesTurn` and `Fed` in the specs here. A read or a write that fails is told on standard error, and nothing more is written.
+// the loop is that of `Streams` is `TakesTurn` and `FedTo` in the specs here. A read or a write that fails is told on standard error, and nothing more is written.
 ghost use Prim.Native.Nat.{_*_, _≤_};
 ghost use lib.ListN.{length, take};
-ghost use Rattle.stream.specs.Turns.{TakesTurn, Fed, Last, Ends};
+ghost use Rattle.stream.specs.Turns.{TakesTurn, FedTo, Last, Ends};
 use case::Held;
 
 // What is held after a turn, how many bytes are kept at the buffer's front, and how many bytes of text are to be written.
@@ -45,42 +45,29 @@ fn take_turn(held: Held, buf: &mut [u8], end: usize, out: &mut [u8]) -> Turn
 // Reads and takes until the input ends, or a read or a write fails.
 fn take_input(buf: &mut [u8], out: &mut [u8]) -> Rest
     requires { ⌜ 4 * length (now buf) ≤ length (now out) ⌝ }
-    ensures { λ r. ⌜ Fed (now (buf .exit)) (r .held) (r .len) ⌝ }
+    ensures { λ r. ⌜ FedTo (now (buf .exit)) (r .held) (r .len) ⌝ }
 {
     let mut held = Held::none();
     let mut len: usize = 0;
     let mut turns = u64::MAX;
     while turns > 0 {
         turns -= 1;
-        let got = feed::read(buf, len);
+        let got = feed::read(buf, len, b"ledger: standard input");
         let more = got.len;
-        if got.failed {
-            os::fail(b"ledger: standard input");
-            return Rest {
-                held,
-                len,
-                ended: false,
-            };
-        }
         if more == 0 {
             return Rest {
                 held,
                 len,
-                ended: true,
+                ended: got.ended,
             };
         }
         let turn = take_turn(held, buf, len + more, out);
         held = turn.held;
         len = turn.len;
-        let written = turn.written;
-        if !feed::write(&out[0..written]) {
-            os::fail(b"ledger: standard output");
-            return Rest {
-                held,
-                len,
-                ended: false,
-            };
-        }
+        turns = feed::turns_left(
+            turns,
+            feed::flush(out, turn.written, b"ledger: standard output"),
+        );
     }
     Rest {
         held,
@@ -130,11 +117,7 @@ pub fn run(buf: &mut [u8], out: &mut [u8]) -> bool {
     if !end.ended {
         return false;
     }
-    if feed::write(&out[0..n]) {
-        return true;
-    }
-    os::fail(b"ledger: standard output");
-    false
+    feed::flush(out, n, b"ledger: standard output") == 0
 }
 
 // The same with buffers of its own: the body of the program `ledger`, and for C, whose `main` can give a status.

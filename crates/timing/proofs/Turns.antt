@@ -14,8 +14,8 @@ use Rattle.case.specs.declared.Case.{Case}
 use Rattle.case.specs.declared.Held.{Held}
 use Rattle.case.specs.declared.Applied.{Applied}
 use Rattle.case.specs.Cases.{answerTo, afterAsked, applied}
-use Rattle.case.specs.Strings.{cutAt, stringsFrom, stringsIn, inFront}
-use Rattle.case.proofs.Strings.{cut-to, front-next}
+use Rattle.input.specs.Strings.{cutAt, stringsFrom, stringsIn, inFront}
+use Rattle.input.proofs.Strings.{cut-to, front-next}
 use Rattle.case.proofs.Running.{asked-declined, asked-accepted}
 use Rattle.timing.specs.Numbers.{readingOf, numberOf}
 

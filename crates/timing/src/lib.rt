@@ -4,7 +4,7 @@ ghost use mathlib.Core.List.{map};
 ghost use lib.ListN.{set};
 ghost use Rattle.case.specs.Cases.{noHeld};
 ghost use Rattle.case.specs.Input.{ledgerAfter};
-ghost use Rattle.case.specs.Strings.{stringsIn, inFront};
+ghost use Rattle.input.specs.Strings.{stringsIn, inFront};
 ghost use Rattle.timing.specs.Numbers.{readingOf, numberOf};
 use book::Book;
 use case::Held;
@@ -49,7 +49,7 @@ fn each(held: Held, bytes: &[u8], ends: &[usize], result: bool, numbers: &mut [u
     let mut at: usize = 0;
     let mut k: usize = 0;
     while k < ends.len() {
-        let end = case::cut_at(at, bytes.len(), ends[k]);
+        let end = input::cut_at(at, bytes.len(), ends[k]);
         let call = wire::read_call(&bytes[at..end]);
         let answer = case::answer_to(present, case, call);
         let place = k;

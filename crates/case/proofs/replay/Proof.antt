@@ -4,7 +4,7 @@ use Prim.Native.Nat.{_-_, _≤_}
 use native.Mathlib.Omega.{arith}
 use lib.ListN.{length, getD}
 use denote.Ref.{now}
-use Rattle.case.proofs.Strings.{cut-from, cut-to}
+use Rattle.input.proofs.Strings.{cut-from, cut-to}
 use Rattle.case.proofs.Running.{asked-declined, asked-accepted}
 use Rattle.case.proofs.Replaying.{Going, starts, goes, replays}
 use borrow.Author.Needs.{needs}

@@ -2,7 +2,7 @@
 use native.Mathlib.Omega.{arith}
 use Prim.Native.Nat.{ℕ, _<_}
 use Rattle.lists.proofs.Each.{each-of}
-use Rattle.case.proofs.Fronts.{rest-all}
+use Rattle.input.proofs.Fronts.{rest-all}
 use Rattle.report.proofs.Printing.{prints-none, prints}
 use borrow.Author.Needs.{needs}
 use Rattle.report.proofs.print.Statement.{statement}

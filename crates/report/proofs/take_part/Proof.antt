@@ -5,7 +5,7 @@ use native.Mathlib.Omega.{arith}
 use lib.ListN.{length}
 use denote.Ref.{now}
 use Rattle.lists.proofs.Each.{each-of}
-use Rattle.case.specs.Claim.{Bytes}
+use Rattle.lists.specs.Lists.{Bytes}
 use Rattle.report.proofs.Taking.{Taking, starts, lent, goes, used-within, none-left, takes-none, takes, none-behind}
 use borrow.Author.Needs.{needs}
 use Rattle.report.proofs.take_part.Statement.{statement}

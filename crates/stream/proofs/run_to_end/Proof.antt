@@ -1,7 +1,8 @@
 -- `stream::run_to_end` meets its contract. Assumes nothing.
 use native.Mathlib.Omega.{arith}
 use borrow.Author.Needs.{needs}
-use Rattle.stream.proofs.Turning.{lent, ends-not, ends}
+use Rattle.feed.proofs.Turning.{lent}
+use Rattle.stream.proofs.Turning.{ends-not, ends}
 use Rattle.stream.proofs.run_to_end.Statement.{statement}
 use Rattle.stream.proofs.run_to_end.Tie as tie
 

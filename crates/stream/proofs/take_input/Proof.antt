@@ -4,17 +4,20 @@ use native.Mathlib.Omega.{arith}
 use mathlib.Core.Path.{_≡_}
 use Prim.Native.Nat.{_*_, _≤_}
 use lib.ListN.{length}
-use Rattle.stream.specs.Turns.{Fed}
-use Rattle.stream.proofs.Turning.{fed-none, fed-read, fed-turn}
+use Rattle.case.specs.Input.{HeldAfter}
+use Rattle.input.specs.Fields.{rest}
+use Rattle.feed.proofs.Turning.{fed-read}
+use Rattle.stream.specs.Turns.{FedTo}
+use Rattle.stream.proofs.Turning.{fed-none, fed-turn}
 use Rattle.stream.proofs.take_input.Statement.{statement}
 use Rattle.stream.proofs.take_input.Tie as tie
 
 abbrev Inv-loop : tie.InvT-loop
-Inv-loop buf₀ out₀ held₀ len₀ turns₀ t10 t11 buf out held len turns =
-    Fed buf held len × (length buf ≡ length buf₀) × (length out ≡ length out₀) × (4 * length buf ≤ length out)
+Inv-loop buf₀ out₀ held₀ len₀ turns₀ t9 t10 buf out held len turns =
+    FedTo buf held len × (length buf ≡ length buf₀) × (length out ≡ length out₀) × (4 * length buf ≤ length out)
 
 abbrev μ-loop : tie.MeasureT-loop
-μ-loop buf₀ out₀ held₀ len₀ turns₀ t10 t11 buf out held len turns = turns
+μ-loop buf₀ out₀ held₀ len₀ turns₀ t9 t10 buf out held len turns = turns
 
 none-requires : tie.Need-none-requires Inv-loop μ-loop
 none-requires c κs = search needs
@@ -25,14 +28,11 @@ loop-holds c = (fed-none _ _ (c .none .ensures), search needs, search needs, sea
 sub-turns : tie.Need-sub-turns Inv-loop μ-loop
 sub-turns c = search needs
 
+slice-aggregate-read : tie.Need-slice-aggregate-read Inv-loop μ-loop
+slice-aggregate-read c = search needs
+
 read-requires : tie.Need-read-requires Inv-loop μ-loop
 read-requires c κs = search needs
-
-slice-aggregate-fail : tie.Need-slice-aggregate-fail Inv-loop μ-loop
-slice-aggregate-fail c = search needs
-
-fail-requires : tie.Need-fail-requires Inv-loop μ-loop
-fail-requires c κs = search needs
 
 same-length : tie.Need-same-length Inv-loop μ-loop
 same-length c = search needs
@@ -42,9 +42,43 @@ same-length-2 c = search needs
 
 returns : tie.Need-returns Inv-loop μ-loop
 returns c =
-    let l = c .before .before .before .before .before .before .before .before .loop in
+    let l = c .before .before .before .before .before .before .before .loop in
+    let r = c .before .before .before .read in
+    fed-read rest (HeldAfter (l .held)) (l .buf) _ (l .len) (l .inv .0) (r .ensures .front) (r .kept .0)
+
+add-take-turn : tie.Need-add-take-turn Inv-loop μ-loop
+add-take-turn c = let k = c .before .before .before .before .before .before .before .before .loop .inv .0 .fits in let h = c .before .before .before .before .read .ensures .room in search needs
+
+take-turn-requires : tie.Need-take-turn-requires Inv-loop μ-loop
+take-turn-requires c κs =
+    let l = c .before .before .before .before .before .before .before .before .before .loop in
     let r = c .before .before .before .before .before .read in
-    fed-read (l .buf) _ (l .held) (l .len) (l .inv .0) (r .ensures .front) (r .kept .0)
+    let h = r .ensures .room in
+    (omega (arith, h, l .inv .0 .fits, r .kept .0), omega (arith, h, l .inv .0 .fits, r .kept .0))
+
+slice-aggregate-flush : tie.Need-slice-aggregate-flush Inv-loop μ-loop
+slice-aggregate-flush c = search needs
+
+flush-requires : tie.Need-flush-requires Inv-loop μ-loop
+flush-requires c κs = search needs
+
+turns-left-requires : tie.Need-turns-left-requires Inv-loop μ-loop
+turns-left-requires c κs = search needs
+
+loop-less : tie.Need-loop-less Inv-loop μ-loop
+loop-less c = search needs
+
+loop-again : tie.Need-loop-again Inv-loop μ-loop
+loop-again c =
+    let l = c .before .before .before .before .before .before .before .before .before .before .before .before .before .before .before .before .before .before .before .loop in
+    let r = c .before .before .before .before .before .before .before .before .before .before .before .before .before .before .before .read in
+    let t = c .before .before .before .before .before .before .before .before .before .take-turn in (
+      fed-turn (l .buf) _ _ _ _ (l .held) (l .len) (r .result .len) (t .result) (l .inv .0) (r .ensures .front)
+          (λ k. omega (arith, c .before .before .before .before .before .before .before .before .before .before .before .before .before .slice-known3 .given k)) (t .ensures),
+      search needs,
+      search needs,
+      search needs,
+    )
 
 same-length-3 : tie.Need-same-length-3 Inv-loop μ-loop
 same-length-3 c = search needs
@@ -53,70 +87,7 @@ same-length-4 : tie.Need-same-length-4 Inv-loop μ-loop
 same-length-4 c = search needs
 
 returns-2 : tie.Need-returns-2 Inv-loop μ-loop
-returns-2 c =
-    let l = c .before .before .before .before .before .before .before .loop in
-    let r = c .before .before .before .before .read in
-    fed-read (l .buf) _ (l .held) (l .len) (l .inv .0) (r .ensures .front) (r .kept .0)
-
-add-take-turn : tie.Need-add-take-turn Inv-loop μ-loop
-add-take-turn c = let k = c .before .before .before .before .before .before .before .before .loop .inv .0 .fits in let h = c .before .before .before .before .before .read .ensures .room in search needs
-
-take-turn-requires : tie.Need-take-turn-requires Inv-loop μ-loop
-take-turn-requires c κs =
-    let l = c .before .before .before .before .before .before .before .before .before .loop in
-    let r = c .before .before .before .before .before .before .read in
-    let h = r .ensures .room in
-    (omega (arith, h, l .inv .0 .fits, r .kept .0), omega (arith, h, l .inv .0 .fits, r .kept .0))
-
-sub-write : tie.Need-sub-write Inv-loop μ-loop
-sub-write c = search needs
-
-part-write-start : tie.Need-part-write-start Inv-loop μ-loop
-part-write-start c = search needs
-
-part-write-end : tie.Need-part-write-end Inv-loop μ-loop
-part-write-end c = let h = c .before .before .before .before .before .before .take-turn .ensures .fits in search needs
-
-write-requires : tie.Need-write-requires Inv-loop μ-loop
-write-requires c κs = search needs
-
-slice-aggregate-fail-2 : tie.Need-slice-aggregate-fail-2 Inv-loop μ-loop
-slice-aggregate-fail-2 c = search needs
-
-fail-requires-2 : tie.Need-fail-requires-2 Inv-loop μ-loop
-fail-requires-2 c κs = search needs
-
-same-length-5 : tie.Need-same-length-5 Inv-loop μ-loop
-same-length-5 c = search needs
-
-same-length-6 : tie.Need-same-length-6 Inv-loop μ-loop
-same-length-6 c = search needs
-
-returns-3 : tie.Need-returns-3 Inv-loop μ-loop
-returns-3 c =
-    let l = c .before .before .before .before .before .before .before .before .before .before .before .before .before .before .before .before .before .before .before .before .before .loop in
-    let r = c .before .before .before .before .before .before .before .before .before .before .before .before .before .before .before .before .before .before .read in
-    let t = c .before .before .before .before .before .before .before .before .before .before .before .take-turn in
-    fed-turn (l .buf) _ _ _ _ (l .held) (l .len) (r .result .len) (t .result) (l .inv .0) (r .ensures .front) (λ k. omega (arith, c .before .before .before .before .before .before .before .before .before .before .before .before .before .before .before .before .slice-known3 .given k)) (t .ensures)
-
-loop-less : tie.Need-loop-less Inv-loop μ-loop
-loop-less c = search needs
-
-loop-again : tie.Need-loop-again Inv-loop μ-loop
-loop-again c =
-    let l = c .before .before .before .before .before .before .before .before .before .before .before .before .before .before .before .before .before .before .before .loop in
-    let r = c .before .before .before .before .before .before .before .before .before .before .before .before .before .before .before .before .read in
-    let t = c .before .before .before .before .before .before .before .before .before .take-turn in
-    (fed-turn (l .buf) _ _ _ _ (l .held) (l .len) (r .result .len) (t .result) (l .inv .0) (r .ensures .front) (λ k. omega (arith, c .before .before .before .before .before .before .before .before .before .before .before .before .before .before .slice-known3 .given k)) (t .ensures), search needs, search needs, search needs)
-
-same-length-7 : tie.Need-same-length-7 Inv-loop μ-loop
-same-length-7 c = search needs
-
-same-length-8 : tie.Need-same-length-8 Inv-loop μ-loop
-same-length-8 c = search needs
-
-returns-4 : tie.Need-returns-4 Inv-loop μ-loop
-returns-4 c = c .before .loop .inv .0
+returns-2 c = c .before .loop .inv .0
 
 pub take-input-spec : {M : Type 1} → statement M
 take-input-spec =
@@ -127,28 +98,18 @@ take-input-spec =
     none-requires
     loop-holds
     sub-turns
+    slice-aggregate-read
     read-requires
-    slice-aggregate-fail
-    fail-requires
     same-length
     same-length-2
     returns
-    same-length-3
-    same-length-4
-    returns-2
     add-take-turn
     take-turn-requires
-    sub-write
-    part-write-start
-    part-write-end
-    write-requires
-    slice-aggregate-fail-2
-    fail-requires-2
-    same-length-5
-    same-length-6
-    returns-3
+    slice-aggregate-flush
+    flush-requires
+    turns-left-requires
     loop-less
     loop-again
-    same-length-7
-    same-length-8
-    returns-4)
+    same-length-3
+    same-length-4
+    returns-2)

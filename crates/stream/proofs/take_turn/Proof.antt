@@ -1,6 +1,7 @@
 -- `stream::take_turn` meets its contract. Assumes nothing.
 use borrow.Author.Needs.{needs}
-use Rattle.stream.proofs.Turning.{lent, turns}
+use Rattle.feed.proofs.Turning.{lent}
+use Rattle.stream.proofs.Turning.{turns}
 use Rattle.stream.proofs.take_turn.Statement.{statement}
 use Rattle.stream.proofs.take_turn.Tie as tie
 

@@ -1,5 +1,4 @@
 -- `explain::answers::first_owing` is safe and ends. Assumes nothing.
-use mathlib.Core.Path.{_≡_, refl}
 use Prim.Native.Nat.{_^_, _<_}
 use native.Mathlib.Omega.{arith}
 use lib.ListN.{length}

@@ -1,11 +1,11 @@
--- `feed::read` meets its contract. Assumes nothing.
+-- `feed::read_again` meets its contract. Assumes nothing.
 use borrow.Author.Needs.{needs}
 use mathlib.Core.Path.{_≡_, _∙_}
 use native.Mathlib.Omega.{arith}
 use Prim.Native.Nat.{_≤_}
 use lib.ListN.{length, take}
-use Rattle.feed.proofs.read.Statement.{statement}
-use Rattle.feed.proofs.read.Tie as tie
+use Rattle.feed.proofs.read_again.Statement.{statement}
+use Rattle.feed.proofs.read_again.Tie as tie
 
 abbrev Inv-loop : tie.InvT-loop
 Inv-loop buf₀ at turns₀ buf turns = (length buf ≡ length buf₀) × (take at buf ≡ take at buf₀) × (at ≤ length buf)
@@ -30,7 +30,7 @@ same-length c = search needs
 
 returns-2 : tie.Need-returns-2 Inv-loop μ-loop
 returns-2 c =
-    record { front = c .before .before .before .before .read-once .ensures .front ∙ c .before .before .before .before .before .before .before .loop .inv .1; room = omega (arith, c .before .before .before .before .read-once .ensures .room, c .before .before .before .before .before .before .before .loop .inv .0) }
+    record { front = c .before .before .before .read-once .ensures .front ∙ c .before .before .before .before .before .before .loop .inv .1; room = omega (arith, c .before .before .before .read-once .ensures .room, c .before .before .before .before .before .before .loop .inv .0) }
 
 errno-requires : tie.Need-errno-requires Inv-loop μ-loop
 errno-requires c κs = search needs
@@ -40,13 +40,13 @@ same-length-2 c = search needs
 
 returns-3 : tie.Need-returns-3 Inv-loop μ-loop
 returns-3 c =
-    record { front = c .before .before .before .before .before .before .read-once .ensures .front ∙ c .before .before .before .before .before .before .before .before .before .loop .inv .1; room = omega (arith, c .before .before .before .before .before .before .read-once .ensures .room, c .before .before .before .before .before .before .before .before .before .loop .inv .0) }
+    record { front = c .before .before .before .before .before .read-once .ensures .front ∙ c .before .before .before .before .before .before .before .before .loop .inv .1; room = omega (arith, c .before .before .before .before .before .read-once .ensures .room, c .before .before .before .before .before .before .before .before .loop .inv .0) }
 
 loop-less : tie.Need-loop-less Inv-loop μ-loop
 loop-less c = search needs
 
 loop-again : tie.Need-loop-again Inv-loop μ-loop
-loop-again c = (search needs, c .before .before .before .before .before .before .read-once .ensures .front ∙ c .before .before .before .before .before .before .before .before .before .loop .inv .1, search needs)
+loop-again c = (search needs, c .before .before .before .before .before .read-once .ensures .front ∙ c .before .before .before .before .before .before .before .before .loop .inv .1, search needs)
 
 same-length-3 : tie.Need-same-length-3 Inv-loop μ-loop
 same-length-3 c = search needs
@@ -54,8 +54,8 @@ same-length-3 c = search needs
 returns-4 : tie.Need-returns-4 Inv-loop μ-loop
 returns-4 c = search needs
 
-pub read-spec : {M : Type 1} → statement M
-read-spec =
+pub read-again-spec : {M : Type 1} → statement M
+read-again-spec =
     tie.close
     (tie.spec
     Inv-loop

@@ -8,10 +8,10 @@ use lib.Dec.{leb}
 use lib.ListN.{length, take, drop}
 use borrow.Author.Tests.{leb-true}
 use Rattle.lists.proofs.Bools.{and-left, and-right}
-use Rattle.case.specs.Input.{fieldSize, wholeFirst, frontSize}
-use Rattle.case.proofs.Fields.{size-whole}
-use Rattle.case.proofs.Fronts.{front-none, front-next}
-use Rattle.report.specs.Texts.{wholeFields}
+use Rattle.input.specs.Fields.{fieldSize, wholeFirst, frontSize, wholeFields, whole}
+use Rattle.input.proofs.Fields.{size-whole}
+use Rattle.input.proofs.Pieces.{front-none, front-next}
+use Rattle.input.proofs.Fronts.{front-most}
 
 -- it is all there, and has some bytes
 pub record First (s : List ℕ) (size : ℕ) : Type 0 where
@@ -30,11 +30,11 @@ first-of s size w i =
       most = omega (arith, i, leb-true (fieldSize s) (length s) (and-right (leb 3 (length s)) (leb (fieldSize s) (length s)) w));
     }
 
-size-first : (s : List ℕ) → wholeFirst s ≡ true → frontSize false s ≡ fieldSize s
+pub size-first : (s : List ℕ) → wholeFirst s ≡ true → frontSize false s ≡ fieldSize s
 unfolding frontSize
 size-first s w = rw w
 
-size-none : (s : List ℕ) → wholeFirst s ≡ false → frontSize false s ≡ 0
+pub size-none : (s : List ℕ) → wholeFirst s ≡ false → frontSize false s ≡ 0
 unfolding frontSize
 size-none s w = rw w
 
@@ -44,7 +44,7 @@ fields-next zero s size f h = absurd (omega arith)
 fields-next (suc n) s size f h =
     let k : suc n - 1 ≡ n = omega arith in
     let e : frontSize false s ≡ size = size-first s (f .whole) ∙ sym (f .is) in
-    rw k (front-next false n s (λ z. absurd (omega (arith, f .least))) ∙ ap (λ (m : ℕ). take m s ∷ wholeFields n (drop m s)) e)
+    rw k (front-next (frontSize false) (front-most false) n s (λ z. absurd (omega (arith, f .least))) ∙ ap (λ (m : ℕ). take m s ∷ wholeFields n (drop m s)) e)
 
 pub fields-none : (n : ℕ) (s : List ℕ) → wholeFirst s ≡ false → wholeFields n s ≡ []
-fields-none n s w = front-none false n s (size-none s w)
+fields-none n s w = front-none (frontSize false) (front-most false) n s (size-none s w)

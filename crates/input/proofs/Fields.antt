@@ -12,7 +12,7 @@ use Rattle.lists.specs.Lists.{if_then_else_}
 use Rattle.lists.proofs.Bools.{lt-or-le}
 use Rattle.machine.specs.Printed.{fieldsIn}
 use Rattle.wire.proofs.Numbers.{number-two}
-use Rattle.case.specs.Input.{fieldSize, frontSize}
+use Rattle.input.specs.Fields.{fieldSize, frontSize}
 
 -- the bytes of the first field that are there
 unfoldable pub first-size : List ℕ → ℕ

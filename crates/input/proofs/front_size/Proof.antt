@@ -1,10 +1,10 @@
--- `case::front_size` meets its contract. Assumes nothing.
+-- `input::front_size` meets its contract. Assumes nothing.
 use mathlib.Core.Path.{_∙_}
 use native.Mathlib.Omega.{arith}
-use Rattle.case.proofs.Fields.{front-short, front-cut, front-whole}
+use Rattle.input.proofs.Fields.{front-short, front-cut, front-whole}
 use borrow.Author.Needs.{needs}
-use Rattle.case.proofs.front_size.Statement.{statement}
-use Rattle.case.proofs.front_size.Tie as tie
+use Rattle.input.proofs.front_size.Statement.{statement}
+use Rattle.input.proofs.front_size.Tie as tie
 
 all-if-requires : tie.Need-all-if-requires
 all-if-requires c κs = search needs

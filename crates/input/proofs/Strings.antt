@@ -7,10 +7,9 @@ use lib.Dec.{ltb}
 use lib.ListN.{length, set, getD, take, drop}
 use borrow.Author.Tests.{lt-ltb, le-ltb, ltb-false}
 use Rattle.lists.proofs.Bools.{by-test}
-use Rattle.lists.proofs.Each.{Each}
-use Rattle.case.specs.Claim.{Bytes}
-use Rattle.case.specs.Strings.{cutAt, stringsFrom, inFront, endsFrom, bytesOf}
-use Rattle.case.proofs.Decoded.{drop-bytes}
+use Rattle.lists.specs.Lists.{Bytes}
+use Rattle.lists.proofs.Each.{Each, each-take, each-drop}
+use Rattle.input.specs.Strings.{cutAt, stringsFrom, inFront, endsFrom, bytesOf}
 
 -- ---- where a string ends
 
@@ -41,17 +40,12 @@ module _ (at n end : ℕ) where
 
 -- ---- the strings of bytes are bytes
 
-pub take-bytes : (n : ℕ) (xs : List ℕ) → Bytes xs → Bytes (take n xs)
-take-bytes zero xs b = tt
-take-bytes (suc n) [] b = tt
-take-bytes (suc n) (x ∷ xs) b = (b .0, take-bytes n xs (b .1))
-
 pub strings-bytes : (at : ℕ) (bytes ends : List ℕ) → Bytes bytes → Each Bytes (stringsFrom at bytes ends)
 unfolding stringsFrom
 strings-bytes at bytes [] b = tt
 strings-bytes at bytes (end ∷ ends) b =
     let to = cutAt at (length bytes) end in
-    (take-bytes (to - at) (drop at bytes) (drop-bytes at bytes b), strings-bytes to bytes ends b)
+    (each-take _ (to - at) (drop at bytes) (each-drop _ at bytes b), strings-bytes to bytes ends b)
 
 -- ---- a number written behind those in front
 
@@ -114,3 +108,9 @@ pub bytes-more : (fs : List (List ℕ)) (f : List ℕ) → bytesOf (fs ++ (f ∷
 unfolding bytesOf
 bytes-more [] f = omega arith
 bytes-more (g ∷ fs) f = omega (arith, bytes-more fs f)
+
+-- strings behind strings
+pub bytes-two : (fs gs : List (List ℕ)) → bytesOf (fs ++ gs) ≡ bytesOf fs + bytesOf gs
+unfolding bytesOf
+bytes-two [] gs = omega arith
+bytes-two (f ∷ fs) gs = omega (arith, bytes-two fs gs)

@@ -1,15 +1,15 @@
--- `case::cut` meets its contract. The invariant is `Cutting`; its laws begin, keep and end it. Assumes nothing.
+-- `input::cut` meets its contract. The invariant is `Cutting`; its laws begin, keep and end it. Assumes nothing.
 use mathlib.Core.Path.{_≡_, refl, ap, _∙_}
 use mathlib.Core.Logic.{inl, inr}
 use Prim.Native.Nat.{_-_, min}
 use native.Mathlib.Omega.{arith}
 use lib.ListN.{length, drop, length-drop}
 use denote.Ref.{now}
-use Rattle.case.specs.Input.{frontSize}
-use Rattle.case.proofs.Fronts.{front-most, Cutting, cutting-starts, cutting-goes, cuts, rest-all}
+use Rattle.input.specs.Fields.{frontSize}
+use Rattle.input.proofs.Fronts.{front-most, Cutting, cutting-starts, cutting-goes, cuts, rest-all}
 use borrow.Author.Needs.{needs}
-use Rattle.case.proofs.cut.Statement.{statement}
-use Rattle.case.proofs.cut.Tie as tie
+use Rattle.input.proofs.cut.Statement.{statement}
+use Rattle.input.proofs.cut.Tie as tie
 
 abbrev Inv-loop : tie.InvT-loop
 Inv-loop last input room ends₀ most at₀ k₀ ends at k = (most ≡ min room (length ends₀)) × Cutting last input most ends₀ ends at k

@@ -1,7 +1,7 @@
--- `case::cut_at` meets its contract. Assumes nothing.
-use Rattle.case.proofs.Strings.{cut-below, cut-inside, cut-past}
-use Rattle.case.proofs.cut_at.Statement.{statement}
-use Rattle.case.proofs.cut_at.Tie as tie
+-- `input::cut_at` meets its contract. Assumes nothing.
+use Rattle.input.proofs.Strings.{cut-below, cut-inside, cut-past}
+use Rattle.input.proofs.cut_at.Statement.{statement}
+use Rattle.input.proofs.cut_at.Tie as tie
 
 returns : tie.Need-returns
 returns c = cut-below _ _ _ (c .if1 .taken)

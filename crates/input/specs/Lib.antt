@@ -1,0 +1,4 @@
+pub mod Strings
+pub mod Pieces
+pub mod Fields
+pub mod Computing

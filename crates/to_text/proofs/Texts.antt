@@ -1,0 +1,127 @@
+-- The text of a field: its comment byte by byte, and which of the two it is. Assumes nothing.
+use mathlib.Core.Path.{_≡_, refl, ap, subst, _∙_}
+use mathlib.Core.Bool.{Bool, true, false, _&&_}
+use mathlib.Core.List.{List, [], _∷_, _++_}
+use mathlib.Core.Option.{Option, none, some}
+use Prim.Native.Nat.{ℕ, zero, suc, _+_, _*_, _%_, _≤_, _<_}
+use native.Mathlib.Numerals.{add-one}
+use native.Mathlib.Omega.{arith}
+use lib.Dec.{eqb, ltb}
+use lib.ListN.{length, getD, drop, drop-of-length-le, length-append}
+use lib.Seq.{sets, length-sets, drop-cons}
+use borrow.Author.Tests.{lt-ltb, le-ltb, le-leb, eq-eqb, ne-eqb}
+use Rattle.lists.proofs.Bools.{and-false}
+use Rattle.machine.specs.Wire as Wire
+use Rattle.machine.specs.Wire.{decode}
+use Rattle.wire.specs.declared.Call.{Call}
+use Rattle.wire.specs.Asked.{asked}
+use Rattle.forms.specs.Forms.{tagOf, numbersOf, formOf}
+use Rattle.forms.specs.Put.{Put, Written, putInto}
+use Rattle.forms.proofs.Puts.{put-as}
+use Rattle.spelling.specs.Words.{nameOf}
+use Rattle.spelling.specs.Text.{itemText, itemsText, lineForm, lineOf, lineInto}
+use Rattle.to_text.specs.Texts.{hexDigit, breakText, hexText, hexFrom, comment, lineOr, fieldText}
+
+-- ---- digits and breaks
+
+pub digit-low : (d : ℕ) → d < 10 → 48 + d ≡ hexDigit d
+unfolding hexDigit
+digit-low d h = rw (lt-ltb d 10 h)
+
+pub digit-high : (d : ℕ) → 10 ≤ d → 87 + d ≡ hexDigit d
+unfolding hexDigit
+digit-high d h = rw (le-ltb d 10 h)
+
+pub break-first : (i : ℕ) → i ≡ 0 → [] ≡ breakText i
+unfolding breakText
+break-first i e = rw (e) refl
+
+pub break-none : (i : ℕ) → (i % 32 ≡ 0 → ⊥) → [] ≡ breakText i
+unfolding breakText
+break-none i h = rw (ne-eqb (i % 32) 0 h, and-false (ltb 0 i)) refl
+
+pub break-there : (i : ℕ) → (i ≡ 0 → ⊥) → i % 32 ≡ 0 → 10 ∷ 35 ∷ [] ≡ breakText i
+unfolding breakText
+break-there i h e = rw (lt-ltb 0 i (omega arith), eq-eqb (i % 32) 0 e) refl
+
+-- ---- a comment
+
+pub hex-next : (bytes : List ℕ) (i : ℕ) → i < length bytes
+    → hexFrom i (drop i bytes) ≡ (breakText i ++ hexText (getD bytes i 0)) ++ hexFrom (i + 1) (drop (i + 1) bytes)
+unfolding hexFrom
+hex-next bytes i h = rw (drop-cons bytes i 0 h, add-one) refl
+
+pub hex-none : (bytes : List ℕ) (i : ℕ) → length bytes ≤ i → 10 ∷ [] ≡ hexFrom i (drop i bytes)
+unfolding hexFrom
+hex-none bytes i h = rw (drop-of-length-le bytes {i = i} h) refl
+
+-- ---- a field
+
+items-long : (tag i : ℕ) (ns : List ℕ) → 1 ≤ length (itemsText tag i ns)
+unfolding itemsText
+items-long tag i [] = omega arith
+items-long tag i (n ∷ ns) = omega (arith, items-long tag (suc i) ns, length-append (itemText tag i n) (itemsText tag (suc i) ns))
+
+form-long : (tag : ℕ) (ns : List ℕ) → (tag ≡ 0 → ⊥) → 1 ≤ length (lineForm (tag, ns))
+unfolding lineForm
+form-long zero ns h = absurd (h refl)
+form-long (suc t) ns h = omega (arith, items-long (suc t) 0 ns, length-append (nameOf (suc t)) (itemsText (suc t) 0 ns))
+
+tag-some : (c : Wire.Call) → tagOf c ≡ 0 → ⊥
+unfolding tagOf
+tag-some (Wire.HEAD h) e = omega arith
+tag-some (Wire.POOL pool units mark) e = omega arith
+tag-some (Wire.MEMBER m contribution expected) e = omega arith
+tag-some (Wire.ROUND reserves) e = omega arith
+tag-some (Wire.BID pool m units price) e = omega arith
+tag-some Wire.CLOSE e = omega arith
+tag-some (Wire.ALLOCATE pool price) e = omega arith
+tag-some (Wire.TEAR pool price) e = omega arith
+tag-some Wire.CALL e = omega arith
+tag-some (Wire.PAY m amount) e = omega arith
+tag-some (Wire.MOVE m) e = omega arith
+tag-some (Wire.MISS m price) e = omega arith
+tag-some Wire.FINISH e = omega arith
+
+-- the line that is written of a call, or of none
+abbrev written : Option Wire.Call → List ℕ
+written o = lineForm (formOf o)
+
+-- there is one if and only if there is a call
+text-some : (other : List ℕ) (o : Option Wire.Call) → (length (written o) ≡ 0 → ⊥) → written o ≡ lineOr other o
+unfolding formOf lineForm lineOf
+text-some other none h = absurd (h refl)
+text-some other (some c) h = refl
+
+text-none : (other : List ℕ) (o : Option Wire.Call) → length (written o) ≡ 0 → other ≡ lineOr other o
+unfolding formOf lineForm
+text-none other none h = refl
+text-none other (some c) h = absurd (omega (arith, h, form-long (tagOf c) (numbersOf c) (tag-some c)))
+
+no-text : (t : List ℕ) → length t ≡ 0 → t ≡ []
+no-text [] e = refl
+no-text (x ∷ t) e = absurd (omega arith)
+
+module _ (field out mid : List ℕ) (at to : ℕ) (call : Call) (is : asked call ≡ decode field) (room : at + (5 * length field + 8192) ≤ length out)
+    (put : _≡_ {A = Written} (to, mid) (lineInto (asked call) out at)) where
+  done : _≡_ {A = Written} (to, mid) (at + length (written (asked call)), sets out at (written (asked call)))
+  unfolding putInto
+  done = put ∙ rw (le-leb (at + 8192) (length out) (omega arith)) refl
+
+  pub field-line : to ≤ at + 8192 → (to ≡ at → ⊥) → Put out at (fieldText field) (5 * length field + 8192) to mid
+  unfolding fieldText
+  field-line few more =
+      let n : to ≡ at + length (written (asked call)) = ap (λ (p : Written). p .0) done in
+      let stored : mid ≡ sets out at (written (asked call)) = ap (λ (p : Written). p .1) done in
+      put-as (5 * length field + 8192) (omega arith)
+      (text-some (comment field) (asked call) (λ e. more (n ∙ omega (arith, e))) ∙ ap (lineOr (comment field)) is)
+      (record { behind = n; stored = stored; short = omega (arith, n); same = ap length stored ∙ length-sets out at (written (asked call)) })
+
+  pub field-comment : to ≡ at → (new : List ℕ) (r : ℕ) → Put mid at (comment field) (5 * length field + 14) r new → Put out at (fieldText field) (5 * length field + 8192) r new
+  unfolding fieldText
+  field-comment none-there new r p =
+      let n : to ≡ at + length (written (asked call)) = ap (λ (q : Written). q .0) done in
+      let empty : length (written (asked call)) ≡ 0 = omega (arith, n) in
+      let same : mid ≡ out = ap (λ (q : Written). q .1) done ∙ ap (sets out at) (no-text (written (asked call)) empty) in
+      put-as (5 * length field + 8192) (omega arith) (text-none (comment field) (asked call) empty ∙ ap (lineOr (comment field)) is)
+      (subst (λ (l : List ℕ). Put l at (comment field) (5 * length field + 14) r new) same p)
