@@ -14,5 +14,6 @@ pub mod Passing
 pub mod Shown
 pub mod History
 pub mod Growth
+pub mod Results
 pub mod Right
 pub mod Read

@@ -485,11 +485,14 @@ impl Units {
         }
         let k = 4 * lists::place(m);
         let counts = self.counts;
-        let a = lists::wide16(counts[4 + k]) + lists::wide16(counts[4 + (k + 1)]);
-        let b = lists::wide16(counts[4 + (k + 2)]) + lists::wide16(counts[4 + (k + 3)]);
-        let c = lists::wide16(counts[388 + k]) + lists::wide16(counts[388 + (k + 1)]);
-        let d = lists::wide16(counts[388 + (k + 2)]) + lists::wide16(counts[388 + (k + 3)]);
-        a + b + (c + d)
+        let allocated = four(counts[4 + k], counts[5 + k], counts[6 + k], counts[7 + k]);
+        let moved = four(
+            counts[388 + k],
+            counts[389 + k],
+            counts[390 + k],
+            counts[391 + k],
+        );
+        allocated + moved
     }
 
     // The sum of the prices of all units not open, as cents + 4,000,000,000: at most four times what 32 bits hold.
@@ -507,6 +510,13 @@ fn of_256(n: usize) -> usize
     ensures { λ r. ⌜ r ≡ min n 256 ⌝ }
 {
     if n < 256 { n } else { 256 }
+}
+
+// Four counts added up.
+fn four(a: u16, b: u16, c: u16, d: u16) -> u64
+    ensures { λ r. ⌜ (r ≡ a + b + c + d) × (r < 262144) ⌝ }
+{
+    a as u64 + b as u64 + c as u64 + d as u64
 }
 
 // What a bid of the round won, and 0 for the others.

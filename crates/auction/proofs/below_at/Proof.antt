@@ -27,7 +27,10 @@ number-if-requires c κs = search needs
 
 returns : tie.Need-returns
 unfolding belowAt
-returns c = cc
+returns c = simp (
+  c .number-if .ensures,
+  c .before .before .both .ensures,
+)
 
 pub below-at-spec : {M : Type 1} → statement M
 below-at-spec =

@@ -13,7 +13,10 @@ decline-if-requires c κs = search needs
 
 returns : tie.Need-returns
 unfolding headAnswer firstOf
-returns c = cc
+returns c = simp (
+  c .decline-if .ensures,
+  c .before .head-ok .ensures,
+)
 
 pub head-answer-spec : {M : Type 1} → statement M
 head-answer-spec = tie.close (tie.spec head-ok-requires decline-if-requires returns)

@@ -38,7 +38,19 @@ both-requires-3 : tie.Need-both-requires-3
 both-requires-3 c κs = search needs
 
 returns : tie.Need-returns
-returns c = rw reserves-tested (cc)
+returns c = rw reserves-tested (simp (
+  c .both3 .ensures,
+  c .before .both2 .ensures,
+  c .before .before .either4 .ensures,
+  c .before .before .before .price-ok4 .ensures,
+  c .before .before .before .before .either3 .ensures,
+  c .before .before .before .before .before .price-ok3 .ensures,
+  c .before .before .before .before .before .before .both .ensures,
+  c .before .before .before .before .before .before .before .either2 .ensures,
+  c .before .before .before .before .before .before .before .before .price-ok2 .ensures,
+  c .before .before .before .before .before .before .before .before .before .either .ensures,
+  c .before .before .before .before .before .before .before .before .before .before .price-ok .ensures,
+))
 
 pub reserves-ok-spec : {M : Type 1} → statement M
 reserves-ok-spec =

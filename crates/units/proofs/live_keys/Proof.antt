@@ -6,6 +6,7 @@ use lib.ListN.{length, getD, length-set}
 use borrow.Author.Count.{below-none}
 use Rattle.lists.proofs.Places.{filled-next, tab-of}
 use Rattle.units.specs.Groups.{keyAt, liveKey, liveKeys}
+use Rattle.units.proofs.Results.{live-next}
 use borrow.Author.Needs.{needs}
 use Rattle.units.proofs.live_keys.Statement.{statement}
 use Rattle.units.proofs.live_keys.Tie as tie
@@ -47,7 +48,7 @@ loop-less : tie.Need-loop-less Inv-loop μ-loop
 loop-less c = search needs
 
 loop-again : tie.Need-loop-again Inv-loop μ-loop
-loop-again c = let at = c .before .before .before .before .loop in (omega arith, simp length-set (omega arith), filled-next _ 0 (at .keys) (at .j) _ (omega arith) (at .inv .2) (cc))
+loop-again c = let at = c .before .before .before .before .loop in (omega arith, simp length-set (omega arith), filled-next _ 0 (at .keys) (at .j) _ (omega arith) (at .inv .2) (live-next (getD (c .before .before .before .before .before .args .counts .now) (4 + at .j) 0) _ _ _ (c .before .key-at .ensures) (c .live-key .ensures)))
 
 returns : tie.Need-returns Inv-loop μ-loop
 unfolding liveKeys

@@ -1,4 +1,6 @@
 -- `units::missed_in` meets its contract. Assumes nothing.
+use mathlib.Core.Path.{refl}
+use Rattle.units.proofs.Results.{torn-twice}
 use borrow.Author.Needs.{needs}
 use Rattle.units.proofs.missed_in.Statement.{statement}
 use Rattle.units.proofs.missed_in.Tie as tie
@@ -34,7 +36,7 @@ torn-up-requires-2 : tie.Need-torn-up-requires-2
 torn-up-requires-2 c κs = search needs
 
 returns : tie.Need-returns
-returns c = cc
+returns c = torn-twice _ _ _ _ _ _ _ _ _ _ _ refl (c .before .torn-up .ensures) (c .torn-up2 .ensures)
 
 pub missed-in-spec : {M : Type 1} → statement M
 missed-in-spec =

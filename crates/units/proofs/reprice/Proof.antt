@@ -1,7 +1,6 @@
 -- `units::reprice` meets its contract. Assumes nothing.
-use native.Mathlib.Omega.{arith}
-use native.Mathlib.Nat.{mul-le-mul}
-use Rattle.units.specs.Steps.{repriced}
+use Rattle.units.proofs.Results.{repriced-is}
+use Rattle.units.proofs.Results.{priced-fits, gained-fits}
 use borrow.Author.Needs.{needs}
 use Rattle.units.proofs.reprice.Statement.{statement}
 use Rattle.units.proofs.reprice.Tie as tie
@@ -22,10 +21,10 @@ wide32-requires-2 : tie.Need-wide32-requires-2
 wide32-requires-2 c κs = search needs
 
 mul-gained : tie.Need-mul-gained
-mul-gained c = record { fits = omega (arith, mul-le-mul (c .before .wide16 .ensures .1) (c .wide322 .ensures .1)) }
+mul-gained c = record { fits = priced-fits (c .before .wide16 .ensures .1) (c .wide322 .ensures .1) }
 
 add-gained : tie.Need-add-gained
-add-gained c = record { fits = omega (arith, mul-le-mul (c .before .wide16 .ensures .1) (c .wide322 .ensures .1)) }
+add-gained c = record { fits = gained-fits (c .before .before .wide32 .ensures .1) (c .before .wide16 .ensures .1) (c .wide322 .ensures .1) }
 
 wide16-requires-2 : tie.Need-wide16-requires-2
 wide16-requires-2 c κs = search needs
@@ -34,7 +33,7 @@ wide32-requires-3 : tie.Need-wide32-requires-3
 wide32-requires-3 c κs = search needs
 
 mul-lost : tie.Need-mul-lost
-mul-lost c = record { fits = omega (arith, mul-le-mul (c .before .wide162 .ensures .1) (c .wide323 .ensures .1)) }
+mul-lost c = record { fits = priced-fits (c .before .wide162 .ensures .1) (c .wide323 .ensures .1) }
 
 less-requires : tie.Need-less-requires
 less-requires c κs = search needs
@@ -49,8 +48,7 @@ element-write-sums : tie.Need-element-write-sums
 element-write-sums c = search needs
 
 returns : tie.Need-returns
-unfolding repriced
-returns c = cc
+returns c = repriced-is _ _ _ _ _ _ _ _ _ _ _ _ (c .before .before .before .before .before .before .wide32 .ensures .0) (c .before .before .before .before .before .wide16 .ensures .0) (c .before .before .before .before .wide322 .ensures .0) (c .before .before .before .wide162 .ensures .0) (c .before .before .wide323 .ensures .0) (c .before .less .ensures) (c .narrow32 .ensures)
 
 pub reprice-spec : {M : Type 1} → statement M
 reprice-spec =

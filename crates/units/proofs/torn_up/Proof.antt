@@ -1,6 +1,6 @@
 -- `units::torn_up` meets its contract. Assumes nothing.
-use borrow.Author.Tests.{eq-eqb, ne-eqb}
-use Rattle.units.specs.Steps.{tornUp}
+use mathlib.Core.Path.{refl}
+use Rattle.units.proofs.Results.{torn-none, torn-some}
 use borrow.Author.Needs.{needs}
 use Rattle.units.proofs.torn_up.Statement.{statement}
 use Rattle.units.proofs.torn_up.Tie as tie
@@ -18,8 +18,7 @@ reprice-requires : tie.Need-reprice-requires
 reprice-requires c κs = search needs
 
 returns : tie.Need-returns
-unfolding tornUp
-returns c = rw (eq-eqb _ _ (c .if1 .taken)) (cc)
+returns c = torn-none _ _ _ _ _ _ _ _ refl (c .before .before .before .transfer .ensures) (c .before .reprice .ensures) (c .if1 .taken)
 
 sub-out : tie.Need-sub-out
 sub-out c = search needs
@@ -31,8 +30,7 @@ element-write-out : tie.Need-element-write-out
 element-write-out c = search needs
 
 returns-2 : tie.Need-returns-2
-unfolding tornUp
-returns-2 c = rw (ne-eqb _ _ (c .if1 .left)) (cc)
+returns-2 c = torn-some _ _ _ _ _ _ _ _ refl (c .before .before .before .transfer .ensures) (c .before .reprice .ensures) (c .if1 .left)
 
 pub torn-up-spec : {M : Type 1} → statement M
 torn-up-spec =

@@ -1,6 +1,5 @@
-use Rattle.lists.specs.Lists.{tab}
 -- `book::Book::any_open` meets its contract. Assumes nothing.
-use Rattle.lists.specs.Lists.{any}
+use Rattle.lists.specs.Lists.{any, tab}
 use Rattle.book.specs.Books.{anyOpenIn}
 use borrow.Author.Needs.{needs}
 use Rattle.book.proofs.Book.any_open.Statement.{statement}
@@ -32,7 +31,16 @@ either-requires-4 c κs = search needs
 
 returns : tie.Need-returns
 unfolding anyOpenIn any tab
-returns c = cc
+returns c = simp (
+  c .either4 .ensures,
+  c .before .either3 .ensures,
+  c .before .before .open-units4 .ensures,
+  c .before .before .before .open-units3 .ensures,
+  c .before .before .before .before .either2 .ensures,
+  c .before .before .before .before .before .either .ensures,
+  c .before .before .before .before .before .before .open-units2 .ensures,
+  c .before .before .before .before .before .before .before .open-units .ensures,
+)
 
 pub any-open-spec : {M : Type 1} → statement M
 any-open-spec =

@@ -22,7 +22,13 @@ decline-if-requires-2 c κs = search needs
 
 returns : tie.Need-returns
 unfolding firstOf
-returns c = finish-declined _ _ _ (cc) (c .if1 .taken)
+returns c = finish-declined _ _ _ (simp (
+  c .before .decline-if2 .ensures,
+  c .before .before .either .ensures,
+  c .before .before .before .decline-if .ensures,
+  c .before .before .before .before .any-open .ensures,
+  c .before .before .before .before .before .letter .ensures,
+)) (c .if1 .taken)
 
 requirement-requires : tie.Need-requirement-requires
 requirement-requires c κs = search needs
@@ -44,7 +50,21 @@ decline-if-requires-4 c κs = search needs
 
 returns-2 : tie.Need-returns-2
 unfolding firstOf
-returns-2 c = finish-let-pass _ _ _ (cc) (c .before .before .before .before .before .before .before .before .if1 .left) _ (cc)
+returns-2 c = finish-let-pass _ _ _ (simp (
+  c .before .before .before .before .before .before .before .before .before .decline-if2 .ensures,
+  c .before .before .before .before .before .before .before .before .before .before .either .ensures,
+  c .before .before .before .before .before .before .before .before .before .before .before .decline-if .ensures,
+  c .before .before .before .before .before .before .before .before .before .before .before .before .any-open .ensures,
+  c .before .before .before .before .before .before .before .before .before .before .before .before .before .letter .ensures,
+)) (c .before .before .before .before .before .before .before .before .if1 .left) _ (simp (
+  c .decline-if4 .ensures,
+  c .before .both .ensures,
+  c .before .before .decline-if3 .ensures,
+  c .before .before .before .someone-owes .ensures,
+  c .before .before .before .before .before .before .prefunded .ensures,
+  c .before .before .before .before .before .before .before .requirement .ensures,
+  c .before .before .before .before .before .before .before .before .before .before .before .before .before .letter .ensures,
+))
 
 pub finish-answer-spec : {M : Type 1} → statement M
 finish-answer-spec =

@@ -34,7 +34,17 @@ decline-if-requires-4 c κs = search needs
 
 returns : tie.Need-returns
 unfolding missAnswer firstOf
-returns c = cc
+returns c = simp (
+  c .decline-if4 .ensures,
+  c .before .either .ensures,
+  c .before .before .decline-if3 .ensures,
+  c .before .before .before .decline-if2 .ensures,
+  c .before .before .before .before .decline-if .ensures,
+  c .before .before .before .before .before .price-ok .ensures,
+  c .before .before .before .before .before .before .passed .ensures,
+  c .before .before .before .before .before .before .before .has .ensures,
+  c .before .before .before .before .before .before .before .before .before .letter .ensures,
+)
 
 pub miss-answer-spec : {M : Type 1} → statement M
 miss-answer-spec =

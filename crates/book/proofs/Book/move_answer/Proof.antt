@@ -25,7 +25,14 @@ decline-if-requires-3 c κs = search needs
 
 returns : tie.Need-returns
 unfolding moveAnswer firstOf
-returns c = cc
+returns c = simp (
+  c .decline-if3 .ensures,
+  c .before .decline-if2 .ensures,
+  c .before .before .decline-if .ensures,
+  c .before .before .before .owes .ensures,
+  c .before .before .before .before .has .ensures,
+  c .before .before .before .before .before .before .before .letter .ensures,
+)
 
 pub move-answer-spec : {M : Type 1} → statement M
 move-answer-spec =

@@ -21,7 +21,13 @@ new-requires-5 c κs = search needs
 
 returns : tie.Need-returns
 unfolding newBook
-returns c = cc
+returns c = simp (
+  c .new5 .ensures,
+  c .before .new4 .ensures,
+  c .before .before .new3 .ensures,
+  c .before .before .before .new2 .ensures,
+  c .before .before .before .before .new .ensures,
+)
 
 pub new-spec : {M : Type 1} → statement M
 new-spec =

@@ -31,7 +31,16 @@ decline-if-requires-4 c κs = search needs
 
 returns : tie.Need-returns
 unfolding payAnswer firstOf
-returns c = cc
+returns c = simp (
+  c .decline-if4 .ensures,
+  c .before .decline-if3 .ensures,
+  c .before .before .decline-if2 .ensures,
+  c .before .before .before .decline-if .ensures,
+  c .before .before .before .before .payment-ok .ensures,
+  c .before .before .before .before .before .owes .ensures,
+  c .before .before .before .before .before .before .has .ensures,
+  c .before .before .before .before .before .before .before .before .before .letter .ensures,
+)
 
 pub pay-answer-spec : {M : Type 1} → statement M
 pay-answer-spec =

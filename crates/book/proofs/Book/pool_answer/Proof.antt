@@ -25,7 +25,14 @@ decline-if-requires-3 c κs = search needs
 
 returns : tie.Need-returns
 unfolding poolAnswer firstOf
-returns c = cc
+returns c = simp (
+  c .decline-if3 .ensures,
+  c .before .decline-if2 .ensures,
+  c .before .before .either .ensures,
+  c .before .before .before .before .before .decline-if .ensures,
+  c .before .before .before .before .before .before .pool-ok .ensures,
+  c .before .before .before .before .before .before .before .before .before .letter .ensures,
+)
 
 pub pool-answer-spec : {M : Type 1} → statement M
 pool-answer-spec =

@@ -28,7 +28,15 @@ decline-if-requires-4 c κs = search needs
 
 returns : tie.Need-returns
 unfolding tearAnswer firstOf
-returns c = cc
+returns c = simp (
+  c .decline-if4 .ensures,
+  c .before .decline-if3 .ensures,
+  c .before .before .before .decline-if2 .ensures,
+  c .before .before .before .before .decline-if .ensures,
+  c .before .before .before .before .before .price-ok .ensures,
+  c .before .before .before .before .before .before .open-units .ensures,
+  c .before .before .before .before .before .before .before .before .letter .ensures,
+)
 
 pub tear-answer-spec : {M : Type 1} → statement M
 tear-answer-spec =

@@ -1,16 +1,14 @@
-use mathlib.Core.Path.{sym}
 -- `units::Units::count` meets its contract. Assumes nothing.
+use mathlib.Core.Path.{refl, sym}
 use native.Mathlib.Omega.{arith}
-use borrow.Author.Tests.{lt-ltb, le-ltb}
-use Rattle.units.specs.Shown.{countOf}
 use Rattle.units.proofs.Numbers.{kind-past}
+use Rattle.units.proofs.Results.{count-past, count-there, column-from}
 use borrow.Author.Needs.{needs}
 use Rattle.units.proofs.Units.count.Statement.{statement}
 use Rattle.units.proofs.Units.count.Tie as tie
 
 returns : tie.Need-returns
-unfolding countOf
-returns c = rw (le-ltb (c .before .args .pool) 4 (omega arith))
+returns c = count-past _ _ _ _ (c .if1 .taken)
 
 place-requires : tie.Need-place-requires
 place-requires c κs = search needs
@@ -40,28 +38,22 @@ column-of-requires-4 : tie.Need-column-of-requires-4
 column-of-requires-4 c κs = search needs
 
 returns-2 : tie.Need-returns-2
-unfolding countOf
-returns-2 c = rw (lt-ltb (c .before .before .before .before .before .before .args .pool) 4 (omega arith), c .before .before .match .keys1) (cc)
+returns-2 c = count-there _ _ _ _ 0 _ (c .before .before .before .before .before .if1 .left) (c .before .before .match .keys1) (rw (← c .before .before .before .before .place .ensures .0) (c .column-of .ensures))
 
 returns-3 : tie.Need-returns-3
-unfolding countOf
-returns-3 c = rw (lt-ltb (c .before .before .before .before .before .before .args .pool) 4 (omega arith), c .before .before .match .keys2) (cc)
+returns-3 c = count-there _ _ _ _ 1 _ (c .before .before .before .before .before .if1 .left) (c .before .before .match .keys2) (c .sold-in .ensures)
 
 returns-4 : tie.Need-returns-4
-unfolding countOf
-returns-4 c = rw (lt-ltb (c .before .before .before .before .before .before .args .pool) 4 (omega arith), c .before .before .match .keys3) (cc)
+returns-4 c = count-there _ _ _ _ 2 _ (c .before .before .before .before .before .if1 .left) (c .before .before .match .keys3) (column-from _ 4 _ _ _ _ (c .before .before .before .before .place .ensures .0) (c .column-of2 .ensures))
 
 returns-5 : tie.Need-returns-5
-unfolding countOf
-returns-5 c = rw (lt-ltb (c .before .before .before .before .before .before .args .pool) 4 (omega arith), c .before .before .match .keys4) (cc)
+returns-5 c = count-there _ _ _ _ 3 _ (c .before .before .before .before .before .if1 .left) (c .before .before .match .keys4) (column-from _ 388 _ _ _ _ (c .before .before .before .before .place .ensures .0) (c .column-of3 .ensures))
 
 returns-6 : tie.Need-returns-6
-unfolding countOf
-returns-6 c = rw (lt-ltb (c .before .before .before .before .before .before .args .pool) 4 (omega arith), c .before .before .match .keys5) (cc)
+returns-6 c = count-there _ _ _ _ 4 _ (c .before .before .before .before .before .if1 .left) (c .before .before .match .keys5) (column-from _ 516 _ _ _ _ (c .before .before .before .before .place .ensures .0) (c .column-of4 .ensures))
 
 returns-7 : tie.Need-returns-7
-unfolding countOf
-returns-7 c = let a = c .before .before .before .before .args in rw (lt-ltb (a .pool) 4 (omega arith)) (sym (kind-past (a .self) (a .pools .now) (a .pool) (a .kind) (omega arith)))
+returns-7 c = let a = c .before .before .before .before .args in count-there _ _ _ _ (a .kind) _ (c .before .before .before .if1 .left) refl (sym (kind-past (a .self) (a .pools .now) (a .pool) (a .kind) (omega arith)))
 
 pub count-spec : {M : Type 1} → statement M
 count-spec =

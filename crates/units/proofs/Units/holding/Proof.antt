@@ -1,23 +1,19 @@
 -- `units::Units::holding` meets its contract. Assumes nothing.
 use native.Mathlib.Omega.{arith}
-use mathlib.Core.Bool.{and-false}
-use lib.Dec.{ltb, eqb}
+use lib.Dec.{eqb}
 use lib.ListN.{getD}
-use borrow.Author.Tests.{lt-ltb, le-ltb}
 use Rattle.lists.specs.Adding.{most16}
-use Rattle.units.specs.Shown.{holdingOf}
 use Rattle.units.proofs.Numbers.{if-le}
+use Rattle.units.proofs.Results.{holding-past, holding-none, holding-there}
 use borrow.Author.Needs.{needs}
 use Rattle.units.proofs.Units.holding.Statement.{statement}
 use Rattle.units.proofs.Units.holding.Tie as tie
 
 returns : tie.Need-returns
-unfolding holdingOf
-returns c = rw (le-ltb (c .before .args .pool) 4 (omega arith))
+returns c = holding-past _ _ _ _ _ _ _ (c .if1 .taken)
 
 returns-2 : tie.Need-returns-2
-unfolding holdingOf
-returns-2 c = rw (le-ltb (c .before .before .args .m) 32 (omega arith), and-false (ltb (c .before .before .args .pool) 4))
+returns-2 c = holding-none _ _ _ _ _ _ _ (c .if2 .taken)
 
 place-requires : tie.Need-place-requires
 place-requires c κs = search needs
@@ -82,8 +78,7 @@ add-result-2 c = let a = c .before .before .before .before .before .before .befo
     record { fits = omega arith }
 
 returns-3 : tie.Need-returns-3
-unfolding holdingOf
-returns-3 c = rw (lt-ltb (c .before .before .before .before .before .before .before .before .before .before .before .before .args .pool) 4 (omega arith), lt-ltb (c .before .before .before .before .before .before .before .before .before .before .before .before .args .m) 32 (omega arith)) (cc)
+returns-3 c = holding-there _ _ _ _ _ _ _ _ _ _ _ _ _ _ (c .before .before .before .before .before .before .before .before .before .before .before .if1 .left) (c .before .before .before .before .before .before .before .before .before .before .if2 .left) (c .before .before .before .before .before .before .before .before .before .place .ensures .0) (c .before .before .before .before .before .before .before .before .place2 .ensures .0) (c .before .before .before .before .sold-for .ensures .0) (c .before .before .before .wide16 .ensures .0) (c .before .before .number-if .ensures) (c .before .wide162 .ensures .0) (c .number-if2 .ensures)
 
 pub holding-spec : {M : Type 1} → statement M
 holding-spec =

@@ -56,7 +56,7 @@ loop-less c = search needs
 loop-again : tie.Need-loop-again Inv-loop μ-loop
 unfolding inAuctionAt
 loop-again c = let at = c .before .before .before .before .before .before .before .loop in
-    (omega arith, simp length-set (omega arith), filled-next _ 0 (at .out) (at .i) _ (omega arith) (at .inv .2) (cc))
+    (omega arith, simp length-set (omega arith), filled-next _ 0 (at .out) (at .i) _ (omega arith) (at .inv .2) (simp (c .number-if .ensures, c .before .wide16 .ensures .0, c .before .before .before .is-in .ensures)))
 
 returns : tie.Need-returns Inv-loop μ-loop
 unfolding unitsIn

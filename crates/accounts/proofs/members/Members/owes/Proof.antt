@@ -26,7 +26,10 @@ owed-requires c κs = search needs
 
 returns : tie.Need-returns
 unfolding owesOf
-returns c = cc
+returns c = simp (
+  c .owed .ensures,
+  c .before .has .ensures,
+)
 
 returns-2 : tie.Need-returns-2
 returns-2 c = sym (owes-past (c .before .args .self) (c .before .args .m) (search needs) (search needs) (search needs))

@@ -44,7 +44,7 @@ worst-in-requires c κs = search needs
 
 returns-2 : tie.Need-returns-2
 unfolding worstOf
-returns-2 c = rw (lt-ltb _ _ (c .before .before .before .before .before .before .before .if1 .left)) (cc)
+returns-2 c = rw (lt-ltb _ _ (c .before .before .before .before .before .before .before .if1 .left)) (simp (c .worst-in .ensures, c .before .before .before .both2 .ensures, c .before .before .before .before .before .both .ensures))
 
 pub worst-spec : {M : Type 1} → statement M
 worst-spec =

@@ -19,7 +19,12 @@ worst-requires-4 c κs = search needs
 
 returns : tie.Need-returns
 unfolding worstsOf tab
-returns c = cc
+returns c = simp (
+  c .worst4 .ensures,
+  c .before .worst3 .ensures,
+  c .before .before .worst2 .ensures,
+  c .before .before .before .worst .ensures,
+)
 
 pub worsts-spec : {M : Type 1} → statement M
 worsts-spec =
