@@ -9,7 +9,8 @@ use lib.ListN.{getD, set}
 use Rattle.auction.specs.Price.{zeroPrice}
 use Rattle.units.specs.Places.{movedAt}
 use Rattle.units.specs.Steps.{transferred, repriced, withCounts}
-use Rattle.units.specs.Groups.{noKey, liveKeys, leastKey, keyPlace, keyPrice, poolAt, needed, Passed, passGroups, moveUnits}
+use Rattle.turns.specs.Keys.{noKey, liveKeys, leastKey, keyPlace, keyPrice, needed}
+use Rattle.units.specs.Groups.{poolAt, Passed, passGroups, moveUnits}
 use Rattle.units.specs.declared.Units.{Units}
 
 abbrev pub both : List ℕ → List ℕ → Passed

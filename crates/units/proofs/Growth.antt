@@ -14,7 +14,8 @@ use Rattle.auction.specs.Price.{zeroPrice}
 use Rattle.units.specs.declared.Units.{Units}
 use Rattle.units.specs.Places.{allocatedAt, soldAt, movedAt, missedAt, missedMovedAt}
 use Rattle.units.specs.Steps.{transferred, repriced, poolOf, winOf, soldCounts, sharedCounts, tornUp, missedTo}
-use Rattle.units.specs.Groups.{noKey, leastKey, keyPlace, keyPrice, needed, poolAt, passGroups}
+use Rattle.turns.specs.Keys.{noKey, leastKey, keyPlace, keyPrice, needed}
+use Rattle.units.specs.Groups.{poolAt, passGroups}
 use Rattle.units.proofs.Weighing.{length-transferred}
 use Rattle.units.proofs.Kept.{passed-less}
 use Rattle.units.proofs.Tears.{torn-from, torn-less}

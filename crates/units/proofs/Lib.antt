@@ -1,5 +1,4 @@
 pub mod Numbers
-pub mod Leasts
 pub mod Groups
 pub mod Places
 pub mod Weighing
@@ -7,7 +6,6 @@ pub mod Over
 pub mod Tied
 pub mod Kept
 pub mod Tears
-pub mod Turns
 pub mod Next
 pub mod Moving
 pub mod Passing

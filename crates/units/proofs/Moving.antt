@@ -18,13 +18,14 @@ use Rattle.machine.specs.Roll.{Entry, Bid, noBid, Moved, withState, priceOf}
 use Rattle.machine.specs.Move.{Found, nextFrom, moveUnits}
 use Rattle.units.specs.Places.{soldAt, movedAt, unitAt, Counted}
 use Rattle.units.specs.Steps.{transferred, repriced}
-use Rattle.units.specs.Groups.{noKey, soldKeys, allocatedKey, soldKey, keyAt, keyPlace, keyPrice, poolAt}
+use Rattle.turns.specs.Keys.{noKey, soldKeys, allocatedKey, soldKey, keyAt, keyPlace, keyPrice}
+use Rattle.units.specs.Groups.{poolAt}
 use Rattle.units.proofs.Places.{unit-open, unit-allocated, unit-sold, unit-moved, unit-torn, by-place}
 use Rattle.units.proofs.Weighing.{each-entry, each-unit}
 use Rattle.units.proofs.Over.{Swap, openUnit, over-set}
 use Rattle.units.proofs.Tied.{Tied, transfer-tied}
 use Rattle.units.proofs.Kept.{passed-from, passed-other, passed-less}
-use Rattle.units.proofs.Turns.{unitKey, fits, may-low, key-tells, sold-low, allocated-low}
+use Rattle.turns.proofs.Turns.{unitKey, fits, may-low, key-tells, sold-low, allocated-low}
 use Rattle.units.proofs.Next.{Fine, foundKey, Least, next-least}
 
 -- ---- what a key tells

@@ -12,8 +12,8 @@ use Rattle.lists.proofs.Each.{Each, drop-step}
 use Rattle.machine.specs.Roll.{Entry, Bid}
 use Rattle.machine.specs.Move.{Found, mayMove, turn, later, better, nextFrom}
 use Rattle.units.proofs.Over.{openUnit}
-use Rattle.units.specs.Groups.{noKey}
-use Rattle.units.proofs.Turns.{unitKey, key-order, may-low, may-not}
+use Rattle.turns.specs.Keys.{noKey}
+use Rattle.turns.proofs.Turns.{unitKey, key-order, may-low, may-not}
 
 module _ (bids : List Bid) where
   abbrev pub foundKey : Option Found → ℕ

@@ -21,8 +21,9 @@ use Rattle.machine.specs.Move.{moveUnits, moveAll}
 use Rattle.units.specs.declared.Units.{Units}
 use Rattle.units.specs.Places.{soldAt, movedAt, unitAt, over, weigh}
 use Rattle.units.specs.Steps.{transferred, repriced}
-use Rattle.units.specs.Groups.{noKey, keyAt, liveKey, liveKeys, leastKey, keyPlace, keyPrice, poolAt, needed, passGroups, moveUnits as movedUnits}
-use Rattle.units.proofs.Leasts.{least-is, least-in, count-set-out, count-zero, need-most, need-enough}
+use Rattle.turns.specs.Keys.{noKey, keyAt, liveKey, liveKeys, leastKey, keyPlace, keyPrice, needed}
+use Rattle.units.specs.Groups.{poolAt, passGroups, moveUnits as movedUnits}
+use Rattle.turns.proofs.Leasts.{least-is, least-in, count-set-out, count-zero, need-most, need-enough}
 use Rattle.units.proofs.Groups.{groups-end, groups-stop, groups-turn}
 use Rattle.units.proofs.Places.{sum-split}
 use Rattle.units.proofs.Weighing.{point}

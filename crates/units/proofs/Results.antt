@@ -12,7 +12,6 @@ use Rattle.lists.specs.Lists.{sumTo}
 use Rattle.lists.specs.Adding.{most16, most32, addAt}
 use Rattle.auction.specs.Price.{zeroPrice}
 use Rattle.units.specs.Steps.{transferred, repriced, withCounts, putUpUnits, tornUp, tearUnits}
-use Rattle.units.specs.Groups.{liveKey}
 use Rattle.units.specs.Shown.{column, kindOf, countOf, soldFor, holdingOf, passedOf}
 use Rattle.units.specs.declared.Units.{Units}
 
@@ -118,8 +117,3 @@ pub repriced-is : (sums : List ℕ) (pool n old new a b c d e f r : ℕ) → a �
     → set sums pool r ≡ repriced sums pool n old new
 unfolding repriced
 repriced-is sums pool n old new a b c d e f r ea eb ec ed ee ef er = rw (er, ef, ea, eb, ec, ed, ee)
-
--- ---- keys
-
-pub live-next : (n key key' r : ℕ) → key ≡ key' → r ≡ liveKey n key → r ≡ liveKey n key'
-live-next n key key' r e p = rw (← e) p

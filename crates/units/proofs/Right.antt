@@ -38,7 +38,8 @@ use Rattle.machine.proofs.Later.{Settled, settled-refuses, allocate-settles}
 use Rattle.units.specs.declared.Units.{Units}
 use Rattle.units.specs.Places.{allocatedAt, soldAt, movedAt, tornAt, missedAt, missedMovedAt, unitAt}
 use Rattle.units.specs.Steps.{zeroSum, noUnits, putUpUnits, sellUnits, allocateUnits, tearUnits, missedTo, missUnits}
-use Rattle.units.specs.Groups.{moveUnits, liveKeys}
+use Rattle.turns.specs.Keys.{liveKeys}
+use Rattle.units.specs.Groups.{moveUnits}
 use Rattle.units.proofs.Places.{unit-open, unit-allocated, unit-sold, unit-moved, unit-torn, by-place}
 use Rattle.units.proofs.Weighing.{weigh-none}
 use Rattle.units.proofs.Over.{count-over}

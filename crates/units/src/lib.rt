@@ -2,11 +2,11 @@
 // pool, those sold to a bid, and those torn up, by where they came from. A unit changes by passing from one place to another.
 ghost use mathlib.Core.Path.{_≡_};
 ghost use mathlib.Core.Bool.{cond};
-ghost use Prim.Native.Nat.{_+_, _-_, _*_, _/_, _<_, _≤_, min};
+ghost use Prim.Native.Nat.{_+_, _-_, _*_, _<_, _≤_, min};
 ghost use lib.ListN.{getD};
 ghost use Rattle.auction.specs.Price.{zeroPrice};
 ghost use Rattle.units.specs.Steps.{noUnits, transferred, repriced, withCounts, putUpUnits, sellUnits, allocateUnits, tornUp, tearUnits, missUnits};
-ghost use Rattle.units.specs.Groups.{allocatedKey, soldKey, keyAt, liveKey, liveKeys, leastKey, keyPlace, keyPrice, poolAt, needed, moveUnits};
+ghost use Rattle.units.specs.Groups.{poolAt, moveUnits};
 ghost use Rattle.units.specs.Shown.{openOf, column, soldIn, countOf, soldFor, holdingOf, passedOf, pricesOf};
 
 // `counts`: 0 to 3 the open units of a pool; from 4 on those allocated to member m in pool p, at 4 × m + p; from 132 on those sold to a bid; from 388 on those
@@ -19,11 +19,6 @@ pub struct Units {
     pub allocation: [u32; 4],
     pub tearup: [u32; 260],
 }
-
-// The key of what may not move, above all others, and the least key of a sold unit.
-const NO_KEY: u32 = 536_870_912;
-
-const SOLD_KEYS: u32 = 268_435_456;
 
 // ---- units that pass from place to place
 
@@ -85,102 +80,7 @@ fn missed_in(u: Units, m: usize, pool: usize, price: u32) -> Units
     torn_up(next, 388 + k, 648 + k, 1_000_000, price)
 }
 
-// ---- the turns of MOVE, over the 384 places from 4 on
-
-// The key of a member's allocated units: "lowest price, then higher pool, then higher member".
-fn allocated_key(price: u32, pool: usize, member: usize) -> u32
-    requires { ⌜ (pool < 4) × (member < 32) ⌝ }
-    ensures { λ r. ⌜ r ≡ allocatedKey price pool member ⌝ }
-{
-    if price < 1_000_000 {
-        price * 256 + ((3 - pool as u32) * 32 + (31 - member as u32))
-    } else {
-        NO_KEY
-    }
-}
-
-// The key of a bid's units: "lowest price, then later bid", behind every allocated unit.
-fn sold_key(price: u32, bid: usize) -> u32
-    requires { ⌜ bid < 256 ⌝ }
-    ensures { λ r. ⌜ r ≡ soldKey price bid ⌝ }
-{
-    if price < 1_000_000 {
-        SOLD_KEYS + (price * 256 + (255 - bid as u32))
-    } else {
-        NO_KEY
-    }
-}
-
-// The key of the units at place j; the prices of ALLOCATE and of the bids are lent.
-fn key_at(allocation: &[u32; 4], prices: &[u32; 256], j: usize) -> u32
-    requires { ⌜ j < 384 ⌝ }
-    ensures { λ r. ⌜ r ≡ keyAt (now (allocation .entry)) (now (prices .entry)) j ⌝ }
-{
-    if j < 128 {
-        return allocated_key(allocation[j % 4], j % 4, j / 4);
-    }
-    sold_key(prices[j - 128], j - 128)
-}
-
-// The key of a place that has n units.
-fn live_key(n: u16, key: u32) -> u32
-    ensures { λ r. ⌜ r ≡ liveKey n key ⌝ }
-{
-    if n == 0 { NO_KEY } else { key }
-}
-
-// The keys of the places that have units.
-fn live_keys(counts: &[u16; 776], allocation: &[u32; 4], prices: &[u32; 256]) -> [u32; 384]
-    ensures { λ r. ⌜ r ≡ liveKeys (now (allocation .entry)) (now (prices .entry)) (now (counts .entry)) ⌝ }
-{
-    let mut keys = [NO_KEY; 384];
-    let mut j: usize = 0;
-    while j < 384 {
-        keys[j] = live_key(counts[4 + j], key_at(allocation, prices, j));
-        j += 1;
-    }
-    keys
-}
-
-// The lower of two keys.
-fn lower(a: u32, b: u32) -> u32
-    ensures { λ r. ⌜ r ≡ min a b ⌝ }
-{
-    if a < b { a } else { b }
-}
-
-// The least of keys.
-fn least_key(keys: &[u32]) -> u32
-    ensures { λ r. ⌜ r ≡ leastKey (now (keys .entry)) ⌝ }
-{
-    let mut least: u32 = NO_KEY;
-    let mut j: usize = keys.len();
-    while 0 < j {
-        j -= 1;
-        least = lower(keys[j], least);
-    }
-    least
-}
-
-// The place that a key tells.
-fn key_place(key: u32) -> usize
-    ensures { λ r. ⌜ (r ≡ keyPlace key) × (r < 384) ⌝ }
-{
-    let low = lists::wide32(key % 256);
-    if key < SOLD_KEYS {
-        return (4 * lists::less(31, low % 32) + lists::less(3, low / 32)) as usize;
-    }
-    lists::less(383, low) as usize
-}
-
-// The price that a key tells.
-fn key_price(key: u32) -> u32
-    ensures { λ r. ⌜ (r ≡ keyPrice key) × (r < 1048576) ⌝ }
-{
-    key / 256 % 1_048_576
-}
-
-// The pool of the units at place j; the pools of the bids are lent.
+// The pool of the units at place j of the 384 from 4 on; the pools of the bids are lent.
 fn pool_at(pools: &[u8; 256], j: usize) -> usize
     requires { ⌜ j < 384 ⌝ }
     ensures { λ r. ⌜ (r ≡ poolAt (now (pools .entry)) j) × (r < 4) ⌝ }
@@ -189,25 +89,6 @@ fn pool_at(pools: &[u8; 256], j: usize) -> usize
         return j % 4;
     }
     pool_place(pools[j - 128])
-}
-
-// The quotient, and 0 for a divisor of 0.
-fn quotient(a: u64, b: u64) -> u64
-    ensures { λ r. ⌜ r ≡ a / b ⌝ }
-{
-    if b == 0 { 0 } else { a / b }
-}
-
-// So many units at one saving are needed to save what is owed, as far as there are units.
-fn units_needed(has: u16, owed: u64, saving: u64) -> u16
-    ensures { λ r. ⌜ r ≡ min has (needed owed saving) ⌝ }
-{
-    let most = lists::wide16(has);
-    let more = quotient(lists::less(owed, 1), saving);
-    if more < most {
-        return lists::narrow16(lists::smaller(most, 1 + more));
-    }
-    has
 }
 
 // ---- what is added up
@@ -386,19 +267,19 @@ impl Units {
         let allocation = self.allocation;
         let mut counts = self.counts;
         let mut sums = self.sums;
-        let mut keys = live_keys(&counts, &allocation, prices);
+        let mut keys = turns::live_keys(&counts, &allocation, prices);
         let mut left = owed;
         let mut turn: usize = 0;
         while turn < 384 {
-            let key = least_key(&keys);
-            if lists::either(left == 0, NO_KEY <= key) {
+            let key = turns::least_key(&keys);
+            if lists::either(left == 0, turns::NO_KEY <= key) {
                 return with_counts(self, counts, sums);
             }
-            let j = key_place(key);
+            let j = turns::key_place(key);
             let pool = pool_at(pools, j);
-            let price = key_price(key);
+            let price = turns::key_price(key);
             let saving = lists::less(1_000_000, lists::wide32(price));
-            let n = units_needed(counts[4 + j], left, saving);
+            let n = turns::units_needed(counts[4 + j], left, saving);
             transfer(
                 &mut counts,
                 4 + j,
@@ -406,7 +287,7 @@ impl Units {
                 n,
             );
             reprice(&mut sums, pool, n, price, 1_000_000);
-            keys[j] = NO_KEY;
+            keys[j] = turns::NO_KEY;
             left = lists::less(left, lists::wide16(n) * saving);
             turn += 1;
         }

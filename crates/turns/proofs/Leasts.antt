@@ -1,4 +1,4 @@
--- The least of keys, and how many units are needed. Assumes nothing.
+-- The keys of places that have units, the least of keys, and how many units are needed. Assumes nothing.
 use mathlib.Core.Path.{_≡_, sym, ap, _∙_}
 use mathlib.Core.Bool.{Bool, true, false}
 use mathlib.Core.Logic.{⊎-elim}
@@ -10,7 +10,10 @@ use lib.ListN.{length, getD, set, drop}
 use lib.Seq.{drop-cons}
 use Rattle.lists.specs.Lists.{count, oneIf}
 use Rattle.lists.proofs.Bools.{cases, lt-or-le}
-use Rattle.units.specs.Groups.{noKey, leastKey, needed}
+use Rattle.turns.specs.Keys.{liveKey, noKey, leastKey, needed}
+
+pub live-next : (n key key' r : ℕ) → key ≡ key' → r ≡ liveKey n key → r ≡ liveKey n key'
+live-next n key key' r e p = rw (← e) p
 
 -- one key more, from the end on
 pub least-step : (keys : List ℕ) (j : ℕ) → 0 < j → j ≤ length keys → min (getD keys (j - 1) 0) (leastKey (drop j keys)) ≡ leastKey (drop (j - 1) keys)

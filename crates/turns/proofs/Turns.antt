@@ -14,7 +14,7 @@ use Rattle.lists.proofs.Bools.{order-of, leb-same, lt-or-le, cases, by-test, an
 use Rattle.auction.specs.Price.{negative}
 use Rattle.machine.specs.Roll.{UnitState, Open, Sold, Allocated, Moved, Torn, Entry, Bid, noBid, kind, priceOf}
 use Rattle.machine.specs.Move.{mayMove, turn, later}
-use Rattle.units.specs.Groups.{noKey, soldKeys, soldKey, allocatedKey}
+use Rattle.turns.specs.Keys.{noKey, soldKeys, soldKey, allocatedKey}
 
 -- ---- numbers by their digits
 

@@ -1,10 +1,10 @@
--- `units::key_place` meets its contract. Assumes nothing.
+-- `turns::key_place` meets its contract. Assumes nothing.
 use native.Mathlib.Omega.{arith}
 use borrow.Author.Tests.{lt-ltb, le-ltb}
-use Rattle.units.specs.Groups.{keyPlace}
+use Rattle.turns.specs.Keys.{keyPlace}
 use borrow.Author.Needs.{needs}
-use Rattle.units.proofs.key_place.Statement.{statement}
-use Rattle.units.proofs.key_place.Tie as tie
+use Rattle.turns.proofs.key_place.Statement.{statement}
+use Rattle.turns.proofs.key_place.Tie as tie
 
 wide32-requires : tie.Need-wide32-requires
 wide32-requires c κs = search needs

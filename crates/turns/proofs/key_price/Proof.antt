@@ -1,9 +1,9 @@
--- `units::key_price` meets its contract. Assumes nothing.
+-- `turns::key_price` meets its contract. Assumes nothing.
 use native.Mathlib.Omega.{arith}
 use mathlib.Core.Path.{refl}
-use Rattle.units.specs.Groups.{keyPrice}
-use Rattle.units.proofs.key_price.Statement.{statement}
-use Rattle.units.proofs.key_price.Tie as tie
+use Rattle.turns.specs.Keys.{keyPrice}
+use Rattle.turns.proofs.key_price.Statement.{statement}
+use Rattle.turns.proofs.key_price.Tie as tie
 
 returns : tie.Need-returns
 unfolding keyPrice

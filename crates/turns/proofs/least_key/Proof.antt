@@ -1,14 +1,14 @@
-use Rattle.units.proofs.Leasts.{least-step}
--- `units::least_key` meets its contract. The invariant: the least so far is that of the keys from j on. Assumes nothing.
+use Rattle.turns.proofs.Leasts.{least-step}
+-- `turns::least_key` meets its contract. The invariant: the least so far is that of the keys from j on. Assumes nothing.
 use mathlib.Core.Path.{_≡_, _∙_}
 use Prim.Native.Nat.{_≤_}
 use native.Mathlib.Omega.{arith}
 use lib.ListN.{length, drop}
 use lib.Seq.{drop-length}
-use Rattle.units.specs.Groups.{leastKey}
+use Rattle.turns.specs.Keys.{leastKey}
 use borrow.Author.Needs.{needs}
-use Rattle.units.proofs.least_key.Statement.{statement}
-use Rattle.units.proofs.least_key.Tie as tie
+use Rattle.turns.proofs.least_key.Statement.{statement}
+use Rattle.turns.proofs.least_key.Tie as tie
 
 abbrev Inv-loop : tie.InvT-loop
 Inv-loop keys least₀ j₀ least j = (j ≤ length keys) × (least ≡ leastKey (drop j keys))

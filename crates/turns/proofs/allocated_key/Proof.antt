@@ -1,10 +1,10 @@
--- `units::allocated_key` meets its contract. Assumes nothing.
+-- `turns::allocated_key` meets its contract. Assumes nothing.
 use native.Mathlib.Omega.{arith}
 use borrow.Author.Tests.{lt-ltb, le-ltb}
-use Rattle.units.specs.Groups.{allocatedKey}
+use Rattle.turns.specs.Keys.{allocatedKey}
 use borrow.Author.Needs.{needs}
-use Rattle.units.proofs.allocated_key.Statement.{statement}
-use Rattle.units.proofs.allocated_key.Tie as tie
+use Rattle.turns.proofs.allocated_key.Statement.{statement}
+use Rattle.turns.proofs.allocated_key.Tie as tie
 
 mul-result : tie.Need-mul-result
 mul-result c = search needs

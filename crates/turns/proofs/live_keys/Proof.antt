@@ -1,15 +1,15 @@
--- `units::live_keys` meets its contract. The invariant: the places passed hold their keys. Assumes nothing.
+-- `turns::live_keys` meets its contract. The invariant: the places passed hold their keys. Assumes nothing.
 use mathlib.Core.Path.{_≡_}
 use Prim.Native.Nat.{ℕ, _+_, _-_, _≤_, _<_}
 use native.Mathlib.Omega.{arith}
 use lib.ListN.{length, getD, length-set}
 use borrow.Author.Count.{below-none}
 use Rattle.lists.proofs.Places.{filled-next, tab-of}
-use Rattle.units.specs.Groups.{keyAt, liveKey, liveKeys}
-use Rattle.units.proofs.Results.{live-next}
+use Rattle.turns.specs.Keys.{keyAt, liveKey, liveKeys}
+use Rattle.turns.proofs.Leasts.{live-next}
 use borrow.Author.Needs.{needs}
-use Rattle.units.proofs.live_keys.Statement.{statement}
-use Rattle.units.proofs.live_keys.Tie as tie
+use Rattle.turns.proofs.live_keys.Statement.{statement}
+use Rattle.turns.proofs.live_keys.Tie as tie
 
 abbrev Inv-loop : tie.InvT-loop
 Inv-loop counts allocation prices keys₀ j₀ keys j = (j ≤ 384) × (length keys ≡ 384) × ((k : ℕ) → k < j → getD keys k 0 ≡ liveKey (getD counts (4 + k) 0) (keyAt allocation prices k))

@@ -1,10 +1,10 @@
--- `units::sold_key` meets its contract. Assumes nothing.
+-- `turns::sold_key` meets its contract. Assumes nothing.
 use native.Mathlib.Omega.{arith}
 use borrow.Author.Tests.{lt-ltb, le-ltb}
-use Rattle.units.specs.Groups.{soldKey}
+use Rattle.turns.specs.Keys.{soldKey}
 use borrow.Author.Needs.{needs}
-use Rattle.units.proofs.sold_key.Statement.{statement}
-use Rattle.units.proofs.sold_key.Tie as tie
+use Rattle.turns.proofs.sold_key.Statement.{statement}
+use Rattle.turns.proofs.sold_key.Tie as tie
 
 mul-result : tie.Need-mul-result
 mul-result c = search needs

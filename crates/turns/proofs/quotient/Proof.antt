@@ -1,9 +1,9 @@
 use mathlib.Core.Path.{sym}
 use native.Mathlib.Nat.{div-zero}
--- `units::quotient` meets its contract. Assumes nothing.
+-- `turns::quotient` meets its contract. Assumes nothing.
 use borrow.Author.Needs.{needs}
-use Rattle.units.proofs.quotient.Statement.{statement}
-use Rattle.units.proofs.quotient.Tie as tie
+use Rattle.turns.proofs.quotient.Statement.{statement}
+use Rattle.turns.proofs.quotient.Tie as tie
 
 div-result : tie.Need-div-result
 div-result c = search needs

@@ -1,10 +1,10 @@
--- `units::key_at` meets its contract. Assumes nothing.
+-- `turns::key_at` meets its contract. Assumes nothing.
 use native.Mathlib.Omega.{arith}
 use borrow.Author.Tests.{lt-ltb, le-ltb}
-use Rattle.units.specs.Groups.{keyAt}
+use Rattle.turns.specs.Keys.{keyAt}
 use borrow.Author.Needs.{needs}
-use Rattle.units.proofs.key_at.Statement.{statement}
-use Rattle.units.proofs.key_at.Tie as tie
+use Rattle.turns.proofs.key_at.Statement.{statement}
+use Rattle.turns.proofs.key_at.Tie as tie
 
 mul-allocated-key : tie.Need-mul-allocated-key
 mul-allocated-key c = search needs

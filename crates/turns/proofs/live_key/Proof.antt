@@ -1,7 +1,7 @@
--- `units::live_key` meets its contract. Assumes nothing.
+-- `turns::live_key` meets its contract. Assumes nothing.
 use borrow.Author.Tests.{eq-eqb, ne-eqb}
-use Rattle.units.proofs.live_key.Statement.{statement}
-use Rattle.units.proofs.live_key.Tie as tie
+use Rattle.turns.proofs.live_key.Statement.{statement}
+use Rattle.turns.proofs.live_key.Tie as tie
 
 returns : tie.Need-returns
 returns c = rw (eq-eqb _ _ (c .if1 .taken))

@@ -1,11 +1,11 @@
 use mathlib.Core.Path.{ap}
 use Prim.Native.Nat.{ℕ, _/_}
--- `units::units_needed` meets its contract. Assumes nothing.
+-- `turns::units_needed` meets its contract. Assumes nothing.
 use native.Mathlib.Omega.{arith}
-use Rattle.units.specs.Groups.{needed}
+use Rattle.turns.specs.Keys.{needed}
 use borrow.Author.Needs.{needs}
-use Rattle.units.proofs.units_needed.Statement.{statement}
-use Rattle.units.proofs.units_needed.Tie as tie
+use Rattle.turns.proofs.units_needed.Statement.{statement}
+use Rattle.turns.proofs.units_needed.Tie as tie
 
 wide16-requires : tie.Need-wide16-requires
 wide16-requires c κs = search needs
