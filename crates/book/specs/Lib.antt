@@ -1,6 +1,5 @@
 pub mod Stages
 pub mod Books
-pub mod Answers
 pub mod Results
 pub mod View
 pub mod Computing

@@ -1,4 +1,4 @@
-// The book of a case (document 01): all but its stage. It says why a call is declined, how each call changes it, what is called and what is charged.
+// The book of a case (document 01): all but its stage. It says how each call changes it, what is called and what is charged.
 ghost use mathlib.Core.Path.{_≡_};
 ghost use mathlib.Core.List.{[], _∷_};
 ghost use Prim.Native.Nat.{ℕ, _≤_};
@@ -12,7 +12,6 @@ ghost use Rattle.accounts.specs.Members.{shortfallsOf};
 ghost use Rattle.book.specs.Stages.{letterOf, roundOf, nextRound};
 ghost use Rattle.book.specs.Books.{openIn, anyOpenIn, passedIn, pricesIn, requirementIn, contributionsIn, prefundedIn, shortIn, allocationIn, callsIn};
 ghost use Rattle.book.specs.Books.{newBook, poolBook, memberBook, roundBook, bidBook, closeBook, allocateBook, tearBook, callBook, payBook, moveBook, missBook};
-ghost use Rattle.book.specs.Answers.{expectedOk, headAnswer, poolAnswer, memberAnswer, roundAnswer, bidAnswer, closeAnswer, allocateAnswer, tearAnswer, callAnswer, payAnswer, moveAnswer, missAnswer, finishAnswer};
 ghost use Rattle.book.specs.Results.{limitsIn, ranksIn, resultIn};
 use accounts::bids::Bids;
 use accounts::members::Members;
@@ -85,110 +84,6 @@ pub fn next_round(round: u8) -> u8
     if round < 255 { round + 1 } else { 255 }
 }
 
-// ---- "5. A number is out of range."
-
-// Whether a price is in range.
-fn price_ok(price: u32) -> bool
-    ensures { λ r. ⌜ r ≡ priceOk price ⌝ }
-{
-    price <= Call::MAX_PRICE
-}
-
-// Whether the numbers of HEAD are in range.
-fn head_ok(h: Head) -> bool
-    ensures { λ r. ⌜ r ≡ headOk (headOf h) ⌝ }
-{
-    let money = lists::both(
-        h.fund <= Head::MAX_FUND,
-        lists::both(h.house <= Head::MAX_HOUSE_MONEY, true),
-    );
-    let losses = lists::both(
-        h.other <= Head::MAX_OTHER_LOSS,
-        lists::both(h.margin <= Head::MAX_MARGIN, money),
-    );
-    let rest = lists::both(
-        Head::NO_MEMBER < h.set,
-        lists::both(h.hedge <= Head::MAX_HEDGE_LOSS, losses),
-    );
-    let least = lists::both(
-        lists::both(
-            Head::MIN_LEAST_BID <= h.least,
-            h.least <= Head::MAX_LEAST_BID,
-        ),
-        rest,
-    );
-    lists::both(
-        lists::both(Head::MIN_POOLS <= h.pools, h.pools <= Head::MAX_POOLS),
-        least,
-    )
-}
-
-// Whether units put up or bid for are in range.
-fn units_ok(units: u16) -> bool
-    ensures { λ r. ⌜ r ≡ between 1 1000 units ⌝ }
-{
-    lists::both(Call::MIN_UNITS <= units, units <= Call::MAX_UNITS)
-}
-
-// Whether a pool's units and mark are in range.
-fn pool_ok(units: u16, mark: u8) -> bool
-    ensures { λ r. ⌜ r ≡ poolOk units mark ⌝ }
-{
-    lists::both(units_ok(units), mark <= Call::MAX_MARK)
-}
-
-// Whether expected units are in range: "to 1,000, and 0 for a pool the case lacks".
-fn expected_ok(lies: bool, n: u16) -> bool
-    ensures { λ r. ⌜ r ≡ expectedOk lies n ⌝ }
-{
-    if lies {
-        n <= Call::MAX_EXPECTED
-    } else {
-        n == 0
-    }
-}
-
-// Whether the numbers of MEMBER are in range.
-fn member_ok(pools: u8, contribution: u32, p: u16, q: u16, r: u16, s: u16) -> bool
-    ensures { λ x. ⌜ x ≡ memberOk pools contribution (p ∷ q ∷ r ∷ s ∷ []) ⌝ }
-{
-    let first = lists::both(expected_ok(0 < pools, p), expected_ok(1 < pools, q));
-    let last = lists::both(expected_ok(2 < pools, r), expected_ok(3 < pools, s));
-    lists::both(
-        contribution <= Call::MAX_CONTRIBUTION,
-        lists::both(first, last),
-    )
-}
-
-// Whether the reserves of ROUND are in range.
-fn reserves_ok(n: u8, p: u32, q: u32, r: u32, s: u32) -> bool
-    ensures { λ x. ⌜ x ≡ all priceOk (take n (p ∷ q ∷ r ∷ s ∷ [])) ⌝ }
-{
-    let first = lists::both(
-        lists::either(n <= 0, price_ok(p)),
-        lists::either(n <= 1, price_ok(q)),
-    );
-    let last = lists::both(
-        lists::either(n <= 2, price_ok(r)),
-        lists::either(n <= 3, price_ok(s)),
-    );
-    lists::both(first, last)
-}
-
-// Whether a bid's units and price are in range.
-fn bid_ok(units: u16, price: u32) -> bool
-    ensures { λ r. ⌜ r ≡ bidOk units price ⌝ }
-{
-    lists::both(units_ok(units), price_ok(price))
-}
-
-// Whether a payment is in range.
-fn payment_ok(amount: u32) -> bool
-    ensures { λ r. ⌜ r ≡ paymentOk amount ⌝ }
-{
-    lists::both(Call::MIN_PAYMENT <= amount, amount <= Call::MAX_PAYMENT)
-}
-
 // The sum of 32 shortfalls.
 fn sum_of_shortfalls(xs: [u64; 32]) -> u64
     requires { ⌜ ((k : ℕ) → getD xs k 0 ≤ most16) ⌝ }
@@ -204,7 +99,7 @@ fn sum_of_shortfalls(xs: [u64; 32]) -> u64
 }
 
 // The total shortfall of a pool.
-fn total_shortfall(
+pub fn total_shortfall(
     set: u32,
     expected: [u16; 128],
     won: [u16; 128],
@@ -215,22 +110,6 @@ fn total_shortfall(
 {
     let xs = accounts::members::shortfalls(set, expected, won, allocated, pool);
     sum_of_shortfalls(xs)
-}
-
-// Why HEAD is declined where there is no case, or 0.
-pub fn head_answer(h: Head) -> u8
-    ensures { λ r. ⌜ r ≡ headAnswer h ⌝ }
-{
-    let ok = head_ok(h);
-    lists::decline_if(!ok, 5, 0)
-}
-
-// Why CLOSE is declined, or 0.
-pub fn close_answer(stage: Stage) -> u8
-    ensures { λ r. ⌜ r ≡ closeAnswer stage ⌝ }
-{
-    let letter = letter(stage);
-    lists::decline_if(letter != 2, 2, 0)
 }
 
 impl Book {
@@ -359,203 +238,6 @@ impl Book {
         let mut shares = [0u64; 32];
         splitting::split(q, &weights, &mut shares);
         accounts::members::narrowed32(shares)
-    }
-
-    // ---- why a call is declined, or 0. Tests that sum over the members are asked after the others.
-
-    pub fn pool_answer(self, stage: Stage, pool: u8, units: u16, mark: u8) -> u8
-        ensures { λ r. ⌜ r ≡ poolAnswer stage self pool units mark ⌝ }
-    {
-        let letter = letter(stage);
-        let head = self.head;
-        let pools = self.pools;
-        let ok = pool_ok(units, mark);
-        let a5 = lists::decline_if(!ok, 5, 0);
-        let a3 = lists::decline_if(
-            lists::either(head.pools <= pool, pool != pools.given),
-            3,
-            a5,
-        );
-        lists::decline_if(letter != 1, 2, a3)
-    }
-
-    pub fn member_answer(
-        self,
-        stage: Stage,
-        m: u8,
-        contribution: u32,
-        p: u16,
-        q: u16,
-        r: u16,
-        s: u16,
-    ) -> u8
-        ensures { λ x. ⌜ x ≡ memberAnswer stage self m contribution p q r s ⌝ }
-    {
-        let letter = letter(stage);
-        let head = self.head;
-        let members = self.members;
-        let in_set = sets::has(head.set, m);
-        let given = sets::has(members.given, m);
-        let ok = member_ok(head.pools, contribution, p, q, r, s);
-        let a5 = lists::decline_if(!ok, 5, 0);
-        let a4 = lists::decline_if(lists::either(!in_set, given), 4, a5);
-        lists::decline_if(letter != 1, 2, a4)
-    }
-
-    pub fn round_answer(self, stage: Stage, n: u8, p: u32, q: u32, r: u32, s: u32) -> u8
-        ensures { λ x. ⌜ x ≡ roundAnswer stage self n p q r s ⌝ }
-    {
-        let letter = letter(stage);
-        let round = round_of(stage);
-        let head = self.head;
-        let pools = self.pools;
-        let members = self.members;
-        let any_open = self.any_open();
-        let ok = reserves_ok(n, p, q, r, s);
-        let a10 = lists::decline_if(
-            lists::either(pools.given < head.pools, members.given != head.set),
-            10,
-            0,
-        );
-        let a8 = lists::decline_if(lists::both(letter == 3, !any_open), 8, a10);
-        let a5 = lists::decline_if(!ok, 5, a8);
-        let may = lists::either(letter == 1, lists::both(letter == 3, round == 1));
-        let a2 = lists::decline_if(!may, 2, a5);
-        lists::decline_if(n != head.pools, 1, a2)
-    }
-
-    pub fn bid_answer(self, stage: Stage, pool: u8, m: u8, units: u16, price: u32) -> u8
-        ensures { λ r. ⌜ r ≡ bidAnswer stage self pool m units price ⌝ }
-    {
-        let letter = letter(stage);
-        let head = self.head;
-        let bids = self.bids;
-        let in_set = sets::has(head.set, m);
-        let open = self.open_units(pool);
-        let ok = bid_ok(units, price);
-        let a8 = lists::decline_if(open == 0, 8, 0);
-        let a7 = lists::decline_if(256 <= bids.kept, 7, a8);
-        let a6 = lists::decline_if(units < head.least, 6, a7);
-        let a5 = lists::decline_if(!ok, 5, a6);
-        let a4 = lists::decline_if(!in_set, 4, a5);
-        let a3 = lists::decline_if(head.pools <= pool, 3, a4);
-        lists::decline_if(letter != 2, 2, a3)
-    }
-
-    pub fn allocate_answer(self, stage: Stage, pool: u8, price: u32) -> u8
-        ensures { λ r. ⌜ r ≡ allocateAnswer stage self pool price ⌝ }
-    {
-        let letter = letter(stage);
-        let head = self.head;
-        let pools = self.pools;
-        let mark = pools.mark(pool);
-        let open = self.open_units(pool);
-        let ok = price_ok(price);
-        let a9 = lists::decline_if(mark == 1, 9, 0);
-        let a8 = lists::decline_if(open == 0, 8, a9);
-        let a5 = lists::decline_if(!ok, 5, a8);
-        let a3 = lists::decline_if(head.pools <= pool, 3, a5);
-        let first = lists::decline_if(letter != 3, 2, a3);
-        if first != 0 {
-            return first;
-        }
-        let members = self.members;
-        let expected = members.expected;
-        let won = members.won;
-        let allocated = members.allocated;
-        let short = total_shortfall(head.set, expected, won, allocated, pool);
-        lists::decline_if(short == 0, 10, 0)
-    }
-
-    pub fn tear_answer(self, stage: Stage, pool: u8, price: u32) -> u8
-        ensures { λ r. ⌜ r ≡ tearAnswer stage self pool price ⌝ }
-    {
-        let letter = letter(stage);
-        let head = self.head;
-        let open = self.open_units(pool);
-        let ok = price_ok(price);
-        let a8 = lists::decline_if(open == 0, 8, 0);
-        let a5 = lists::decline_if(!ok, 5, a8);
-        let a3 = lists::decline_if(head.pools <= pool, 3, a5);
-        lists::decline_if(letter != 3, 2, a3)
-    }
-
-    pub fn call_answer(self, stage: Stage) -> u8
-        ensures { λ r. ⌜ r ≡ callAnswer stage self ⌝ }
-    {
-        let letter = letter(stage);
-        let any_open = self.any_open();
-        let a11 = lists::decline_if(any_open, 11, 0);
-        let first = lists::decline_if(letter != 3, 2, a11);
-        if first != 0 {
-            return first;
-        }
-        let required = self.requirement();
-        let held = self.prefunded();
-        lists::decline_if(required <= held, 12, 0)
-    }
-
-    pub fn pay_answer(self, stage: Stage, m: u8, amount: u32) -> u8
-        ensures { λ r. ⌜ r ≡ payAnswer stage self m amount ⌝ }
-    {
-        let letter = letter(stage);
-        let head = self.head;
-        let members = self.members;
-        let in_set = sets::has(head.set, m);
-        let owed = members.owes(m);
-        let ok = payment_ok(amount);
-        let a14 = lists::decline_if(owed < amount as u64, 14, 0);
-        let a5 = lists::decline_if(!ok, 5, a14);
-        let a4 = lists::decline_if(!in_set, 4, a5);
-        lists::decline_if(letter != 4, 2, a4)
-    }
-
-    pub fn move_answer(self, stage: Stage, m: u8) -> u8
-        ensures { λ r. ⌜ r ≡ moveAnswer stage self m ⌝ }
-    {
-        let letter = letter(stage);
-        let head = self.head;
-        let members = self.members;
-        let in_set = sets::has(head.set, m);
-        let owed = members.owes(m);
-        let a14 = lists::decline_if(owed == 0, 14, 0);
-        let a4 = lists::decline_if(!in_set, 4, a14);
-        lists::decline_if(letter != 4, 2, a4)
-    }
-
-    pub fn miss_answer(self, stage: Stage, m: u8, price: u32) -> u8
-        ensures { λ r. ⌜ r ≡ missAnswer stage self m price ⌝ }
-    {
-        let letter = letter(stage);
-        let head = self.head;
-        let in_set = sets::has(head.set, m);
-        let passed = self.passed(m);
-        let ok = price_ok(price);
-        let a16 = lists::decline_if(passed == 0, 16, 0);
-        let a5 = lists::decline_if(!ok, 5, a16);
-        let a4 = lists::decline_if(!in_set, 4, a5);
-        let may = lists::either(letter == 3, letter == 4);
-        lists::decline_if(!may, 2, a4)
-    }
-
-    pub fn finish_answer(self, stage: Stage) -> u8
-        ensures { λ r. ⌜ r ≡ finishAnswer stage self ⌝ }
-    {
-        let letter = letter(stage);
-        let any_open = self.any_open();
-        let a11 = lists::decline_if(any_open, 11, 0);
-        let may = lists::either(letter == 3, letter == 4);
-        let first = lists::decline_if(!may, 2, a11);
-        if first != 0 {
-            return first;
-        }
-        let required = self.requirement();
-        let held = self.prefunded();
-        let members = self.members;
-        let head = self.head;
-        let owing = members.someone_owes(head.set);
-        let a15 = lists::decline_if(owing, 15, 0);
-        lists::decline_if(lists::both(letter == 3, held < required), 13, a15)
     }
 
     // ---- how each call changes it

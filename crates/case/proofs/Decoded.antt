@@ -26,7 +26,7 @@ use Rattle.case.specs.declared.Case.{Case}
 use Rattle.case.specs.View.{view}
 use Rattle.case.specs.Claim.{Read}
 use Rattle.case.specs.Cases.{headFrom, caseAnswer, firstAnswer}
-use Rattle.book.proofs.AnswersShown.{head-answer, pool-answer, member-answer, round-answer, bid-answer, close-answer, allocate-answer, tear-answer, call-answer, pay-answer, move-answer, miss-answer, finish-answer}
+use Rattle.refusals.proofs.AnswersShown.{head-answer, pool-answer, member-answer, round-answer, bid-answer, close-answer, allocate-answer, tear-answer, call-answer, pay-answer, move-answer, miss-answer, finish-answer}
 
 -- ---- the bytes
 

@@ -20,7 +20,7 @@ use Rattle.wire.specs.declared.Call.the-variants.{Round}
 use Rattle.book.specs.declared.Stage.the-variants.{Bidding}
 use Rattle.book.specs.Stages.{roundOf, nextRound}
 use Rattle.book.specs.Books.{roundBook}
-use Rattle.book.specs.Answers.{headAnswer}
+use Rattle.refusals.specs.Answers.{headAnswer}
 use Rattle.case.specs.declared.Case.{Case}
 use Rattle.case.specs.declared.Outcome.{Outcome}
 use Rattle.case.specs.declared.Held.{Held}

@@ -11,7 +11,7 @@ use Rattle.lists.specs.Tests.{Test, firstOf}
 use Rattle.lists.proofs.Bools.{either, and-left, and-right}
 use Rattle.lists.proofs.Each.{Each}
 use Rattle.machine.specs.Wire as Wire
-use Rattle.book.specs.Answers.{headAnswer, poolAnswer, memberAnswer, roundAnswer, bidAnswer, closeAnswer, allocateAnswer, tearAnswer, callAnswer, payAnswer, moveAnswer, missAnswer, finishAnswer}
+use Rattle.refusals.specs.Answers.{headAnswer, poolAnswer, memberAnswer, roundAnswer, bidAnswer, closeAnswer, allocateAnswer, tearAnswer, callAnswer, payAnswer, moveAnswer, missAnswer, finishAnswer}
 use Rattle.case.specs.declared.Case.{Case}
 use Rattle.case.specs.declared.Held.{Held}
 use Rattle.case.specs.Cases.{caseAnswer, firstAnswer, caseAnswerTo, firstAnswerTo, answerTo, takeAsked, applied}

@@ -14,7 +14,8 @@ use Rattle.input.specs.Computing.{computing as input·computing}
 use Rattle.units.specs.Computing.{computing as units·computing}
 use Rattle.accounts.specs.Computing.{computing as accounts·computing}
 use Rattle.book.specs.Computing.{computing as book·computing}
+use Rattle.refusals.specs.Computing.{computing as refusals·computing}
 
 unfoldable pub computing : Unit {0}
-unfolding Cases·caseAnswer Cases·firstAnswer Cases·caseAnswerTo Cases·firstAnswerTo Cases·answerTo Cases·reservesAnswer Cases·newCase Cases·caseAfter Cases·afterAsked Cases·noHeld Cases·takeAsked Cases·applied Cases·headOutcome Cases·outcomeOf Readings·countsIn Readings·holdingIn Readings·sumOfPricesIn Readings·shownResult Readings·seen Input·ledgerAfter Input·ledgerAnswers Claim·ledgerFrom lists·computing sets·computing splitting·computing auction·computing waterfall·computing machine·computing wire·computing input·computing units·computing accounts·computing book·computing
+unfolding Cases·caseAnswer Cases·firstAnswer Cases·caseAnswerTo Cases·firstAnswerTo Cases·answerTo Cases·reservesAnswer Cases·newCase Cases·caseAfter Cases·afterAsked Cases·noHeld Cases·takeAsked Cases·applied Cases·headOutcome Cases·outcomeOf Readings·countsIn Readings·holdingIn Readings·sumOfPricesIn Readings·shownResult Readings·seen Input·ledgerAfter Input·ledgerAnswers Claim·ledgerFrom lists·computing sets·computing splitting·computing auction·computing waterfall·computing machine·computing wire·computing input·computing units·computing accounts·computing book·computing refusals·computing
 computing = tt

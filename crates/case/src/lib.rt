@@ -95,7 +95,8 @@ fn reserves_answer(case: Case, n: u8, p: u32, q: u32, r: u32, s: u32) -> u8
     if lists::both(1 <= n, n <= 4) {
         let book = case.book;
         let stage = case.stage;
-        return book.round_answer(
+        return refusals::round_answer(
+            book,
             stage,
             n,
             reserve_if(n, 0, p),
@@ -138,7 +139,7 @@ impl Case {
     pub fn head(head: Head) -> Applied
         ensures { λ r. ⌜ r ≡ headOutcome head ⌝ }
     {
-        let answer = book::head_answer(head);
+        let answer = refusals::head_answer(head);
         if answer != 0 {
             let held = Held::none();
             return Applied { answer, held };
@@ -155,7 +156,7 @@ impl Case {
     {
         let stage = self.stage;
         let book = self.book;
-        let answer = book.pool_answer(stage, pool, units, mark);
+        let answer = refusals::pool_answer(book, stage, pool, units, mark);
         if answer != 0 {
             return self.declined(answer);
         }
@@ -167,7 +168,7 @@ impl Case {
     {
         let stage = self.stage;
         let book = self.book;
-        let answer = book.member_answer(stage, m, contribution, p, q, r, s);
+        let answer = refusals::member_answer(book, stage, m, contribution, p, q, r, s);
         if answer != 0 {
             return self.declined(answer);
         }
@@ -199,7 +200,7 @@ impl Case {
     {
         let stage = self.stage;
         let book = self.book;
-        let answer = book.bid_answer(stage, pool, m, units, price);
+        let answer = refusals::bid_answer(book, stage, pool, m, units, price);
         if answer != 0 {
             return self.declined(answer);
         }
@@ -212,7 +213,7 @@ impl Case {
     {
         let stage = self.stage;
         let book = self.book;
-        let answer = book::close_answer(stage);
+        let answer = refusals::close_answer(stage);
         if answer != 0 {
             return self.declined(answer);
         }
@@ -226,7 +227,7 @@ impl Case {
     {
         let stage = self.stage;
         let book = self.book;
-        let answer = book.allocate_answer(stage, pool, price);
+        let answer = refusals::allocate_answer(book, stage, pool, price);
         if answer != 0 {
             return self.declined(answer);
         }
@@ -238,7 +239,7 @@ impl Case {
     {
         let stage = self.stage;
         let book = self.book;
-        let answer = book.tear_answer(stage, pool, price);
+        let answer = refusals::tear_answer(book, stage, pool, price);
         if answer != 0 {
             return self.declined(answer);
         }
@@ -250,7 +251,7 @@ impl Case {
     {
         let stage = self.stage;
         let book = self.book;
-        let answer = book.call_answer(stage);
+        let answer = refusals::call_answer(book, stage);
         if answer != 0 {
             return self.declined(answer);
         }
@@ -263,7 +264,7 @@ impl Case {
     {
         let stage = self.stage;
         let book = self.book;
-        let answer = book.pay_answer(stage, m, amount);
+        let answer = refusals::pay_answer(book, stage, m, amount);
         if answer != 0 {
             return self.declined(answer);
         }
@@ -276,7 +277,7 @@ impl Case {
     {
         let stage = self.stage;
         let book = self.book;
-        let answer = book.move_answer(stage, m);
+        let answer = refusals::move_answer(book, stage, m);
         if answer != 0 {
             return self.declined(answer);
         }
@@ -288,7 +289,7 @@ impl Case {
     {
         let stage = self.stage;
         let book = self.book;
-        let answer = book.miss_answer(stage, m, price);
+        let answer = refusals::miss_answer(book, stage, m, price);
         if answer != 0 {
             return self.declined(answer);
         }
@@ -300,7 +301,7 @@ impl Case {
     {
         let stage = self.stage;
         let book = self.book;
-        let answer = book.finish_answer(stage);
+        let answer = refusals::finish_answer(book, stage);
         if answer != 0 {
             return self.declined(answer);
         }
@@ -369,7 +370,7 @@ fn first_answer(call: Call) -> u8
     ensures { λ r. ⌜ r ≡ firstAnswerTo (asked call) ⌝ }
 {
     match call {
-        Call::Head(head) => book::head_answer(head),
+        Call::Head(head) => refusals::head_answer(head),
         Call::Pool {
             pool: _,
             units: _,
@@ -421,7 +422,13 @@ fn answer_in(case: Case, call: Call) -> u8
     let stage = case.stage;
     match call {
         Call::Head(_) => 2,
-        Call::Pool { pool, units, mark } => case.book.pool_answer(stage, pool, units, mark),
+        Call::Pool { pool, units, mark } => refusals::pool_answer(
+            case.book,
+            stage,
+            pool,
+            units,
+            mark,
+        ),
         Call::Member {
             member,
             contribution,
@@ -429,23 +436,22 @@ fn answer_in(case: Case, call: Call) -> u8
             b,
             c,
             d,
-        } => case.book
-            .member_answer(stage, member, contribution, a, b, c, d),
+        } => refusals::member_answer(case.book, stage, member, contribution, a, b, c, d),
         Call::Round { count, a, b, c, d } => reserves_answer(case, count, a, b, c, d),
         Call::Bid {
             pool,
             member,
             units,
             price,
-        } => case.book.bid_answer(stage, pool, member, units, price),
-        Call::Close => book::close_answer(stage),
-        Call::Allocate { pool, price } => case.book.allocate_answer(stage, pool, price),
-        Call::Tear { pool, price } => case.book.tear_answer(stage, pool, price),
-        Call::Call => case.book.call_answer(stage),
-        Call::Pay { member, amount } => case.book.pay_answer(stage, member, amount),
-        Call::Move { member } => case.book.move_answer(stage, member),
-        Call::Miss { member, price } => case.book.miss_answer(stage, member, price),
-        Call::Finish => case.book.finish_answer(stage),
+        } => refusals::bid_answer(case.book, stage, pool, member, units, price),
+        Call::Close => refusals::close_answer(stage),
+        Call::Allocate { pool, price } => refusals::allocate_answer(case.book, stage, pool, price),
+        Call::Tear { pool, price } => refusals::tear_answer(case.book, stage, pool, price),
+        Call::Call => refusals::call_answer(case.book, stage),
+        Call::Pay { member, amount } => refusals::pay_answer(case.book, stage, member, amount),
+        Call::Move { member } => refusals::move_answer(case.book, stage, member),
+        Call::Miss { member, price } => refusals::miss_answer(case.book, stage, member, price),
+        Call::Finish => refusals::finish_answer(case.book, stage),
         Call::Unknown => 1,
     }
 }
