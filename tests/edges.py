@@ -1,6 +1,7 @@
 #!/usr/bin/env python3
 """The programs and the scripts of bin/ at the edges of a run: outputs and inputs that fail, short reads, signals, live use, bad lines and bad arguments.
 Run from the repository's root after `rt check`. Each trial prints a line; the exit status is 1 where one failed."""
+import collections
 import fcntl
 import os
 import pathlib
@@ -24,11 +25,17 @@ def tell(name, good, what=''):
 
 
 def run(cmd, data=b'', **more):
-    return subprocess.run(cmd, input=data, capture_output=True, **more)
+    return subprocess.run(cmd, input=data, **{'stdout': subprocess.PIPE, 'stderr': subprocess.PIPE, **more})
 
 
-def nonblocking(fd):
-    fcntl.fcntl(fd, fcntl.F_SETFL, fcntl.fcntl(fd, fcntl.F_GETFL) | os.O_NONBLOCK)
+def start(cmd, **more):
+    return subprocess.Popen(cmd, **{'stdin': subprocess.PIPE, 'stdout': subprocess.PIPE, 'stderr': subprocess.PIPE, 'bufsize': 0, **more})
+
+
+def pipe_that_does_not_wait(end):
+    ends = os.pipe()
+    fcntl.fcntl(ends[end], fcntl.F_SETFL, fcntl.fcntl(ends[end], fcntl.F_GETFL) | os.O_NONBLOCK)
+    return ends
 
 
 def drain(fd):
@@ -38,108 +45,153 @@ def drain(fd):
     return out
 
 
-def feed(p, *parts):
-    """Parts of an input, a second apart; a program that has ended takes no more."""
+def give(p, data):
+    """Writes an input and closes it; a program that has ended takes no more."""
     try:
-        for number, part in enumerate(parts):
-            time.sleep(1 if number else 0)
-            p.stdin.write(part)
-            p.stdin.flush()
+        while data:
+            data = data[p.stdin.write(data):]
         p.stdin.close()
     except BrokenPipeError:
         pass
 
 
-def one_line(r, status, words):
-    return r.returncode == status and words in r.stderr and r.stderr.count(b'\n') == 1
+def answer(p, size):
+    """What is written within 20 seconds, up to a number of bytes."""
+    out = b''
+    until = time.monotonic() + 20
+    while len(out) < size and select.select([p.stdout], [], [], max(0, until - time.monotonic()))[0]:
+        part = os.read(p.stdout.fileno(), 65536)
+        if not part:
+            break
+        out += part
+    return out
 
 
-def start(cmd, **more):
-    return subprocess.Popen(cmd, **{'stdin': subprocess.PIPE, 'stdout': subprocess.PIPE, 'stderr': subprocess.PIPE, **more})
+def one_line(r, message):
+    return r.returncode == 1 and message in r.stderr and r.stderr.count(b'\n') == 1
 
 
-# a program, its name in messages, an input, many small calls, and one call
+def fields_of(data):
+    """The fields of an input: a tag, a length of 2 bytes and a value."""
+    at = 0
+    while at < len(data):
+        end = at + 3 + int.from_bytes(data[at + 1:at + 3], 'big')
+        yield data[at:end]
+        at = end
+
+
+# A program, its name in messages, the calls of an input, the text written for the input, what of it is written once so many calls are read, many small calls, and
+# what is written where nothing can be read.
+Program = collections.namedtuple('Program', 'cmd name calls whole after large nothing')
+
+
+def by_lines(cmd, lines):
+    """A program that writes so many lines for each call, and more at the end."""
+    whole = open('crates/%s/stdout' % cmd, 'rb').read()
+    text = whole.splitlines(keepends=True)
+    return Program(['bin/' + cmd], cmd.encode(), list(fields_of(WORKED)), whole, lambda k: b''.join(text[:k * lines]), b'\0\0\0' * 80000, b'')
+
+
+def by_calls(cmd, calls, one, nothing):
+    """A program that writes a text for each call, and nothing more."""
+    texts = [run(cmd, call).stdout for call in calls]
+    return Program(cmd, b'fields', calls, b''.join(texts), lambda k: b''.join(texts[:k]), one * 20000, nothing)
+
+
 PROGRAMS = [
-    (['bin/fields'], b'fields', HOUSE, b'MOVE member 1\n' * 20000, b'CLOSE\n'),
-    (['bin/fields', '--text'], b'fields', WORKED, b'\x06\0\0' * 20000, b'\x06\0\0'),
+    by_lines('ledger', 1),
+    by_lines('explain', 2),
+    # a text that cannot be read ends in a field that is cut off
+    by_calls(['bin/fields'], HOUSE.splitlines(keepends=True), b'MOVE member 1\n', b'\0\xff\xffthe text could not be read to its end'),
+    by_calls(['bin/fields', '--text'], list(fields_of(WORKED)), b'\x06\0\0', b''),
 ]
 
 
-def outputs_that_fail(title, cmd, name, data, large):
+def outputs_that_fail(title, of):
+    message, data = of.name + b': standard output: ', b''.join(of.calls)
     with open('/dev/full', 'wb') as full:
-        r = subprocess.run(cmd, input=data, stdout=full, stderr=subprocess.PIPE)
-        tell(title + ' > /dev/full', one_line(r, 1, name + b': standard output: No space left on device'), r)
-    r = run(['sh', '-c', 'exec "$@" >&-', 'sh'] + cmd, data)
-    tell(title + ' >&-', one_line(r, 1, name + b': standard output: Bad file descriptor'), r)
-    # an output that is full for a while: what is written is a front of the whole
-    read_end, write_end = os.pipe()
-    nonblocking(write_end)
-    p = start(cmd, stdout=write_end)
+        r = run(of.cmd, data, stdout=full)
+    tell(title + ' > /dev/full', one_line(r, message + b'No space left on device'), r)
+    r = run(['sh', '-c', 'exec "$@" >&-', 'sh'] + of.cmd, data)
+    tell(title + ' >&-', one_line(r, message + b'Bad file descriptor'), r)
+    # nobody reads for a second: what is written is a front of the text, with nothing behind the hole
+    read_end, write_end = pipe_that_does_not_wait(1)
+    p = start(of.cmd, stdout=write_end)
     os.close(write_end)
-    feed(p, large, data)
+    give(p, of.large + data)
+    time.sleep(1)
     got = drain(read_end)
+    os.close(read_end)
     said = p.stderr.read()
-    status = p.wait()
-    whole = run(cmd, large + data).stdout
-    tell(title + ', output that does not wait', status == 1 and b'Resource temporarily unavailable' in said and whole.startswith(got), (status, said, len(got)))
-    p = start(cmd)
+    whole = run(of.cmd, of.large + data).stdout
+    tell(title + ', output that does not wait', p.wait() == 1 and said.startswith(message + b'Resource temporarily unavailable') and whole.startswith(got) and len(got) < len(whole), (p.returncode, said, len(got), len(whole)))
+    p = start(of.cmd)
     p.stdout.close()
-    feed(p, large)
+    give(p, of.large)
     said = p.stderr.read()
     tell(title + ', reader gone', p.wait() == 128 + signal.SIGPIPE and said == b'', (p.returncode, said))
 
 
-def inputs_that_fail(title, cmd, name, cut):
-    r = subprocess.run(cmd, stdin=os.open('.', os.O_RDONLY), capture_output=True)
-    tell(title + ' < directory', one_line(r, 1, name + b': standard input: Is a directory') and r.stdout == cut, r)
-    r = subprocess.run(['sh', '-c', 'exec "$@" <&-', 'sh'] + cmd, capture_output=True)
-    tell(title + ' <&-', r.returncode == 1 and name + b': standard input: Bad file descriptor' in r.stderr and r.stdout == cut, r)
-    read_end, write_end = os.pipe()
-    nonblocking(read_end)
-    p = start(cmd, stdin=read_end)
-    out, said = p.communicate()
-    tell(title + ', input that does not wait', p.returncode == 1 and b'standard input: Resource temporarily unavailable' in said and out == cut, (p.returncode, said, out))
+def inputs_that_fail(title, of):
+    message = of.name + b': standard input: '
+    folder = os.open('.', os.O_RDONLY)
+    r = subprocess.run(of.cmd, stdin=folder, capture_output=True)
+    os.close(folder)
+    tell(title + ' < directory', one_line(r, message + b'Is a directory') and r.stdout == of.nothing, r)
+    r = subprocess.run(['sh', '-c', 'exec "$@" <&-', 'sh'] + of.cmd, capture_output=True)
+    tell(title + ' <&-', r.returncode == 1 and message + b'Bad file descriptor' in r.stderr and r.stdout == of.nothing, r)
+    # the calls that were read are answered; what looks complete, the lines of the end, is not written
+    read_end, write_end = pipe_that_does_not_wait(0)
+    os.write(write_end, b''.join(of.calls))
+    r = subprocess.run(of.cmd, stdin=read_end, capture_output=True)
     os.close(read_end)
     os.close(write_end)
+    tell(title + ', input that does not wait', one_line(r, message + b'Resource temporarily unavailable') and r.stdout == of.after(len(of.calls)) + of.nothing, r)
 
 
-def live_use(title, cmd, data, one):
-    text = run(cmd, data)
-    tell(title, text.returncode == 0 and text.stderr == b'' and text.stdout != b'', text)
-    p = start(cmd, bufsize=0)
-    for b in data[:2000]:
-        p.stdin.write(bytes([b]))
-        time.sleep(0.0002)
-    p.stdin.write(data[2000:])
+def live_use(title, of):
+    data = b''.join(of.calls)
+    r = run(of.cmd, data)
+    tell(title, r.returncode == 0 and r.stderr == b'' and r.stdout == of.whole != b'', r)
+    p = start(of.cmd)
+    for byte in data:
+        p.stdin.write(bytes([byte]))
+        time.sleep(0.0005)
     p.stdin.close()
     out, said = p.stdout.read(), p.stderr.read()
-    tell(title + ', one byte at a time', out == text.stdout and said == b'' and p.wait() == 0, (out, said))
+    tell(title + ', one byte at a time', out == of.whole and said == b'' and p.wait() == 0, (out, said))
     # the answer to a call comes before the next is asked
-    p = start(cmd, bufsize=0)
-    live = True
-    for _ in range(3):
-        p.stdin.write(one)
-        ready, _, _ = select.select([p.stdout], [], [], 20)
-        live = live and bool(ready) and os.read(p.stdout.fileno(), 65536) != b''
+    p = start(of.cmd)
+    late = []
+    for k, call in enumerate(of.calls):
+        p.stdin.write(call)
+        wanted = of.after(k + 1)[len(of.after(k)):]
+        got = answer(p, len(wanted))
+        if got != wanted:
+            late.append((k, got))
     p.stdin.close()
-    p.stdout.read()
-    tell(title + ', answers at once', live and p.wait() == 0, p.returncode)
-    # the script is asked for an answer first, so that the signal finds the program running
-    p = start(cmd, bufsize=0)
-    p.stdin.write(one)
-    select.select([p.stdout], [], [], 20)
+    end, said = p.stdout.read(), p.stderr.read()
+    tell(title + ', a pipe fed call by call', not late and end == of.whole[len(of.after(len(of.calls))):] and said == b'' and p.wait() == 0, (late, end, said))
+    # an answer first, so that the signal finds the program running
+    p = start(of.cmd)
+    p.stdin.write(data)
+    got = answer(p, 1)
     p.send_signal(signal.SIGTERM)
     p.wait(20)
+    p.stdout.read()
     said = p.stderr.read()
-    tell(title + ', TERM', p.returncode == 128 + signal.SIGTERM and said == b'', (p.returncode, said))
+    tell(title + ', TERM', p.returncode == 128 + signal.SIGTERM and got != b'' and said == b'', (p.returncode, got, said))
 
 
-for cmd, name, data, large, one in PROGRAMS:
-    title = ' '.join(cmd)
-    outputs_that_fail(title, cmd, name, data, large)
-    # a text that cannot be read ends in a field that is cut off
-    inputs_that_fail(title, cmd, name, b'\0\xff\xffthe text could not be read to its end' if cmd == ['bin/fields'] else b'')
-    live_use(title, cmd, data, one)
+for of in PROGRAMS:
+    title = ' '.join(of.cmd)
+    outputs_that_fail(title, of)
+    inputs_that_fail(title, of)
+    live_use(title, of)
+
+# an input that ends within a field is not taken for a whole case
+r = run(['bin/explain'], WORKED[:-1])
+tell('bin/explain, a field that is cut off', r.stdout.endswith(b'\nNot the whole case: the input ends within a field.\n'), r.stdout[-200:])
 
 # ---- a bad line
 
