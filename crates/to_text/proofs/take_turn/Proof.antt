@@ -1,0 +1,44 @@
+use borrow.Author.Needs.{needs}
+use Rattle.to_text.proofs.take_turn.Statement.{statement}
+use Rattle.to_text.proofs.take_turn.Tie as tie
+use Rattle.to_text.proofs.take_turn.Reads as reads
+use Rattle.to_text.proofs.take_turn.Lts as lts
+use Rattle.feed.proofs.slide.Reads as slide-reads
+use Rattle.to_text.proofs.write_all.Reads as write-all-reads
+
+sub-write-all : tie.Need-sub-write-all
+sub-write-all c = search needs
+
+part-write-all-start : tie.Need-part-write-all-start
+part-write-all-start c = search needs
+
+part-write-all-end : tie.Need-part-write-all-end
+part-write-all-end c = search needs
+
+write-all-requires : tie.Need-write-all-requires
+write-all-requires c κs = search needs
+
+slide-requires : tie.Need-slide-requires
+slide-requires c κs = search needs
+
+same-length : tie.Need-same-length
+same-length c = search needs
+
+same-length-2 : tie.Need-same-length-2
+same-length-2 c = search needs
+
+returns : tie.Need-returns
+returns c = ?
+
+pub take-turn-spec : {M : Type 1} → statement M
+take-turn-spec =
+    tie.close
+    (tie.spec
+    sub-write-all
+    part-write-all-start
+    part-write-all-end
+    write-all-requires
+    slide-requires
+    same-length
+    same-length-2
+    returns)
