@@ -26,8 +26,8 @@ abbrev pub WritesFields : List ℕ → List ℕ → List ℕ → Part → Type 0
 WritesFields input old new r =
     WritesSome (frontSize false) fieldText (Bytes input × (335882 ≤ length old)) input old new (r .count) (r .used) (r .written)
 
--- After all turns there are parts, those that were read, of which the whole fields were written, unless a write failed, and what is kept at the buffer's front is
--- what is left of them.
+-- After all turns there are parts, those that were read, and what is kept at the buffer's front is what is left of them behind their whole fields. That is less than
+-- a field can have (`rest-short`), so a buffer of 65,538 bytes has room for a further read, and a read that brings nothing is the input's end.
 abbrev pub FedTo : List ℕ → ℕ → Type 0
 FedTo buf len = Fed rest (λ s. Unit {0}) buf len
 

@@ -4,7 +4,7 @@ ghost use mathlib.Core.Path.{_≡_};
 ghost use mathlib.Core.List.{_++_};
 ghost use Prim.Native.Nat.{_+_, _*_, _≤_, _<_};
 ghost use lib.ListN.{length, take, drop};
-ghost use mathlib.Core.Bool.{false};
+ghost use mathlib.Core.Bool.{true, false};
 ghost use Rattle.input.specs.Fields.{frontSize, rest};
 ghost use Rattle.forms.specs.Put.{Put};
 ghost use Rattle.feed.specs.Feeds.{Keeps};
@@ -31,11 +31,10 @@ struct Turn {
     failed: bool,
 }
 
-// How many bytes of a field that is cut off are kept at the buffer's front when the reading stops, and whether the input ended or a write has failed.
+// How many bytes of a field that is cut off are kept at the buffer's front when the reading stops, and whether the input ended and no write failed.
 struct Rest {
     len: usize,
     ended: bool,
-    failed: bool,
 }
 
 // Whether the input ended, and how many bytes of text at the buffer's front are then still to be written.
@@ -201,7 +200,7 @@ fn take_turn(buf: &mut [u8], end: usize, out: &mut [u8]) -> Turn
 // Reads and takes until the input ends, or a read or a write fails. What a read brought is written before the next.
 fn take_input(buf: &mut [u8], out: &mut [u8]) -> Rest
     requires { ⌜ 335882 ≤ length (now out) ⌝ }
-    ensures { λ r. ⌜ (r .failed ≡ false → FedTo (now (buf .exit)) (r .len)) ⌝ }
+    ensures { λ r. ⌜ (r .ended ≡ true → FedTo (now (buf .exit)) (r .len)) ⌝ }
 {
     let mut len: usize = 0;
     let mut turns = u64::MAX;
@@ -213,24 +212,15 @@ fn take_input(buf: &mut [u8], out: &mut [u8]) -> Rest
             return Rest {
                 len,
                 ended: got.ended,
-                failed: false,
             };
         }
         let turn = take_turn(buf, len + more, out);
         len = turn.len;
         if turn.failed {
-            return Rest {
-                len,
-                ended: false,
-                failed: true,
-            };
+            return Rest { len, ended: false };
         }
     }
-    Rest {
-        len,
-        ended: false,
-        failed: false,
-    }
+    Rest { len, ended: false }
 }
 
 // The text of a field that is cut off by the input's end; none where no bytes are left.
@@ -252,12 +242,6 @@ fn run_to_end(buf: &mut [u8], out: &mut [u8]) -> Ending
     let rest = take_input(buf, out);
     let len = rest.len;
     if !rest.ended {
-        return Ending {
-            ended: false,
-            len: 0,
-        };
-    }
-    if rest.failed {
         return Ending {
             ended: false,
             len: 0,

@@ -1,3 +1,9 @@
+-- `to_text::take_turn` meets its contract. Assumes nothing.
+use mathlib.Core.Bool.{false}
+use Rattle.input.specs.Fields.{frontSize}
+use Rattle.input.proofs.Fronts.{front-most}
+use Rattle.feed.proofs.Turning.{lent}
+use Rattle.translation.proofs.Turning.{turn-keeps}
 use borrow.Author.Needs.{needs}
 use Rattle.to_text.proofs.take_turn.Statement.{statement}
 use Rattle.to_text.proofs.take_turn.Tie as tie
@@ -28,7 +34,11 @@ same-length-2 : tie.Need-same-length-2
 same-length-2 c = search needs
 
 returns : tie.Need-returns
-returns c = ?
+returns c =
+    let s = c .before .before .before .before .before .before .before .before .before .before .before .before in
+    let w = c .before .before .before .before .before .before .write-all in
+    turn-keeps (frontSize false) (front-most false) (s .args .buf .now) _ _ (s .args .end) (w .result .used) (c .before .before .slide .result) (w .result .failed) (s .pre .0)
+    (lent (s .args .end) (s .args .buf .now)) (w .ensures) (c .before .before .slide .ensures)
 
 pub take-turn-spec : {M : Type 1} → statement M
 take-turn-spec =
