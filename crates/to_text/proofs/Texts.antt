@@ -19,6 +19,7 @@ use Rattle.lines.specs.Placed.{Placed, placed}
 use Rattle.forms.specs.Forms.{tagOf, numbersOf, formOf}
 use Rattle.forms.specs.Put.{Put, Written, putInto}
 use Rattle.forms.proofs.Puts.{put-as, Putting, putting-start, putting-turn, putting-end, putting-most, put-then, put-placed}
+use Rattle.translation.proofs.Writing.{put-into}
 use Rattle.spelling.specs.Words.{nameOf}
 use Rattle.spelling.specs.Text.{itemText, itemsText, lineForm, lineOf, lineInto}
 use Rattle.to_text.specs.Texts.{hexDigit, breakText, hexText, hexFrom, begin, comment, lineOr, fieldText}
@@ -142,25 +143,20 @@ no-text [] e = refl
 no-text (x ∷ t) e = absurd (omega arith)
 
 module _ (field out mid : List ℕ) (at to : ℕ) (call : Call) (is : asked call ≡ decode field) (room : at + (5 * length field + 8192) ≤ length out)
-    (put : _≡_ {A = Written} (to, mid) (lineInto (asked call) out at)) where
-  done : _≡_ {A = Written} (to, mid) (at + length (written (asked call)), sets out at (written (asked call)))
-  unfolding putInto
-  done = put ∙ rw (le-leb (at + 8192) (length out) (omega arith)) refl
+    (put : _≡_ {A = Written} (to, mid) (lineInto (asked call) out at)) (few : to ≤ at + 8192) where
+  line : Put out at (written (asked call)) 8192 to mid
+  line = put-into 8192 (written (asked call)) out mid at to (omega arith) put few
 
-  pub field-line : to ≤ at + 8192 → (to ≡ at → ⊥) → Put out at (fieldText field) (5 * length field + 8192) to mid
+  pub field-line : (to ≡ at → ⊥) → Put out at (fieldText field) (5 * length field + 8192) to mid
   unfolding fieldText
-  field-line few more =
-      let n : to ≡ at + length (written (asked call)) = ap (λ (p : Written). p .0) done in
-      let stored : mid ≡ sets out at (written (asked call)) = ap (λ (p : Written). p .1) done in
-      put-as {m = 8192} (5 * length field + 8192) (omega arith)
-      (text-some (comment field) (asked call) (λ e. more (n ∙ omega (arith, e))) ∙ ap (lineOr (comment field)) is)
-      (record { behind = n; stored = stored; short = omega (arith, n); same = ap length stored ∙ length-sets out at (written (asked call)) })
+  field-line more =
+      put-as (5 * length field + 8192) (omega arith)
+      (text-some (comment field) (asked call) (λ e. more (omega (arith, line .behind, e))) ∙ ap (lineOr (comment field)) is) line
 
   pub field-comment : to ≡ at → (new : List ℕ) (r : ℕ) → Put mid at (comment field) (5 * length field + 14) r new → Put out at (fieldText field) (5 * length field + 8192) r new
   unfolding fieldText
   field-comment none-there new r p =
-      let n : to ≡ at + length (written (asked call)) = ap (λ (q : Written). q .0) done in
-      let empty : length (written (asked call)) ≡ 0 = omega (arith, n) in
-      let same : mid ≡ out = ap (λ (q : Written). q .1) done ∙ ap (sets out at) (no-text (written (asked call)) empty) in
+      let empty : length (written (asked call)) ≡ 0 = omega (arith, line .behind) in
+      let same : mid ≡ out = line .stored ∙ ap (sets out at) (no-text (written (asked call)) empty) in
       put-as (5 * length field + 8192) (omega arith) (text-none (comment field) (asked call) empty ∙ ap (lineOr (comment field)) is)
       (subst (λ (l : List ℕ). Put l at (comment field) (5 * length field + 14) r new) same p)

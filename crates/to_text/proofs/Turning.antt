@@ -1,11 +1,10 @@
 -- The parts of a turn, and the end: laws that the proofs of the functions cite. Assumes nothing.
-use mathlib.Core.Path.{_≡_, refl, sym, ap, ap₂, subst, _∙_}
+use mathlib.Core.Path.{_≡_, refl, sym, ap, subst, _∙_}
 use mathlib.Core.Bool.{true, false, false≢true}
 use mathlib.Core.List.{List, [], _∷_, _++_, append-nil}
 use Prim.Native.Nat.{ℕ, _+_, _*_, _≤_, _<_}
 use native.Mathlib.Omega.{arith}
 use lib.ListN.{length, getD, take, drop}
-use lib.Seq.{sets-eq, take-at}
 use Rattle.lists.specs.Lists.{joined, Bytes}
 use Rattle.lists.proofs.Each.{each-drop, each-of}
 use Rattle.input.specs.Fields.{frontSize, whole, rest}
@@ -17,7 +16,7 @@ use Rattle.forms.proofs.Puts.{put-none, put-as, joined-map-two}
 use Rattle.feed.specs.Feeds.{Keeps}
 use Rattle.feed.proofs.Turning.{fed-turn as turn-fed}
 use Rattle.translation.specs.Writes.{WritesAll}
-use Rattle.translation.proofs.Writing.{part-within, part-some, part-goes, part-ends}
+use Rattle.translation.proofs.Writing.{put-front, part-within, part-some, part-goes, part-ends}
 use Rattle.translation.proofs.Turning.{fed-first}
 use Rattle.to_text.specs.declared.Part.{Part}
 use Rattle.to_text.specs.Texts.{fieldText, fieldsText}
@@ -100,15 +99,11 @@ module _ (buf kept out : List ℕ) (len : ℕ) (f : FedTo buf len) (lends : kept
   pub ends : (out' : List ℕ) (n : ℕ) → Put out 0 (cutText kept) (length out) n out' → Ends out' (record { ended = true; len = n })
   ends out' n p =
       let input = joined (f .parts) in
-      let t = cutText kept in
-      let front : take n out' ≡ t =
-      ap₂ (λ (k : ℕ) (o : List ℕ). take k o) (p .behind) (p .stored ∙ sets-eq t out 0 (omega (arith, p .short)))
-      ∙ take-at t (drop (0 + length t) out) (0 + length t) (omega arith) in
       record {
         parts = f .parts;
         bytes = f .bytes;
         last = λ e.
-            ap (λ (x : List ℕ). fieldsText (whole input) ++ x) (front ∙ ap cutText (lends ∙ f .kept) ∙ sym (cut-text (rest input)))
+            ap (λ (x : List ℕ). fieldsText (whole input) ++ x) (put-front (cutText kept) out out' n p ∙ ap cutText (lends ∙ f .kept) ∙ sym (cut-text (rest input)))
             ∙ sym (joined-map-two fieldText (whole input) (cutFields (rest input)))
             ∙ ap fieldsText (sym (fields-split (length input) input (omega arith)));
         fits = omega (arith, p .behind, p .short, p .same);

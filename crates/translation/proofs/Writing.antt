@@ -1,19 +1,36 @@
 -- The pieces at the front of some bytes written to a buffer, one behind the other, and then part by part. Assumes nothing.
-use mathlib.Core.Path.{_≡_, refl, sym, ap, _∙_}
+use mathlib.Core.Path.{_≡_, refl, sym, ap, ap₂, _∙_}
 use mathlib.Core.List.{List, [], _∷_, _++_}
 use Prim.Native.Nat.{ℕ, suc, _+_, _-_, _≤_, _<_}
 use native.Mathlib.Numerals.{add-one}
 use native.Mathlib.Omega.{arith}
 use lib.ListN.{length, take, drop, length-take, length-drop, length-append}
-use lib.Seq.{drop-drop}
+use lib.Seq.{sets, sets-eq, length-sets, take-at, drop-drop}
+use borrow.Author.Tests.{le-leb}
 use Rattle.lists.specs.Lists.{joined}
 use Rattle.input.specs.Strings.{bytesOf}
 use Rattle.input.specs.Pieces.{pieces, allPieces}
 use Rattle.input.proofs.Strings.{bytes-more, bytes-two}
 use Rattle.input.proofs.Pieces.{front-zero, front-next, bytes-most, fields-then, fields-few, fields-chunk, all-none, Passing}
-use Rattle.forms.specs.Put.{Put}
+use Rattle.forms.specs.Put.{Put, Written, putInto}
 use Rattle.forms.proofs.Puts.{put-none, put-then, put-as, joined-map-more}
 use Rattle.translation.specs.Writes.{texts, WritesSome}
+
+-- a text put where there was room for it
+pub put-into : (room : ℕ) (text out new : List ℕ) (at r : ℕ) → at + room ≤ length out → _≡_ {A = Written} (r, new) (putInto room text out at) → r ≤ at + room
+    → Put out at text room r new
+unfolding putInto
+put-into room text out new at r h is few =
+    let done : _≡_ {A = Written} (r, new) (at + length text, sets out at text) = is ∙ rw (le-leb (at + room) (length out) h) refl in
+    let behind = ap (λ (p : Written). p .0) done in
+    let stored = ap (λ (p : Written). p .1) done in
+    record { behind = behind; stored = stored; short = omega (arith, behind); same = ap length stored ∙ length-sets out at text }
+
+-- a text that was put at the front
+pub put-front : (text out new : List ℕ) (n : ℕ) → Put out 0 text (length out) n new → take n new ≡ text
+put-front text out new n p =
+    ap₂ (λ (k : ℕ) (o : List ℕ). take k o) (p .behind) (p .stored ∙ sets-eq text out 0 (omega (arith, p .short)))
+    ∙ take-at text (drop (0 + length text) out) (0 + length text) (omega arith)
 
 module _ (size : List ℕ → ℕ) (most : (s : List ℕ) → size s ≤ length s) where
   -- ---- one piece behind the other

@@ -24,7 +24,7 @@ returns : tie.Need-returns
 returns c =
     let s = c .before .before .before .before .before .before .before .before .before .before .before .before in
     let w = c .before .before .before .before .before .before .before .write-text in
-    field-comment (s .args .field .now) (s .args .out .now) _ (s .args .at) (w .result) _ (c .before .before .before .before .before .before .before .before .before .read-call .ensures) (s .pre) (w .ensures .0)
+    field-comment (s .args .field .now) (s .args .out .now) _ (s .args .at) (w .result) _ (c .before .before .before .before .before .before .before .before .before .read-call .ensures) (s .pre) (w .ensures .0) (w .ensures .1)
     (c .before .before .before .before .if1 .taken) _ _ (c .before .before .put-comment .ensures)
 
 same-length-2 : tie.Need-same-length-2
@@ -34,8 +34,8 @@ returns-2 : tie.Need-returns-2
 returns-2 c =
     let s = c .before .before .before .before .before .before .before .before in
     let w = c .before .before .before .write-text in
-    field-line (s .args .field .now) (s .args .out .now) _ (s .args .at) (w .result) _ (c .before .before .before .before .before .read-call .ensures) (s .pre) (w .ensures .0)
-    (w .ensures .1) (c .if1 .left)
+    field-line (s .args .field .now) (s .args .out .now) _ (s .args .at) (w .result) _ (c .before .before .before .before .before .read-call .ensures) (s .pre) (w .ensures .0) (w .ensures .1)
+    (c .if1 .left)
 
 pub put-field-spec : {M : Type 1} → statement M
 put-field-spec =
