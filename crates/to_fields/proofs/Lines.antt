@@ -3,11 +3,11 @@ use mathlib.Core.Path.{_≡_, refl, sym, ap, ap₂, _∙_}
 use mathlib.Core.Bool.{Bool, true, false, false≢true}
 use mathlib.Core.Logic.{⊎-elim}
 use mathlib.Core.List.{List, [], _∷_, _++_}
-use Prim.Native.Nat.{ℕ, suc, _+_, _≤_, _<_}
+use Prim.Native.Nat.{ℕ, suc, _+_, _-_, _≤_, _<_}
 use native.Mathlib.Numerals.{add-one}
 use native.Mathlib.Omega.{arith}
 use lib.Dec.{eqb, ltb}
-use lib.ListN.{length, getD, take, drop, drop-of-length-le}
+use lib.ListN.{length, getD, take, drop, drop-of-length-le, length-take}
 use lib.Seq.{drop-cons}
 use borrow.Author.Tests.{lt-ltb, le-ltb, eq-eqb, ne-eqb, eqb-true, eqb-false}
 use Rattle.lists.specs.Lists.{if_then_else_}
@@ -100,6 +100,20 @@ size-most last s =
     (λ e. omega (arith, size-none last s n refl short left e)))
     (lt-or-le n (length s)))
     (lt-or-le 65536 n)
+
+-- the next line of a text, as the code lends what is left of it, is within the text, and so is its end
+module _ (text : List ℕ) (at n : ℕ) (h : at ≤ length text) where
+  abbrev part : List ℕ
+  part = take (length text - at) (drop at text)
+
+  long : length part ≤ length text - at
+  long = omega (arith, length-take (length text - at) (drop at text))
+
+  pub line-within : n ≡ lineSize true (take (length text - at) (drop at text)) → at + n ≤ length text
+  line-within e = omega (arith, e, size-most true part, long)
+
+  pub end-within : n ≡ lengthTo (take (length text - at) (drop at text)) → at + n ≤ length text
+  end-within e = omega (arith, e, to-most part, long)
 
 -- ---- what a line is read as
 
