@@ -3,6 +3,7 @@ ghost use Prim.Native.Nat.{_≤_};
 ghost use lib.ListN.{length};
 use crate::length_to;
 use crate::line_size;
+use crate::more;
 use words::number;
 
 // The numbers of the pieces that the messages are made of.
@@ -185,11 +186,6 @@ fn put_reason(out: &mut [u8], at: usize, reason: u8, tag: u8, item: usize) -> us
         return put_expected(out, to, reason, tag, item);
     }
     put_expected(out, at, reason, tag, item)
-}
-
-// One more.
-fn more(n: u64) -> u64 {
-    std::num::wrapping_add_u64(n, 1)
 }
 
 // A place as a number.
