@@ -42,19 +42,30 @@ fn asked() -> Task {
     Task::Unknown
 }
 
-fn main() {
+// Text to fields.
+fn write_fields() {
+    let mut buf = [0u8; 131072];
+    let mut out = [0u8; 65536];
+    to_fields::run(&mut buf, &mut out);
+}
+
+// Fields to text.
+fn write_text() {
     let mut buf = [0u8; 131072];
     let mut out = [0u8; 335882];
+    to_text::run(&mut buf, &mut out);
+}
+
+// How the program is called, on standard error.
+fn tell_usage() {
+    io::write_all(STDERR_FILENO, b"usage: fields [--text] < FILE\n");
+}
+
+fn main() {
     let task = asked();
     match task {
-        Task::ToFields => {
-            to_fields::run(&mut buf, &mut out);
-        }
-        Task::ToText => {
-            to_text::run(&mut buf, &mut out);
-        }
-        Task::Unknown => {
-            io::write_all(STDERR_FILENO, b"usage: fields [--text] < FILE\n");
-        }
+        Task::ToFields => write_fields(),
+        Task::ToText => write_text(),
+        Task::Unknown => tell_usage(),
     }
 }
