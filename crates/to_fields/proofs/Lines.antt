@@ -2,11 +2,11 @@
 use mathlib.Core.Path.{_≡_, refl, sym, ap, ap₂, _∙_}
 use mathlib.Core.Bool.{Bool, true, false, false≢true}
 use mathlib.Core.Logic.{⊎-elim}
-use mathlib.Core.List.{List, [], _∷_, _++_}
+use mathlib.Core.List.{List, [], _∷_}
 use Prim.Native.Nat.{ℕ, suc, _+_, _-_, _≤_, _<_}
 use native.Mathlib.Numerals.{add-one}
 use native.Mathlib.Omega.{arith}
-use lib.Dec.{eqb, ltb}
+use lib.Dec.{eqb}
 use lib.ListN.{length, getD, take, drop, drop-of-length-le, length-take}
 use lib.Seq.{drop-cons}
 use borrow.Author.Tests.{lt-ltb, le-ltb, eq-eqb, ne-eqb, eqb-true, eqb-false}
@@ -23,7 +23,7 @@ use Rattle.forms.specs.Encode.{encodeForm}
 use Rattle.to_fields.specs.declared.Line.{Line}
 use Rattle.to_fields.specs.Computing.{computing}
 use Rattle.to_fields.specs.Lines.{lengthTo, lineSize, lineRead, fieldOf, lineField, goodSize}
-use Rattle.to_fields.specs.Turns.{sizeWithin, IsLine, NextLine}
+use Rattle.to_fields.specs.Turns.{sizeWithin, NoCall, IsLine, NextLine}
 
 -- ---- the first line end
 
@@ -143,23 +143,30 @@ refused-field Nothing e = refl
 refused-field (Called call) e = absurd (false≢true e)
 refused-field (Refused at reason tag item) e = refl
 
-module _ (size : ℕ) (read : Read) where
-  pub is-nothing : read ≡ Nothing → IsLine size read (record { size = size; call = Unknown })
-  unfolding isRefused fieldOf askedBy asked
-  is-nothing e = record { size = rw e refl; field = rw e refl }
+pub is-unknown : (size : ℕ) → NoCall size (record { size = size; call = Unknown })
+is-unknown size = record { size = refl; field = no-call }
 
-  pub is-call : (call : Call) → read ≡ Called call → IsLine size read (record { size = size; call = call })
-  unfolding isRefused fieldOf askedBy
-  is-call call e = record { size = rw e refl; field = rw e refl }
+module _ (size : ℕ) (read : Read) (r : Line) where
+  pub is-nothing : read ≡ Nothing → NoCall size r → IsLine size read r
+  unfolding isRefused fieldOf askedBy formOf encodeForm
+  is-nothing e n = record { size = rw e (n .size); field = rw e (n .field) }
 
-  pub is-refused : {at reason tag item : ℕ} → read ≡ Refused at reason tag item → IsLine size read (record { size = 0; call = Unknown })
-  unfolding isRefused fieldOf askedBy asked
-  is-refused e = record { size = rw e refl; field = rw e refl }
+  pub is-refused : {at reason tag item : ℕ} → read ≡ Refused at reason tag item → NoCall 0 r → IsLine size read r
+  unfolding isRefused fieldOf askedBy formOf encodeForm
+  is-refused e n = record { size = rw e (n .size); field = rw e (n .field) }
+
+pub is-call : (size : ℕ) (read : Read) (call : Call) → read ≡ Called call → IsLine size read (record { size = size; call = call })
+unfolding isRefused fieldOf askedBy
+is-call size read call e = record { size = rw e refl; field = rw e refl }
 
 -- no room
-pub next-none : (room : ℕ) (last : Bool) (s : List ℕ) → room < 64 → NextLine room last s (record { size = 0; call = Unknown })
+pub next-none : (room : ℕ) (last : Bool) (s : List ℕ) (r : Line) → room < 64 → NoCall 0 r → NextLine room last s r
 unfolding sizeWithin
-next-none room last s h = record { size = rw (lt-ltb room 64 h) refl; field = no-call ∙ sym empty-field }
+next-none room last s r h n =
+    record {
+      size = rw (lt-ltb room 64 h) (n .size);
+      field = n .field ∙ sym (ap (λ (k : ℕ). lineField (take k s)) (n .size) ∙ empty-field);
+    }
 
 pub next-is : (room : ℕ) (last : Bool) (s part : List ℕ) (size : ℕ) (read : Read) (r : Line) → 64 ≤ room → size ≡ lineSize last s → part ≡ take size s
     → read ≡ lineRead part → IsLine size read r → NextLine room last s r

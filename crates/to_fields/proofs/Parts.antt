@@ -17,7 +17,7 @@ use Rattle.input.specs.Strings.{bytesOf}
 use Rattle.input.specs.Pieces.{pieces, allPieces, leftOf}
 use Rattle.input.proofs.Pieces.{front-zero, front-none, front-next, all-next, all-none, apart, left-then}
 use Rattle.to_fields.specs.Lines.{lengthTo, lineSize, refusedLine, linesOf, goodSize, goodLines, rest}
-use Rattle.to_fields.proofs.Lines.{to-here, to-behind, no-end, to-most, size-long, size-ended, size-none, size-most}
+use Rattle.to_fields.proofs.Lines.{to-here, to-behind, no-end, size-long, size-ended, size-none, size-most}
 use Rattle.to_fields.proofs.Sizes.{good-most}
 
 -- ---- bytes behind bytes

@@ -1,13 +1,12 @@
 -- The line that is taken next, where there is room for its field, and lines taken one by one. Assumes nothing.
 use mathlib.Core.Path.{_≡_, refl, sym, ap, subst, _∙_}
-use mathlib.Core.Bool.{Bool, true, false}
+use mathlib.Core.Bool.{Bool}
 use mathlib.Core.Logic.{⊎-elim}
 use mathlib.Core.List.{List}
 use Prim.Native.Nat.{ℕ, _+_, _-_, _≤_, _<_}
 use native.Mathlib.Omega.{arith}
 use lib.ListN.{length, take, drop}
 use borrow.Author.Tests.{lt-ltb, le-ltb}
-use Rattle.lists.specs.Lists.{if_then_else_}
 use Rattle.lists.proofs.Bools.{either, lt-or-le}
 use Rattle.input.proofs.Fronts.{rest-all}
 use Rattle.wire.specs.Asked.{asked}

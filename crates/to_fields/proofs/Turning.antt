@@ -1,16 +1,14 @@
 -- The parts of a turn, and what holds after each turn: laws that the proofs of the functions cite. Assumes nothing.
 use mathlib.Core.Path.{_≡_, refl, sym, ap, _∙_}
 use mathlib.Core.Bool.{true, false, false≢true}
-use mathlib.Core.List.{List, [], _++_}
+use mathlib.Core.List.{List, _++_}
 use Prim.Native.Nat.{ℕ, _+_, _%_, _^_, _≤_, _<_}
 use native.Mathlib.Omega.{arith}
 use lib.ListN.{length, getD, take, drop, length-append}
-use Rattle.input.specs.Strings.{bytesOf}
 use Rattle.input.specs.Pieces.{pieces}
 use Rattle.input.proofs.Pieces.{Passing, passing-starts}
 use Rattle.feed.specs.Feeds.{Slides, Keeps}
 use Rattle.feed.proofs.Turning.{fed-turn as turn-fed}
-use Rattle.translation.specs.Writes.{WritesAll}
 use Rattle.translation.proofs.Writing.{part-within, part-some, part-goes, part-ends}
 use Rattle.translation.proofs.Turning.{turn-keeps, fed-first}
 use Rattle.to_fields.specs.declared.Part.{Part}

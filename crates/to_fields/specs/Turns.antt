@@ -18,11 +18,16 @@ use Rattle.to_fields.specs.declared.Line.{Line}
 use Rattle.to_fields.specs.declared.Part.{Part}
 use Rattle.to_fields.specs.declared.Wrote.{Wrote}
 use Rattle.to_fields.specs.declared.Ending.{Ending}
-use Rattle.to_fields.specs.Lines.{lineSize, fieldOf, lineField, fieldsOf, linesOf, refusedLine, goodSize, goodLines, rest}
+use Rattle.to_fields.specs.Lines.{fieldOf, lineField, fieldsOf, linesOf, refusedLine, goodSize, goodLines, rest}
 
 -- the bytes of the first line, and 0 where it is refused or not all there, or a field has no room
 unfoldable pub sizeWithin : ℕ → Bool → List ℕ → ℕ
 sizeWithin room last s = if ltb room 64 then 0 else goodSize last s
+
+-- a line of so many bytes that asks for no call
+pub record NoCall (bytes : ℕ) (r : Line) : Type 0 where
+  pub size : r .size ≡ bytes
+  pub field : encodeForm (formOf (asked (r .call))) ≡ []
 
 -- a line of so many bytes by what it is read as: one that is refused has no bytes
 pub record IsLine (bytes : ℕ) (read : Read) (r : Line) : Type 0 where

@@ -9,15 +9,15 @@ ghost use Prim.Native.Nat.{_+_, _%_, _^_, _≤_};
 ghost use lib.ListN.{length, take};
 ghost use Rattle.feed.specs.Feeds.{Keeps};
 ghost use Rattle.to_fields.specs.Lines.{lengthTo, lineSize, lineRead, goodLines, rest};
-ghost use Rattle.to_fields.specs.Turns.{IsLine, NextLine, WritesLines, WritesAllLines, Counts, FedTo, CutOff, Finishes, Ends};
+ghost use Rattle.to_fields.specs.Turns.{NoCall, IsLine, NextLine, WritesLines, WritesAllLines, Counts, FedTo, CutOff, Finishes, Ends};
 use libc::STDERR_FILENO;
 use notation::Read;
 use wire::Call;
 
 // A line's bytes, and the call that it asks for; no bytes where it is not to be taken.
-pub struct Line {
-    pub size: usize,
-    pub call: Call,
+struct Line {
+    size: usize,
+    call: Call,
 }
 
 // How many lines were written, the bytes that they took, and the bytes of their fields.
@@ -51,10 +51,10 @@ struct Rest {
 }
 
 // Whether all was read and written and is good, whether a write has failed, and how many bytes at the buffer's front are still to be written.
-pub struct Ending {
-    pub good: bool,
-    pub failed: bool,
-    pub len: usize,
+struct Ending {
+    good: bool,
+    failed: bool,
+    len: usize,
 }
 
 // A line longer than this is refused.
@@ -80,7 +80,7 @@ fn length_to(input: &[u8]) -> usize
 }
 
 // The bytes of the first line with its end, and 0 where it is not all there. Where the text ends here, a last line needs no end.
-pub fn line_size(last: bool, input: &[u8]) -> usize
+fn line_size(last: bool, input: &[u8]) -> usize
     ensures { λ r. ⌜ r ≡ lineSize last (now (input .entry)) ⌝ }
 {
     let n = length_to(input);
@@ -109,25 +109,29 @@ fn read_piece(line: &[u8]) -> Read
     notation::read_line(&line[0..n])
 }
 
+// A line of so many bytes that asks for no call.
+fn no_call(size: usize) -> Line
+    ensures { λ r. ⌜ NoCall size r ⌝ }
+{
+    Line {
+        size,
+        call: Call::Unknown,
+    }
+}
+
 // A line of so many bytes by what it is read as.
 fn line_of(size: usize, read: Read) -> Line
     ensures { λ r. ⌜ IsLine size read r ⌝ }
 {
     match read {
-        Read::Nothing => Line {
-            size,
-            call: Call::Unknown,
-        },
+        Read::Nothing => no_call(size),
         Read::Called(call) => Line { size, call },
         Read::Refused {
             at: _,
             reason: _,
             tag: _,
             item: _,
-        } => Line {
-            size: 0,
-            call: Call::Unknown,
-        },
+        } => no_call(0),
     }
 }
 
@@ -136,10 +140,7 @@ fn next_line(last: bool, input: &[u8], room: usize) -> Line
     ensures { λ r. ⌜ NextLine room last (now (input .entry)) r ⌝ }
 {
     if room < FIELD {
-        return Line {
-            size: 0,
-            call: Call::Unknown,
-        };
+        return no_call(0);
     }
     let size = line_size(last, input);
     let read = read_piece(&input[0..size]);
@@ -307,9 +308,7 @@ fn refuse_line(
     ensures { λ r. ⌜ CutOff (now (out .exit)) r ⌝ }
 {
     let mut note = [0u8; 512];
-    let n = capped(messages::write_message(
-        &mut note, number, at, reason, tag, item, line,
-    ));
+    let n = capped(messages::write_message(&mut note, number, at, reason, tag, item, line));
     tell(&note[0..n]);
     put_end(&note[0..n], out)
 }

@@ -8,24 +8,43 @@ use words::number;
 
 // The numbers of the pieces that the messages are made of.
 const LINE: usize = 0;
+
 const COLUMN: usize = 1;
+
 const COLON: usize = 2;
+
 const NO_NAME: usize = 3;
+
 const COMPLETE: usize = 4;
+
 const COMMA: usize = 5;
+
 const RETURN: usize = 6;
+
 const LONG: usize = 7;
+
 const LARGE: usize = 8;
+
 const EARLY: usize = 9;
+
 const EXPECTED: usize = 10;
+
 const SPACE: usize = 11;
+
 const LIST: usize = 12;
+
 const KEY: usize = 13;
+
 const MINUS: usize = 14;
+
 const WHOLE: usize = 15;
+
 const MEMBERS: usize = 16;
+
 const MONEY: usize = 17;
+
 const PRICE: usize = 18;
+
 const MOST: usize = 18;
 
 // Where a line of some text starts, by its number from 0 on; at the text's end where there is none.
@@ -126,7 +145,10 @@ fn is_dash(a: u8, b: u8, c: u8) -> bool {
     let windows = lists::either(a == 0x96, a == 0x97);
     let general = lists::both(b == 0x80, lists::both(0x90 <= c, c <= 0x95));
     let minus = lists::both(b == 0x88, c == 0x92);
-    lists::either(windows, lists::both(a == 0xe2, lists::either(general, minus)))
+    lists::either(
+        windows,
+        lists::both(a == 0xe2, lists::either(general, minus)),
+    )
 }
 
 // Whether such a dash stands at a place of a line.

@@ -1,6 +1,6 @@
 -- The field that is taken next, where there is room for its text, and fields taken one by one. Assumes nothing.
 use mathlib.Core.Path.{_≡_, refl, sym, ap, subst, _∙_}
-use mathlib.Core.Bool.{true, false}
+use mathlib.Core.Bool.{false}
 use mathlib.Core.Logic.{⊎-elim}
 use mathlib.Core.List.{List}
 use Prim.Native.Nat.{ℕ, _+_, _-_, _*_, _/_, _≤_, _<_}
@@ -8,7 +8,7 @@ use native.Mathlib.Omega.{arith}
 use lib.Dec.{leb}
 use lib.ListN.{length, take, drop, length-take}
 use borrow.Author.Tests.{lt-ltb, le-ltb, le-leb, lt-leb, leb-true}
-use Rattle.lists.specs.Lists.{if_then_else_, Bytes}
+use Rattle.lists.specs.Lists.{Bytes}
 use Rattle.lists.proofs.Bools.{cases, and-left, lt-or-le}
 use Rattle.lists.proofs.Each.{each-at}
 use Rattle.input.specs.Fields.{fieldSize, wholeFirst, frontSize}
@@ -17,7 +17,6 @@ use Rattle.input.proofs.Fronts.{front-most}
 use Rattle.input.proofs.Wholes.{size-first as first-whole, size-none}
 use Rattle.forms.specs.Put.{Put}
 use Rattle.translation.proofs.Writing.{Writing, writing-place, writing-few, writing-none, writing-within, writing-goes, writing-ends}
-use Rattle.to_text.specs.declared.Part.{Part}
 use Rattle.to_text.specs.Texts.{fieldText}
 use Rattle.to_text.specs.Turns.{sizeWithin, WritesFields}
 

@@ -1,15 +1,14 @@
 -- The text of a field: its comment byte by byte, and which of the two it is. Assumes nothing.
 use mathlib.Core.Path.{_≡_, refl, ap, ap₂, subst, _∙_}
-use mathlib.Core.Bool.{Bool, true, false, _&&_}
 use mathlib.Core.List.{List, [], _∷_, _++_}
 use mathlib.Core.Option.{Option, none, some}
 use Prim.Native.Nat.{ℕ, zero, suc, _+_, _*_, _/_, _%_, _≤_, _<_}
 use native.Mathlib.Numerals.{add-one}
 use native.Mathlib.Omega.{arith}
-use lib.Dec.{eqb, ltb}
+use lib.Dec.{ltb}
 use lib.ListN.{length, getD, drop, drop-of-length-le, length-append}
-use lib.Seq.{sets, length-sets, drop-cons}
-use borrow.Author.Tests.{lt-ltb, le-ltb, le-leb, eq-eqb, ne-eqb}
+use lib.Seq.{sets, drop-cons}
+use borrow.Author.Tests.{lt-ltb, le-ltb, eq-eqb, ne-eqb}
 use Rattle.lists.proofs.Bools.{and-false}
 use Rattle.machine.specs.Wire as Wire
 use Rattle.machine.specs.Wire.{decode}
@@ -17,7 +16,7 @@ use Rattle.wire.specs.declared.Call.{Call}
 use Rattle.wire.specs.Asked.{asked}
 use Rattle.lines.specs.Placed.{Placed, placed}
 use Rattle.forms.specs.Forms.{tagOf, numbersOf, formOf}
-use Rattle.forms.specs.Put.{Put, Written, putInto}
+use Rattle.forms.specs.Put.{Put, Written}
 use Rattle.forms.proofs.Puts.{put-as, Putting, putting-start, putting-turn, putting-end, putting-most, put-then, put-placed}
 use Rattle.translation.proofs.Writing.{put-into}
 use Rattle.spelling.specs.Words.{nameOf}

@@ -3,7 +3,7 @@
 ghost use mathlib.Core.Path.{_≡_};
 ghost use mathlib.Core.List.{_++_};
 ghost use Prim.Native.Nat.{_+_, _*_, _≤_, _<_};
-ghost use lib.ListN.{length, take, drop};
+ghost use lib.ListN.{length, take};
 ghost use mathlib.Core.Bool.{true, false};
 ghost use Rattle.input.specs.Fields.{frontSize, rest};
 ghost use Rattle.forms.specs.Put.{Put};
@@ -38,9 +38,9 @@ struct Rest {
 }
 
 // Whether the input ended, and how many bytes of text at the buffer's front are then still to be written.
-pub struct Ending {
-    pub ended: bool,
-    pub len: usize,
+struct Ending {
+    ended: bool,
+    len: usize,
 }
 
 // The bytes of the text that a field can have beside five for each of its own.

@@ -3,10 +3,6 @@ use Rattle.to_fields.proofs.Ends.{finish-cut, finish-good}
 use borrow.Author.Needs.{needs}
 use Rattle.to_fields.proofs.finish.Statement.{statement}
 use Rattle.to_fields.proofs.finish.Tie as tie
-use Rattle.to_fields.proofs.finish.Reads as reads
-use Rattle.to_fields.proofs.finish.Lts as lts
-use Rattle.to_fields.proofs.refuse.Reads as refuse-reads
-use Rattle.to_fields.proofs.take_some.Reads as take-some-reads
 
 refuse-requires : tie.Need-refuse-requires
 refuse-requires c κs = search needs

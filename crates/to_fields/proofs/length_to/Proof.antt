@@ -5,8 +5,6 @@ use Rattle.to_fields.proofs.Lines.{Seeking, seek-starts, seek-finds, se
 use borrow.Author.Needs.{needs}
 use Rattle.to_fields.proofs.length_to.Statement.{statement}
 use Rattle.to_fields.proofs.length_to.Tie as tie
-use Rattle.to_fields.proofs.length_to.Reads as reads
-use Rattle.to_fields.proofs.length_to.Lts as lts
 
 abbrev Inv-loop : tie.InvT-loop
 Inv-loop input i₀ i = (i ≤ length input) × Seeking input i

@@ -3,9 +3,6 @@ use Rattle.to_fields.proofs.Lines.{size-long, size-ended, size-last, si
 use borrow.Author.Needs.{needs}
 use Rattle.to_fields.proofs.line_size.Statement.{statement}
 use Rattle.to_fields.proofs.line_size.Tie as tie
-use Rattle.to_fields.proofs.line_size.Reads as reads
-use Rattle.to_fields.proofs.line_size.Lts as lts
-use Rattle.to_fields.proofs.length_to.Reads as length-to-reads
 
 length-to-requires : tie.Need-length-to-requires
 length-to-requires c κs = search needs

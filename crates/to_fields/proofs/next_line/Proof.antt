@@ -5,14 +5,12 @@ use Rattle.to_fields.proofs.Lines.{size-most, next-none, next-is}
 use borrow.Author.Needs.{needs}
 use Rattle.to_fields.proofs.next_line.Statement.{statement}
 use Rattle.to_fields.proofs.next_line.Tie as tie
-use Rattle.to_fields.proofs.next_line.Reads as reads
-use Rattle.to_fields.proofs.next_line.Lts as lts
-use Rattle.to_fields.proofs.line_of.Reads as line-of-reads
-use Rattle.to_fields.proofs.line_size.Reads as line-size-reads
-use Rattle.to_fields.proofs.read_piece.Reads as read-piece-reads
+
+no-call-requires : tie.Need-no-call-requires
+no-call-requires c κs = search needs
 
 returns : tie.Need-returns
-returns c = next-none _ _ _ (c .if1 .taken)
+returns c = next-none _ _ _ _ (c .before .if1 .taken) (c .no-call .ensures)
 
 line-size-requires : tie.Need-line-size-requires
 line-size-requires c κs = search needs
@@ -41,6 +39,7 @@ pub next-line-spec : {M : Type 1} → statement M
 next-line-spec =
     tie.close
     (tie.spec
+    no-call-requires
     returns
     line-size-requires
     sub-read-piece

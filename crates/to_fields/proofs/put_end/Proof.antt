@@ -3,9 +3,6 @@ use Rattle.to_fields.proofs.Ends.{cut-off}
 use borrow.Author.Needs.{needs}
 use Rattle.to_fields.proofs.put_end.Statement.{statement}
 use Rattle.to_fields.proofs.put_end.Tie as tie
-use Rattle.to_fields.proofs.put_end.Reads as reads
-use Rattle.to_fields.proofs.put_end.Lts as lts
-use Rattle.words.proofs.put.Reads as put-reads
 
 slice-aggregate-put : tie.Need-slice-aggregate-put
 slice-aggregate-put c = search needs

@@ -5,10 +5,6 @@ use Rattle.to_fields.proofs.Lines.{to-most, read-long, read-there}
 use borrow.Author.Needs.{needs}
 use Rattle.to_fields.proofs.read_piece.Statement.{statement}
 use Rattle.to_fields.proofs.read_piece.Tie as tie
-use Rattle.to_fields.proofs.read_piece.Reads as reads
-use Rattle.to_fields.proofs.read_piece.Lts as lts
-use Rattle.notation.proofs.read_line.Reads as read-line-reads
-use Rattle.to_fields.proofs.length_to.Reads as length-to-reads
 
 length-to-requires : tie.Need-length-to-requires
 length-to-requires c κs = search needs

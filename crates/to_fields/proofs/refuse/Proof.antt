@@ -4,13 +4,6 @@ use Rattle.to_fields.proofs.Lines.{size-most}
 use borrow.Author.Needs.{needs}
 use Rattle.to_fields.proofs.refuse.Statement.{statement}
 use Rattle.to_fields.proofs.refuse.Tie as tie
-use Rattle.to_fields.proofs.refuse.Reads as reads
-use Rattle.to_fields.proofs.refuse.Lts as lts
-use Rattle.to_fields.proofs.line_size.Reads as line-size-reads
-use Rattle.to_fields.proofs.more.Reads as more-reads
-use Rattle.to_fields.proofs.read_piece.Reads as read-piece-reads
-use Rattle.to_fields.proofs.refuse_line.Reads as refuse-line-reads
-use Rattle.to_fields.proofs.refuse_text.Reads as refuse-text-reads
 
 line-size-requires : tie.Need-line-size-requires
 line-size-requires c κs = search needs

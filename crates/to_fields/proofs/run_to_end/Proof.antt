@@ -4,10 +4,6 @@ use Rattle.to_fields.proofs.Ends.{ends-not, ends}
 use borrow.Author.Needs.{needs}
 use Rattle.to_fields.proofs.run_to_end.Statement.{statement}
 use Rattle.to_fields.proofs.run_to_end.Tie as tie
-use Rattle.to_fields.proofs.run_to_end.Reads as reads
-use Rattle.to_fields.proofs.run_to_end.Lts as lts
-use Rattle.to_fields.proofs.finish.Reads as finish-reads
-use Rattle.to_fields.proofs.take_input.Reads as take-input-reads
 
 take-input-requires : tie.Need-take-input-requires
 take-input-requires c κs = search needs

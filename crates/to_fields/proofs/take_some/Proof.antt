@@ -8,10 +8,6 @@ use Rattle.to_fields.proofs.Sizes.{Taking, taking-starts, next-first, n
 use borrow.Author.Needs.{needs}
 use Rattle.to_fields.proofs.take_some.Statement.{statement}
 use Rattle.to_fields.proofs.take_some.Tie as tie
-use Rattle.to_fields.proofs.take_some.Reads as reads
-use Rattle.to_fields.proofs.take_some.Lts as lts
-use Rattle.forms.proofs.write_call.Reads as write-call-reads
-use Rattle.to_fields.proofs.next_line.Reads as next-line-reads
 
 abbrev Inv-loop : tie.InvT-loop
 Inv-loop last input out₀ count₀ used₀ to₀ line₀ out count used to line =

@@ -4,11 +4,6 @@ use Rattle.to_fields.proofs.Turning.{turns}
 use borrow.Author.Needs.{needs}
 use Rattle.to_fields.proofs.take_turn.Statement.{statement}
 use Rattle.to_fields.proofs.take_turn.Tie as tie
-use Rattle.to_fields.proofs.take_turn.Reads as reads
-use Rattle.to_fields.proofs.take_turn.Lts as lts
-use Rattle.feed.proofs.slide.Reads as slide-reads
-use Rattle.to_fields.proofs.line_size.Reads as line-size-reads
-use Rattle.to_fields.proofs.write_all.Reads as write-all-reads
 
 sub-write-all : tie.Need-sub-write-all
 sub-write-all c = search needs

@@ -8,11 +8,6 @@ use Rattle.to_fields.proofs.Turning.{Passed, passed-none, passed-within
 use borrow.Author.Needs.{needs}
 use Rattle.to_fields.proofs.write_all.Statement.{statement}
 use Rattle.to_fields.proofs.write_all.Tie as tie
-use Rattle.to_fields.proofs.write_all.Reads as reads
-use Rattle.to_fields.proofs.write_all.Lts as lts
-use Rattle.feed.proofs.flush.Reads as flush-reads
-use Rattle.to_fields.proofs.counted.Reads as counted-reads
-use Rattle.to_fields.proofs.take_some.Reads as take-some-reads
 
 abbrev Inv-loop : tie.InvT-loop
 Inv-loop first input out₀ lines₀ used₀ t9 out lines used = Passed first input lines used × (length out ≡ length out₀)

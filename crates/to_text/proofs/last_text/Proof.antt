@@ -3,9 +3,6 @@ use Rattle.to_text.proofs.Turning.{cut-none, cut-there}
 use borrow.Author.Needs.{needs}
 use Rattle.to_text.proofs.last_text.Statement.{statement}
 use Rattle.to_text.proofs.last_text.Tie as tie
-use Rattle.to_text.proofs.last_text.Reads as reads
-use Rattle.to_text.proofs.last_text.Lts as lts
-use Rattle.to_text.proofs.put_field.Reads as put-field-reads
 
 returns : tie.Need-returns
 returns c = cut-none _ _ (c .if1 .taken)

@@ -7,9 +7,6 @@ use Rattle.to_text.proofs.Texts.{Hexing, hex-starts, hex-place, hex-goe
 use borrow.Author.Needs.{needs}
 use Rattle.to_text.proofs.put_bytes.Statement.{statement}
 use Rattle.to_text.proofs.put_bytes.Tie as tie
-use Rattle.to_text.proofs.put_bytes.Reads as reads
-use Rattle.to_text.proofs.put_bytes.Lts as lts
-use Rattle.to_text.proofs.put_byte.Reads as put-byte-reads
 
 abbrev Inv-loop : tie.InvT-loop
 Inv-loop bytes out₀ at to₀ i₀ out to i = Hexing out₀ at bytes i to out × (i ≤ length bytes) × (length out ≡ length out₀)

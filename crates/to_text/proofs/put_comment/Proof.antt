@@ -3,10 +3,6 @@ use Rattle.to_text.proofs.Texts.{comment-room, comment-put}
 use borrow.Author.Needs.{needs}
 use Rattle.to_text.proofs.put_comment.Statement.{statement}
 use Rattle.to_text.proofs.put_comment.Tie as tie
-use Rattle.to_text.proofs.put_comment.Reads as reads
-use Rattle.to_text.proofs.put_comment.Lts as lts
-use Rattle.to_text.proofs.put_bytes.Reads as put-bytes-reads
-use Rattle.words.proofs.put.Reads as put-reads
 
 slice-aggregate-put : tie.Need-slice-aggregate-put
 slice-aggregate-put c = search needs

@@ -1,12 +1,8 @@
+-- `to_text::put_field` meets its contract. Assumes nothing.
 use Rattle.to_text.proofs.Texts.{field-line, field-comment}
 use borrow.Author.Needs.{needs}
 use Rattle.to_text.proofs.put_field.Statement.{statement}
 use Rattle.to_text.proofs.put_field.Tie as tie
-use Rattle.to_text.proofs.put_field.Reads as reads
-use Rattle.to_text.proofs.put_field.Lts as lts
-use Rattle.spelling.proofs.write_text.Reads as write-text-reads
-use Rattle.to_text.proofs.put_comment.Reads as put-comment-reads
-use Rattle.wire.proofs.read_call.Reads as read-call-reads
 
 read-call-requires : tie.Need-read-call-requires
 read-call-requires c κs = search needs

@@ -7,10 +7,6 @@ use Rattle.feed.proofs.Turning.{lent}
 use Rattle.to_text.proofs.Turning.{ends-not, last-room, ends}
 use Rattle.to_text.proofs.run_to_end.Statement.{statement}
 use Rattle.to_text.proofs.run_to_end.Tie as tie
-use Rattle.to_text.proofs.run_to_end.Reads as reads
-use Rattle.to_text.proofs.run_to_end.Lts as lts
-use Rattle.to_text.proofs.last_text.Reads as last-text-reads
-use Rattle.to_text.proofs.take_input.Reads as take-input-reads
 
 take-input-requires : tie.Need-take-input-requires
 take-input-requires c κs = search needs

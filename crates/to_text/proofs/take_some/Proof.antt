@@ -1,7 +1,7 @@
 -- `to_text::take_some` meets its contract. Assumes nothing.
 use mathlib.Core.Path.{_≡_, refl, ap, _∙_}
 use mathlib.Core.Bool.{false}
-use Prim.Native.Nat.{ℕ, _+_, _-_}
+use Prim.Native.Nat.{_+_, _-_}
 use native.Mathlib.Omega.{arith}
 use lib.ListN.{length, drop}
 use Rattle.input.specs.Fields.{frontSize}
@@ -13,10 +13,6 @@ use Rattle.to_text.proofs.Sizes.{size-first, Taking, taking-within, tak
 use borrow.Author.Needs.{needs}
 use Rattle.to_text.proofs.take_some.Statement.{statement}
 use Rattle.to_text.proofs.take_some.Tie as tie
-use Rattle.to_text.proofs.take_some.Reads as reads
-use Rattle.to_text.proofs.take_some.Lts as lts
-use Rattle.to_text.proofs.next_size.Reads as next-size-reads
-use Rattle.to_text.proofs.put_field.Reads as put-field-reads
 
 abbrev Inv-loop : tie.InvT-loop
 Inv-loop input out₀ count₀ used₀ to₀ size₀ out count used to size =

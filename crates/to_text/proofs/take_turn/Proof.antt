@@ -7,10 +7,6 @@ use Rattle.translation.proofs.Turning.{turn-keeps}
 use borrow.Author.Needs.{needs}
 use Rattle.to_text.proofs.take_turn.Statement.{statement}
 use Rattle.to_text.proofs.take_turn.Tie as tie
-use Rattle.to_text.proofs.take_turn.Reads as reads
-use Rattle.to_text.proofs.take_turn.Lts as lts
-use Rattle.feed.proofs.slide.Reads as slide-reads
-use Rattle.to_text.proofs.write_all.Reads as write-all-reads
 
 sub-write-all : tie.Need-sub-write-all
 sub-write-all c = search needs

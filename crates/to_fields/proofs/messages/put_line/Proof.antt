@@ -3,11 +3,6 @@ use Rattle.to_fields.proofs.Lines.{end-within}
 use borrow.Author.Needs.{needs}
 use Rattle.to_fields.proofs.messages.put_line.Statement.{statement}
 use Rattle.to_fields.proofs.messages.put_line.Tie as tie
-use Rattle.to_fields.proofs.messages.put_line.Reads as reads
-use Rattle.to_fields.proofs.messages.put_line.Lts as lts
-use Rattle.to_fields.proofs.length_to.Reads as length-to-reads
-use Rattle.to_fields.proofs.messages.start_of.Reads as start-of-reads
-use Rattle.words.proofs.put.Reads as put-reads
 
 start-of-requires : tie.Need-start-of-requires
 start-of-requires c κs = search needs

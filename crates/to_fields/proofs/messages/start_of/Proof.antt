@@ -5,9 +5,6 @@ use Rattle.to_fields.proofs.Lines.{line-within}
 use borrow.Author.Needs.{needs}
 use Rattle.to_fields.proofs.messages.start_of.Statement.{statement}
 use Rattle.to_fields.proofs.messages.start_of.Tie as tie
-use Rattle.to_fields.proofs.messages.start_of.Reads as reads
-use Rattle.to_fields.proofs.messages.start_of.Lts as lts
-use Rattle.to_fields.proofs.line_size.Reads as line-size-reads
 
 abbrev Inv-loop : tie.InvT-loop
 Inv-loop text k at₀ i₀ at i = at ≤ length text
