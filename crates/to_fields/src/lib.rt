@@ -7,9 +7,10 @@ ghost use mathlib.Core.Path.{_≡_};
 ghost use mathlib.Core.Bool.{true, false};
 ghost use Prim.Native.Nat.{_+_, _%_, _^_, _≤_};
 ghost use lib.ListN.{length, take};
-ghost use Rattle.feed.specs.Feeds.{Keeps};
+ghost use Rattle.feed.specs.Feeds.{Reads, Keeps};
 ghost use Rattle.to_fields.specs.Lines.{lengthTo, lineSize, lineRead, goodLines, rest};
 ghost use Rattle.to_fields.specs.Turns.{NoCall, IsLine, NextLine, WritesLines, WritesAllLines, Counts, FedTo, CutOff, Finishes, Ends};
+use feed::Got;
 use libc::STDERR_FILENO;
 use notation::Read;
 use wire::Call;
@@ -171,6 +172,18 @@ pub fn take_some(last: bool, input: &[u8], out: &mut [u8]) -> Part
 
 // ---- the loop
 
+// Reads from standard input into the buffer from a place on.
+fn read_more(buf: &mut [u8], at: usize) -> Got
+    ensures { λ r. ⌜ Reads at (now (buf .entry)) (now (buf .exit)) r ⌝ }
+{
+    feed::read(buf, at, b"fields: standard input")
+}
+
+// Writes the first bytes of the buffer to standard output: whether that was done.
+fn write_front(out: &[u8], n: usize) -> bool {
+    feed::flush(out, n, b"fields: standard output") == 0
+}
+
 // The number of lines, and some more.
 fn counted(lines: u64, count: usize) -> u64
     ensures { λ r. ⌜ r ≡ (lines + count) % 2 ^ 64 ⌝ }
@@ -198,7 +211,7 @@ fn write_all(first: u64, input: &[u8], out: &mut [u8]) -> Wrote
         used += part.used;
         lines = counted(lines, count);
         let n = part.written;
-        if feed::flush(out, n, b"fields: standard output") != 0 {
+        if !write_front(out, n) {
             return Wrote {
                 used,
                 lines,
@@ -234,7 +247,7 @@ fn take_input(buf: &mut [u8], out: &mut [u8]) -> Rest
     let mut turns = u64::MAX;
     while turns > 0 {
         turns -= 1;
-        let got = feed::read(buf, len, b"fields: standard input");
+        let got = read_more(buf, len);
         let more = got.len;
         if more == 0 {
             return Rest {
@@ -394,7 +407,7 @@ pub fn run(buf: &mut [u8], out: &mut [u8]) -> bool {
     }
     let end = run_to_end(buf, out);
     let n = end.len;
-    if feed::flush(out, n, b"fields: standard output") != 0 {
+    if !write_front(out, n) {
         return false;
     }
     end.good

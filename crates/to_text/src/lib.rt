@@ -7,10 +7,11 @@ ghost use lib.ListN.{length, take};
 ghost use mathlib.Core.Bool.{true, false};
 ghost use Rattle.input.specs.Fields.{frontSize, rest};
 ghost use Rattle.forms.specs.Put.{Put};
-ghost use Rattle.feed.specs.Feeds.{Keeps};
+ghost use Rattle.feed.specs.Feeds.{Reads, Keeps};
 ghost use Rattle.translation.specs.Writes.{WritesAll};
 ghost use Rattle.to_text.specs.Texts.{hexDigit, hexText, breakText, hexFrom, comment, fieldText};
 ghost use Rattle.to_text.specs.Turns.{sizeWithin, WritesFields, FedTo, cutText, Ends};
+use feed::Got;
 
 // How many fields were written, the bytes that they took, and the bytes of their text.
 pub struct Part {
@@ -162,6 +163,18 @@ pub fn take_some(input: &[u8], out: &mut [u8]) -> Part
 
 // ---- the loop
 
+// Reads from standard input into the buffer from a place on.
+fn read_more(buf: &mut [u8], at: usize) -> Got
+    ensures { λ r. ⌜ Reads at (now (buf .entry)) (now (buf .exit)) r ⌝ }
+{
+    feed::read(buf, at, b"fields: standard input")
+}
+
+// Writes the first bytes of the buffer to standard output: whether that was done.
+fn write_front(out: &[u8], n: usize) -> bool {
+    feed::flush(out, n, b"fields: standard output") == 0
+}
+
 // Every whole field at the front of some bytes written to standard output, a part at a time, unless a write fails.
 fn write_all(input: &[u8], out: &mut [u8]) -> Wrote
     requires { ⌜ 335882 ≤ length (now out) ⌝ }
@@ -178,7 +191,7 @@ fn write_all(input: &[u8], out: &mut [u8]) -> Wrote
         }
         used += part.used;
         let n = part.written;
-        if feed::flush(out, n, b"fields: standard output") != 0 {
+        if !write_front(out, n) {
             return Wrote { used, failed: true };
         }
     }
@@ -206,7 +219,7 @@ fn take_input(buf: &mut [u8], out: &mut [u8]) -> Rest
     let mut turns = u64::MAX;
     while turns > 0 {
         turns -= 1;
-        let got = feed::read(buf, len, b"fields: standard input");
+        let got = read_more(buf, len);
         let more = got.len;
         if more == 0 {
             return Rest {
@@ -267,5 +280,5 @@ pub fn run(buf: &mut [u8], out: &mut [u8]) -> bool {
     if !end.ended {
         return false;
     }
-    feed::flush(out, n, b"fields: standard output") == 0
+    write_front(out, n)
 }
