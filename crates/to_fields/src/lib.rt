@@ -7,9 +7,9 @@ ghost use mathlib.Core.Path.{_≡_};
 ghost use mathlib.Core.Bool.{true, false};
 ghost use Prim.Native.Nat.{_+_, _%_, _^_, _≤_};
 ghost use lib.ListN.{length, take};
-ghost use Rattle.feed.specs.Feeds.{Reads, Keeps};
-ghost use Rattle.to_fields.specs.Lines.{lengthTo, lineSize, lineRead, goodLines, rest};
-ghost use Rattle.to_fields.specs.Turns.{NoCall, IsLine, NextLine, WritesLines, WritesAllLines, Counts, FedTo, CutOff, Finishes, Ends};
+ghost use Rattle.feed.specs.Feeds.{Reads};
+ghost use Rattle.to_fields.specs.Lines.{lengthTo, lineSize, lineRead};
+ghost use Rattle.to_fields.specs.Turns.{NoCall, IsLine, NextLine, WritesLines, WritesAllLines, TakesTurn, TakesInput, CutOff, Finishes, Ends};
 use feed::Got;
 use libc::STDERR_FILENO;
 use notation::Read;
@@ -28,11 +28,12 @@ pub struct Part {
     pub written: usize,
 }
 
-// The bytes of the lines that were written, the number of lines up to then, and whether a write has failed.
+// The bytes of the lines that were written, the number of lines up to then, whether a write has failed, and whether the next line is refused.
 struct Wrote {
     used: usize,
     lines: u64,
     failed: bool,
+    refused: bool,
 }
 
 // How many bytes are kept at the buffer's front after a turn, the number of lines, whether a write has failed, and whether the next line is refused.
@@ -202,10 +203,12 @@ fn write_all(first: u64, input: &[u8], out: &mut [u8]) -> Wrote
         let part = take_some(false, &input[used..], out);
         let count = part.count;
         if count == 0 {
+            let next = line_size(false, &input[used..]);
             return Wrote {
                 used,
                 lines,
                 failed: false,
+                refused: next != 0,
             };
         }
         used += part.used;
@@ -216,6 +219,7 @@ fn write_all(first: u64, input: &[u8], out: &mut [u8]) -> Wrote
                 used,
                 lines,
                 failed: true,
+                refused: false,
             };
         }
     }
@@ -224,23 +228,22 @@ fn write_all(first: u64, input: &[u8], out: &mut [u8]) -> Wrote
 // The bytes in front of a place taken: their lines written, and what is left of them moved to the front.
 fn take_turn(lines: u64, buf: &mut [u8], end: usize, out: &mut [u8]) -> Turn
     requires { ⌜ (end ≤ length (now buf)) × (64 ≤ length (now out)) ⌝ }
-    ensures { λ r. ⌜ (r .failed ≡ false → Keeps rest (take end (now (buf .entry))) (now (buf .entry)) (now (buf .exit)) (r .len) × Counts (r .lines) (lines + length (goodLines (take end (now (buf .entry)))))) ⌝ }
+    ensures { λ r. ⌜ TakesTurn lines (take end (now (buf .entry))) (now (buf .entry)) (now (buf .exit)) r ⌝ }
 {
     let wrote = write_all(lines, &buf[0..end], out);
     let used = wrote.used;
-    let next = line_size(false, &buf[used..end]);
     Turn {
         len: feed::slide(buf, used, end),
         lines: wrote.lines,
         failed: wrote.failed,
-        refused: next != 0,
+        refused: wrote.refused,
     }
 }
 
 // Reads and takes until the input ends, a line is refused, or a read or a write fails. What a read brought is written before the next.
 fn take_input(buf: &mut [u8], out: &mut [u8]) -> Rest
     requires { ⌜ 64 ≤ length (now out) ⌝ }
-    ensures { λ r. ⌜ (r .failed ≡ false → FedTo (now (buf .exit)) (r .lines) (r .len)) ⌝ }
+    ensures { λ r. ⌜ TakesInput (now (buf .exit)) r ⌝ }
 {
     let mut lines: u64 = 0;
     let mut len: usize = 0;

@@ -24,7 +24,7 @@ part-finish-start : tie.Need-part-finish-start
 part-finish-start c = search needs
 
 part-finish-end : tie.Need-part-finish-end
-part-finish-end c = c .before .before .before .before .before .before .take-input .ensures (c .before .if1 .left) .fits
+part-finish-end c = c .before .before .before .before .before .before .take-input .ensures .fed (c .before .if1 .left) .fits
 
 finish-requires : tie.Need-finish-requires
 finish-requires c κs = search needs
@@ -38,7 +38,7 @@ same-length-4 c = search needs
 returns-2 : tie.Need-returns-2
 returns-2 c =
     let t = c .before .before .before .before .before .before .before .before .before .before .before .take-input in
-    ends _ _ _ _ _ (c .before .before .finish .result) (t .ensures (c .before .before .before .before .before .before .if1 .left)) (lent (t .result .len) _) (c .before .before .finish .ensures)
+    ends _ _ _ _ _ (c .before .before .finish .result) (t .ensures .fed (c .before .before .before .before .before .before .if1 .left)) (lent (t .result .len) _) (c .before .before .finish .ensures)
 
 pub run-to-end-spec : {M : Type 1} → statement M
 run-to-end-spec =

@@ -17,18 +17,6 @@ part-write-all-end c = search needs
 write-all-requires : tie.Need-write-all-requires
 write-all-requires c κs = search needs
 
-sub-line-size : tie.Need-sub-line-size
-sub-line-size c = search needs
-
-part-line-size-start : tie.Need-part-line-size-start
-part-line-size-start c = search needs
-
-part-line-size-end : tie.Need-part-line-size-end
-part-line-size-end c = search needs
-
-line-size-requires : tie.Need-line-size-requires
-line-size-requires c κs = search needs
-
 slide-requires : tie.Need-slide-requires
 slide-requires c κs = search needs
 
@@ -40,8 +28,8 @@ same-length-2 c = search needs
 
 returns : tie.Need-returns
 returns c =
-    let s = c .before .before .before .before .before .before .before .before .before .before .before .before .before .before .before in
-    let w = c .before .before .before .before .before .before .before .before .before .write-all in
+    let s = c .before .before .before .before .before .before .before .before .before .before .before .before in
+    let w = c .before .before .before .before .before .before .write-all in
     turns (s .args .lines) (s .args .buf .now) _ _ (s .args .end) (c .before .before .slide .result) (w .result) (s .pre .0) (lent (s .args .end) (s .args .buf .now)) (w .ensures) (c .before .before .slide .ensures)
 
 pub take-turn-spec : {M : Type 1} → statement M
@@ -52,10 +40,6 @@ take-turn-spec =
     part-write-all-start
     part-write-all-end
     write-all-requires
-    sub-line-size
-    part-line-size-start
-    part-line-size-end
-    line-size-requires
     slide-requires
     same-length
     same-length-2

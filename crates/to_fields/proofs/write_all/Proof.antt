@@ -8,11 +8,6 @@ use Rattle.to_fields.proofs.Turning.{Passed, passed-none, passed-within
 use borrow.Author.Needs.{needs}
 use Rattle.to_fields.proofs.write_all.Statement.{statement}
 use Rattle.to_fields.proofs.write_all.Tie as tie
-use Rattle.to_fields.proofs.write_all.Reads as reads
-use Rattle.to_fields.proofs.write_all.Lts as lts
-use Rattle.to_fields.proofs.counted.Reads as counted-reads
-use Rattle.to_fields.proofs.take_some.Reads as take-some-reads
-use Rattle.to_fields.proofs.write_front.Reads as write-front-reads
 
 abbrev Inv-loop : tie.InvT-loop
 Inv-loop first input out₀ lines₀ used₀ out lines used = Passed first input lines used × (length out ≡ length out₀)
@@ -35,15 +30,27 @@ part-take-some-end c = search needs
 take-some-requires : tie.Need-take-some-requires Inv-loop μ-loop
 take-some-requires c κs = search needs
 
+sub-line-size : tie.Need-sub-line-size Inv-loop μ-loop
+sub-line-size c = c .before .before .before .before .before .before .loop .inv .0 .place
+
+part-line-size-start : tie.Need-part-line-size-start Inv-loop μ-loop
+part-line-size-start c = let w = c .before .before .before .before .before .before .loop .inv .0 .place in search (needs, w)
+
+part-line-size-end : tie.Need-part-line-size-end Inv-loop μ-loop
+part-line-size-end c = search needs
+
+line-size-requires : tie.Need-line-size-requires Inv-loop μ-loop
+line-size-requires c κs = search needs
+
 same-length : tie.Need-same-length Inv-loop μ-loop
 same-length c =
-    c .before .before .before .take-some .kept .1 .1 .0 ∙ c .before .before .before .before .before .before .loop .inv .1
+    c .before .before .before .before .before .take-some .kept .1 .1 .0 ∙ c .before .before .before .before .before .before .before .before .loop .inv .1
 
 returns : tie.Need-returns Inv-loop μ-loop
 returns c =
-    let l = c .before .before .before .before .before .before .loop in
-    let t = c .before .before .before .take-some in
-    passed-all _ _ _ _ _ _ _ (t .result) (l .inv .0) (rest-all _ (l .used)) (t .ensures) (omega (arith, c .before .before .before .before .before .before .before .before .before .pre, l .inv .1)) (c .if1 .taken)
+    let l = c .before .before .before .before .before .before .before .before .loop in
+    let t = c .before .before .before .before .before .take-some in
+    passed-all _ _ _ _ _ _ _ (t .result) (l .inv .0) (rest-all _ (l .used)) (t .ensures) (omega (arith, c .before .before .before .before .before .before .before .before .before .before .before .pre, l .inv .1)) (c .before .before .if1 .taken) _ (c .line-size .ensures)
 
 add-used : tie.Need-add-used Inv-loop μ-loop
 add-used c =
@@ -90,6 +97,10 @@ write-all-spec =
     part-take-some-start
     part-take-some-end
     take-some-requires
+    sub-line-size
+    part-line-size-start
+    part-line-size-end
+    line-size-requires
     same-length
     returns
     add-used

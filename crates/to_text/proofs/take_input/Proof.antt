@@ -10,10 +10,6 @@ use Rattle.to_text.specs.Turns.{FedTo}
 use Rattle.to_text.proofs.Turning.{fed-none, fed-turn}
 use Rattle.to_text.proofs.take_input.Statement.{statement}
 use Rattle.to_text.proofs.take_input.Tie as tie
-use Rattle.to_text.proofs.take_input.Reads as reads
-use Rattle.to_text.proofs.take_input.Lts as lts
-use Rattle.to_text.proofs.read_more.Reads as read-more-reads
-use Rattle.to_text.proofs.take_turn.Reads as take-turn-reads
 
 abbrev Inv-loop : tie.InvT-loop
 Inv-loop buf₀ out₀ len₀ turns₀ buf out len turns = FedTo buf len × (length buf ≡ length buf₀) × (length out ≡ length out₀)

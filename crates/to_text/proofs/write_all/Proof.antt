@@ -8,10 +8,6 @@ use Rattle.to_text.proofs.Turning.{Passed, passed-none, passed-within, 
 use borrow.Author.Needs.{needs}
 use Rattle.to_text.proofs.write_all.Statement.{statement}
 use Rattle.to_text.proofs.write_all.Tie as tie
-use Rattle.to_text.proofs.write_all.Reads as reads
-use Rattle.to_text.proofs.write_all.Lts as lts
-use Rattle.to_text.proofs.take_some.Reads as take-some-reads
-use Rattle.to_text.proofs.write_front.Reads as write-front-reads
 
 abbrev Inv-loop : tie.InvT-loop
 Inv-loop input out₀ used₀ out used = Passed input used × (length out ≡ length out₀)
