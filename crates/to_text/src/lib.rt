@@ -1,10 +1,10 @@
 // Fields as lines of text: a call as its line in the notation, and what is no call as a comment. `take_some` has the whole contract of what is written; the loop reads
 // as much as there is, has every whole field of it written, and keeps what is left for the next read.
 ghost use mathlib.Core.Path.{_≡_};
+ghost use mathlib.Core.Bool.{true, false};
 ghost use mathlib.Core.List.{_++_};
 ghost use Prim.Native.Nat.{_+_, _*_, _≤_, _<_};
 ghost use lib.ListN.{length, take};
-ghost use mathlib.Core.Bool.{true, false};
 ghost use Rattle.input.specs.Fields.{frontSize, rest};
 ghost use Rattle.forms.specs.Put.{Put};
 ghost use Rattle.feed.specs.Feeds.{Reads, Keeps};
