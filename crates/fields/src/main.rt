@@ -1,10 +1,5 @@
 // The program `fields`: a case as text on standard input, one call a line, to its fields on standard output. With the argument `--text` the other way:
 // fields to lines, and what is no call as a comment.
-mod messages;
-mod output;
-mod to_fields;
-mod to_text;
-
 use libc::STDERR_FILENO;
 
 // What the program is asked for.
@@ -47,17 +42,30 @@ fn asked() -> Task {
     Task::Unknown
 }
 
+// Text to fields.
+fn write_fields() {
+    let mut buf = [0u8; 131072];
+    let mut out = [0u8; 65536];
+    to_fields::run(&mut buf, &mut out);
+}
+
+// Fields to text.
+fn write_text() {
+    let mut buf = [0u8; 131072];
+    let mut out = [0u8; 335882];
+    to_text::run(&mut buf, &mut out);
+}
+
+// How the program is called, on standard error.
+fn tell_usage() {
+    io::write_all(STDERR_FILENO, b"usage: fields [--text] < FILE\n");
+}
+
 fn main() {
-    let mut buf = io::large_buffer();
-    let mut kept = [0u8; 65538];
-    let mut one = [0u8; 8192];
-    let mut out = [0u8; 131072];
     let task = asked();
     match task {
-        Task::ToFields => to_fields::run(&mut buf, &mut kept, &mut one, &mut out),
-        Task::ToText => to_text::run(&mut buf, &mut kept, &mut one, &mut out),
-        Task::Unknown => {
-            io::write_all(STDERR_FILENO, b"usage: fields [--text] < FILE\n");
-        }
+        Task::ToFields => write_fields(),
+        Task::ToText => write_text(),
+        Task::Unknown => tell_usage(),
     }
 }

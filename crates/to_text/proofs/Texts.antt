@@ -1,26 +1,27 @@
 -- The text of a field: its comment byte by byte, and which of the two it is. Assumes nothing.
-use mathlib.Core.Path.{_≡_, refl, ap, subst, _∙_}
-use mathlib.Core.Bool.{Bool, true, false, _&&_}
+use mathlib.Core.Path.{_≡_, refl, ap, ap₂, subst, _∙_}
 use mathlib.Core.List.{List, [], _∷_, _++_}
 use mathlib.Core.Option.{Option, none, some}
-use Prim.Native.Nat.{ℕ, zero, suc, _+_, _*_, _%_, _≤_, _<_}
+use Prim.Native.Nat.{ℕ, zero, suc, _+_, _*_, _/_, _%_, _≤_, _<_}
 use native.Mathlib.Numerals.{add-one}
 use native.Mathlib.Omega.{arith}
-use lib.Dec.{eqb, ltb}
+use lib.Dec.{ltb}
 use lib.ListN.{length, getD, drop, drop-of-length-le, length-append}
-use lib.Seq.{sets, length-sets, drop-cons}
-use borrow.Author.Tests.{lt-ltb, le-ltb, le-leb, eq-eqb, ne-eqb}
+use lib.Seq.{sets, drop-cons}
+use borrow.Author.Tests.{lt-ltb, le-ltb, eq-eqb, ne-eqb}
 use Rattle.lists.proofs.Bools.{and-false}
 use Rattle.machine.specs.Wire as Wire
 use Rattle.machine.specs.Wire.{decode}
 use Rattle.wire.specs.declared.Call.{Call}
 use Rattle.wire.specs.Asked.{asked}
+use Rattle.lines.specs.Placed.{Placed, placed}
 use Rattle.forms.specs.Forms.{tagOf, numbersOf, formOf}
-use Rattle.forms.specs.Put.{Put, Written, putInto}
-use Rattle.forms.proofs.Puts.{put-as}
+use Rattle.forms.specs.Put.{Put, Written}
+use Rattle.forms.proofs.Puts.{put-as, Putting, putting-start, putting-turn, putting-end, putting-most, put-then, put-placed}
+use Rattle.translation.proofs.Writing.{put-into}
 use Rattle.spelling.specs.Words.{nameOf}
 use Rattle.spelling.specs.Text.{itemText, itemsText, lineForm, lineOf, lineInto}
-use Rattle.to_text.specs.Texts.{hexDigit, breakText, hexText, hexFrom, comment, lineOr, fieldText}
+use Rattle.to_text.specs.Texts.{hexDigit, breakText, hexText, hexFrom, begin, comment, lineOr, fieldText}
 
 -- ---- digits and breaks
 
@@ -44,6 +45,10 @@ pub break-there : (i : ℕ) → (i ≡ 0 → ⊥) → i % 32 ≡ 0 → 10 ∷ 35
 unfolding breakText
 break-there i h e = rw (lt-ltb 0 i (omega arith), eq-eqb (i % 32) 0 e) refl
 
+pub hex-is : (b high low : ℕ) → high ≡ hexDigit (b / 16) → low ≡ hexDigit (b % 16) → 32 ∷ high ∷ low ∷ [] ≡ hexText b
+unfolding hexText
+hex-is b high low e f = ap₂ (λ (x y : ℕ). 32 ∷ x ∷ y ∷ []) e f
+
 -- ---- a comment
 
 pub hex-next : (bytes : List ℕ) (i : ℕ) → i < length bytes
@@ -51,9 +56,43 @@ pub hex-next : (bytes : List ℕ) (i : ℕ) → i < length bytes
 unfolding hexFrom
 hex-next bytes i h = rw (drop-cons bytes i 0 h, add-one) refl
 
-pub hex-none : (bytes : List ℕ) (i : ℕ) → length bytes ≤ i → 10 ∷ [] ≡ hexFrom i (drop i bytes)
+pub hex-none : (bytes : List ℕ) (i : ℕ) → length bytes ≤ i → hexFrom i (drop i bytes) ≡ []
 unfolding hexFrom
 hex-none bytes i h = rw (drop-of-length-le bytes {i = i} h) refl
+
+-- the bytes in front of byte i are put
+abbrev pub Hexing : List ℕ → ℕ → List ℕ → ℕ → ℕ → List ℕ → Type 0
+Hexing out at bytes i to new = Putting out at (hexFrom 0 bytes) (hexFrom i (drop i bytes)) (5 * i) to new
+
+module _ (out : List ℕ) (at : ℕ) (bytes : List ℕ) where
+  pub hex-starts : Hexing out at bytes 0 at out
+  hex-starts = putting-start out at (hexFrom 0 bytes)
+
+  module _ (i to : ℕ) (mid : List ℕ) (g : Hexing out at bytes i to mid) where
+    pub hex-place : to ≤ at + 5 * i
+    hex-place = omega (arith, g .put .behind, g .put .short)
+
+    pub hex-goes : i < length bytes → (r : ℕ) (new : List ℕ) → Put mid to (breakText i ++ hexText (getD bytes i 0)) 5 r new → Hexing out at bytes (i + 1) r new
+    hex-goes h r new p = putting-most (5 * (i + 1)) (omega arith) (putting-turn _ _ g (hex-next bytes i h) p)
+
+    pub hex-ends : length bytes ≤ i → i ≤ length bytes → Put out at (hexFrom 0 bytes) (5 * length bytes) to mid
+    hex-ends h k = putting-end (5 * length bytes) (omega arith) (hex-none bytes i h) g
+
+-- a comment from a place on, behind which there is room for it
+module _ (out : List ℕ) (at : ℕ) (bytes : List ℕ) (room : at + (5 * length bytes + 14) ≤ length out) (p : ℕ) (a : List ℕ) (is : _≡_ {A = Placed} (p, a) (placed begin out at)) where
+  begun : Put out at begin 13 p a
+  begun = put-placed 13 begin (omega arith) (omega arith) is
+
+  pub comment-room : p + 5 * length bytes ≤ length a
+  comment-room = omega (arith, begun .behind, begun .same)
+
+  pub comment-put : (q r : ℕ) (b new : List ℕ) → Put a p (hexFrom 0 bytes) (5 * length bytes) q b → _≡_ {A = Placed} (r, new) (placed (10 ∷ []) b q)
+      → Put out at (comment bytes) (5 * length bytes + 14) r new
+  unfolding comment
+  comment-put q r b new y z =
+      put-as (5 * length bytes + 14) (omega arith) refl
+      (put-then begin _ begun (put-then (hexFrom 0 bytes) (10 ∷ []) y
+      (put-placed 1 (10 ∷ []) (omega arith) (omega (arith, begun .behind, begun .same, y .behind, y .short, y .same)) z)))
 
 -- ---- a field
 
@@ -103,25 +142,20 @@ no-text [] e = refl
 no-text (x ∷ t) e = absurd (omega arith)
 
 module _ (field out mid : List ℕ) (at to : ℕ) (call : Call) (is : asked call ≡ decode field) (room : at + (5 * length field + 8192) ≤ length out)
-    (put : _≡_ {A = Written} (to, mid) (lineInto (asked call) out at)) where
-  done : _≡_ {A = Written} (to, mid) (at + length (written (asked call)), sets out at (written (asked call)))
-  unfolding putInto
-  done = put ∙ rw (le-leb (at + 8192) (length out) (omega arith)) refl
+    (put : _≡_ {A = Written} (to, mid) (lineInto (asked call) out at)) (few : to ≤ at + 8192) where
+  line : Put out at (written (asked call)) 8192 to mid
+  line = put-into 8192 (written (asked call)) out mid at to (omega arith) put few
 
-  pub field-line : to ≤ at + 8192 → (to ≡ at → ⊥) → Put out at (fieldText field) (5 * length field + 8192) to mid
+  pub field-line : (to ≡ at → ⊥) → Put out at (fieldText field) (5 * length field + 8192) to mid
   unfolding fieldText
-  field-line few more =
-      let n : to ≡ at + length (written (asked call)) = ap (λ (p : Written). p .0) done in
-      let stored : mid ≡ sets out at (written (asked call)) = ap (λ (p : Written). p .1) done in
+  field-line more =
       put-as (5 * length field + 8192) (omega arith)
-      (text-some (comment field) (asked call) (λ e. more (n ∙ omega (arith, e))) ∙ ap (lineOr (comment field)) is)
-      (record { behind = n; stored = stored; short = omega (arith, n); same = ap length stored ∙ length-sets out at (written (asked call)) })
+      (text-some (comment field) (asked call) (λ e. more (omega (arith, line .behind, e))) ∙ ap (lineOr (comment field)) is) line
 
   pub field-comment : to ≡ at → (new : List ℕ) (r : ℕ) → Put mid at (comment field) (5 * length field + 14) r new → Put out at (fieldText field) (5 * length field + 8192) r new
   unfolding fieldText
   field-comment none-there new r p =
-      let n : to ≡ at + length (written (asked call)) = ap (λ (q : Written). q .0) done in
-      let empty : length (written (asked call)) ≡ 0 = omega (arith, n) in
-      let same : mid ≡ out = ap (λ (q : Written). q .1) done ∙ ap (sets out at) (no-text (written (asked call)) empty) in
+      let empty : length (written (asked call)) ≡ 0 = omega (arith, line .behind) in
+      let same : mid ≡ out = line .stored ∙ ap (sets out at) (no-text (written (asked call)) empty) in
       put-as (5 * length field + 8192) (omega arith) (text-none (comment field) (asked call) empty ∙ ap (lineOr (comment field)) is)
       (subst (λ (l : List ℕ). Put l at (comment field) (5 * length field + 14) r new) same p)

@@ -20,14 +20,17 @@ hexText b = 32 ∷ hexDigit (b / 16) ∷ hexDigit (b % 16) ∷ []
 unfoldable pub breakText : ℕ → List ℕ
 breakText i = if ltb 0 i && eqb (i % 32) 0 then 10 ∷ 35 ∷ [] else []
 
--- the bytes from byte i on, and the line's end
+-- the bytes from byte i on
 unfoldable pub hexFrom : ℕ → List ℕ → List ℕ
-hexFrom i [] = 10 ∷ []
+hexFrom i [] = []
 hexFrom i (b ∷ bytes) = (breakText i ++ hexText b) ++ hexFrom (suc i) bytes
 
--- "# not a call:", and the bytes
+-- "# not a call:", the bytes, and the line's end
+abbrev pub begin : List ℕ
+begin = 35 ∷ 32 ∷ 110 ∷ 111 ∷ 116 ∷ 32 ∷ 97 ∷ 32 ∷ 99 ∷ 97 ∷ 108 ∷ 108 ∷ 58 ∷ []
+
 unfoldable pub comment : List ℕ → List ℕ
-comment bytes = (35 ∷ 32 ∷ 110 ∷ 111 ∷ 116 ∷ 32 ∷ 97 ∷ 32 ∷ 99 ∷ 97 ∷ 108 ∷ 108 ∷ 58 ∷ []) ++ hexFrom 0 bytes
+comment bytes = begin ++ hexFrom 0 bytes ++ (10 ∷ [])
 
 -- the line of a call, or a comment where there is none
 abbrev pub lineOr : List ℕ → Option Call → List ℕ

@@ -11,10 +11,10 @@ front-size-requires : tie.Need-front-size-requires
 front-size-requires c κs = search needs
 
 returns-2 : tie.Need-returns-2
-returns-2 c = search needs
+returns-2 c = size-there _ _ _ (c .before .before .if1 .left) (c .before .front-size .ensures) (c .if2 .taken)
 
 returns-3 : tie.Need-returns-3
-returns-3 c = search needs
+returns-3 c = size-not _ _ _ (c .before .before .if1 .left) (c .before .front-size .ensures) (c .if2 .left)
 
 pub next-size-spec : {M : Type 1} → statement M
 next-size-spec = tie.close (tie.spec returns front-size-requires returns-2 returns-3)

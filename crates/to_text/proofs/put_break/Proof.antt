@@ -22,7 +22,9 @@ same-length : tie.Need-same-length
 same-length c = search needs
 
 returns-3 : tie.Need-returns-3
-returns-3 c = search needs
+returns-3 c =
+    put-as 2 (omega arith) (break-there _ (c .before .before .before .before .before .before .if1 .left) (c .before .before .before .before .before .if2 .left))
+    (put-placed 2 _ (omega arith) (omega (arith, c .before .before .before .before .before .before .before .before .pre)) (c .before .before .put .ensures))
 
 pub put-break-spec : {M : Type 1} → statement M
 put-break-spec =

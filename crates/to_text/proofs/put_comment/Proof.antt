@@ -1,66 +1,39 @@
+-- `to_text::put_comment` meets its contract. Assumes nothing.
+use Rattle.to_text.proofs.Texts.{comment-room, comment-put}
+use borrow.Author.Needs.{needs}
 use Rattle.to_text.proofs.put_comment.Statement.{statement}
 use Rattle.to_text.proofs.put_comment.Tie as tie
-use Rattle.to_text.proofs.put_comment.Reads as reads
-use Rattle.to_text.proofs.put_comment.Lts as lts
-use Rattle.to_text.proofs.put_byte.Reads as put-byte-reads
-use Rattle.words.proofs.put.Reads as put-reads
 
-abbrev Inv-loop : tie.InvT-loop
-Inv-loop bytes out₀ at to₀ i₀ t7 out to i = ?
+slice-aggregate-put : tie.Need-slice-aggregate-put
+slice-aggregate-put c = search needs
 
-abbrev μ-loop : tie.MeasureT-loop
-μ-loop bytes out₀ at to₀ i₀ t7 out to i = ?
+put-requires : tie.Need-put-requires
+put-requires c κs = search needs
 
-slice-aggregate-put : tie.Need-slice-aggregate-put Inv-loop μ-loop
-slice-aggregate-put c = ?
+put-bytes-requires : tie.Need-put-bytes-requires
+put-bytes-requires c κs =
+    comment-room _ _ (c .before .before .before .before .before .before .before .before .args .bytes .now) (c .before .before .before .before .before .before .before .before .pre) _ _ (c .before .before .before .put .ensures)
 
-put-requires : tie.Need-put-requires Inv-loop μ-loop
-put-requires c κs = ?
+slice-aggregate-put-2 : tie.Need-slice-aggregate-put-2
+slice-aggregate-put-2 c = search needs
 
-loop-holds : tie.Need-loop-holds Inv-loop μ-loop
-loop-holds c = ?
+put-requires-2 : tie.Need-put-requires-2
+put-requires-2 c κs = search needs
 
-shared-slice-read-put-byte : tie.Need-shared-slice-read-put-byte Inv-loop μ-loop
-shared-slice-read-put-byte c = ?
+same-length : tie.Need-same-length
+same-length c = search needs
 
-put-byte-requires : tie.Need-put-byte-requires Inv-loop μ-loop
-put-byte-requires c κs = ?
-
-add-i : tie.Need-add-i Inv-loop μ-loop
-add-i c = ?
-
-loop-less : tie.Need-loop-less Inv-loop μ-loop
-loop-less c = ?
-
-loop-again : tie.Need-loop-again Inv-loop μ-loop
-loop-again c = ?
-
-slice-aggregate-put-2 : tie.Need-slice-aggregate-put-2 Inv-loop μ-loop
-slice-aggregate-put-2 c = ?
-
-put-requires-2 : tie.Need-put-requires-2 Inv-loop μ-loop
-put-requires-2 c κs = ?
-
-same-length : tie.Need-same-length Inv-loop μ-loop
-same-length c = ?
-
-returns : tie.Need-returns Inv-loop μ-loop
-returns c = ?
+returns : tie.Need-returns
+returns c =
+    comment-put _ _ (c .before .before .before .before .before .before .before .before .before .before .before .before .before .before .before .before .args .bytes .now) (c .before .before .before .before .before .before .before .before .before .before .before .before .before .before .before .before .pre) _ _ (c .before .before .before .before .before .before .before .before .before .before .before .put .ensures) _ _ _ _ (c .before .before .before .before .before .before .before .put-bytes .ensures) (c .before .before .put2 .ensures)
 
 pub put-comment-spec : {M : Type 1} → statement M
 put-comment-spec =
     tie.close
     (tie.spec
-    Inv-loop
-    μ-loop
     slice-aggregate-put
     put-requires
-    loop-holds
-    shared-slice-read-put-byte
-    put-byte-requires
-    add-i
-    loop-less
-    loop-again
+    put-bytes-requires
     slice-aggregate-put-2
     put-requires-2
     same-length

@@ -1,4 +1,7 @@
 -- `to_text::put_hex` meets its contract. Assumes nothing.
+use native.Mathlib.Omega.{arith}
+use Rattle.forms.proofs.Puts.{put-as, put-placed}
+use Rattle.to_text.proofs.Texts.{hex-is}
 use borrow.Author.Needs.{needs}
 use Rattle.to_text.proofs.put_hex.Statement.{statement}
 use Rattle.to_text.proofs.put_hex.Tie as tie
@@ -19,7 +22,10 @@ same-length : tie.Need-same-length
 same-length c = search needs
 
 returns : tie.Need-returns
-returns c = search needs
+returns c =
+    let s = c .before .before .before .before .before .before .before .before in
+    put-as 3 (omega arith) (hex-is (s .args .b) _ _ (c .before .before .before .before .before .before .digit .ensures) (c .before .before .before .before .before .digit2 .ensures))
+    (put-placed 3 _ (omega arith) (omega (arith, s .pre)) (c .before .before .put .ensures))
 
 pub put-hex-spec : {M : Type 1} → statement M
 put-hex-spec =

@@ -1,0 +1,183 @@
+-- A text that comes in parts: a line that is whole stays what it is when bytes come behind it, and so the lines of parts joined are those of the text. Assumes
+-- nothing.
+use mathlib.Core.Path.{_≡_, refl, sym, ap, subst, _∙_}
+use mathlib.Core.Bool.{Bool, true, false}
+use mathlib.Core.Logic.{⊎-elim}
+use mathlib.Core.List.{List, [], _∷_, _++_, append-nil}
+use Prim.Native.Nat.{ℕ, zero, suc, _+_, _≤_, _<_}
+use native.Mathlib.Omega.{arith}
+use lib.Dec.{eqb}
+use lib.ListN.{length, take, drop, length-append, length-take, length-drop}
+use lib.Seq.{take-append-le, drop-drop}
+use borrow.Author.Tests.{eqb-true, eqb-false}
+use Rattle.lists.specs.Lists.{if_then_else_, Each}
+use Rattle.lists.proofs.Bools.{cases, lt-or-le}
+use Rattle.lists.proofs.Each.{each-append}
+use Rattle.input.specs.Strings.{bytesOf}
+use Rattle.input.specs.Pieces.{pieces, allPieces, leftOf}
+use Rattle.input.proofs.Pieces.{front-zero, front-none, front-next, all-next, all-none, apart, left-then}
+use Rattle.to_fields.specs.Lines.{lengthTo, lineSize, refusedLine, linesOf, goodSize, goodLines, rest}
+use Rattle.to_fields.proofs.Lines.{to-here, to-behind, no-end, size-long, size-ended, size-none, size-most}
+use Rattle.to_fields.proofs.Sizes.{good-most}
+
+-- ---- bytes behind bytes
+
+-- a line end that is there stays where it is
+to-stays : (s t : List ℕ) → lengthTo s < length s → lengthTo (s ++ t) ≡ lengthTo s
+to-stays [] t h = absurd (omega arith)
+to-stays (b ∷ s) t h =
+    cases (eqb b 10) (lengthTo (b ∷ (s ++ t)) ≡ lengthTo (b ∷ s))
+    (λ e. let z = eqb-true b 10 e in to-here b (s ++ t) z ∙ sym (to-here b s z))
+    (λ e.
+    let z = eqb-false b 10 e in
+    to-behind b (s ++ t) z ∙ ap suc (to-stays s t (omega (arith, h, to-behind b s z))) ∙ sym (to-behind b s z))
+
+-- a line does not get shorter
+to-grows : (s t : List ℕ) → lengthTo s ≤ lengthTo (s ++ t)
+to-grows [] t = omega (arith, no-end)
+to-grows (b ∷ s) t =
+    cases (eqb b 10) (lengthTo (b ∷ s) ≤ lengthTo (b ∷ (s ++ t)))
+    (λ e. omega (arith, to-here b s (eqb-true b 10 e)))
+    (λ e. let z = eqb-false b 10 e in omega (arith, to-behind b s z, to-behind b (s ++ t) z, to-grows s t))
+
+-- a line that is whole stays so
+size-stays : (s t : List ℕ) → (lineSize false s ≡ 0 → ⊥) → lineSize false (s ++ t) ≡ lineSize false s
+size-stays s t some =
+    let n = lengthTo s in
+    ⊎-elim
+    (λ long. sym (size-long false (s ++ t) (lengthTo (s ++ t)) refl (omega (arith, to-grows s t))) ∙ size-long false s n refl long)
+    (λ short.
+    ⊎-elim
+    (λ ended.
+    sym (size-ended false (s ++ t) n (sym (to-stays s t ended)) short (omega (arith, length-append s t))) ∙ size-ended false s n refl short ended)
+    (λ left. absurd (some (sym (size-none false s n refl short left refl))))
+    (lt-or-le n (length s)))
+    (lt-or-le 65536 n)
+
+-- ---- lines that are not refused
+
+size-good : (last : Bool) (s : List ℕ) → refusedLine (take (lineSize last s) s) ≡ false → goodSize last s ≡ lineSize last s
+unfolding goodSize
+size-good last s e = ap (λ (b : Bool). if b then 0 else lineSize last s) e
+
+size-refused : (last : Bool) (s : List ℕ) → refusedLine (take (lineSize last s) s) ≡ true → goodSize last s ≡ 0
+unfolding goodSize
+size-refused last s e = ap (λ (b : Bool). if b then 0 else lineSize last s) e
+
+-- a line that is taken is not refused
+pub taken-good : (last : Bool) (s : List ℕ) → (goodSize last s ≡ 0 → ⊥) → (goodSize last s ≡ lineSize last s) × (refusedLine (take (goodSize last s) s) ≡ false)
+taken-good last s some =
+    cases (refusedLine (take (lineSize last s) s)) ((goodSize last s ≡ lineSize last s) × (refusedLine (take (goodSize last s) s) ≡ false))
+    (λ e. absurd (some (size-refused last s e)))
+    (λ e. let g = size-good last s e in (g, ap (λ (n : ℕ). refusedLine (take n s)) g ∙ e))
+
+good-stays : (s t : List ℕ) → (goodSize false s ≡ 0 → ⊥) → goodSize false (s ++ t) ≡ goodSize false s
+good-stays s t some =
+    let g = taken-good false s some in
+    let same : lineSize false (s ++ t) ≡ lineSize false s = size-stays s t (λ z. some (g .0 ∙ z)) in
+    let line : take (lineSize false (s ++ t)) (s ++ t) ≡ take (goodSize false s) s =
+    ap (λ (n : ℕ). take n (s ++ t)) (same ∙ sym (g .0)) ∙ take-append-le (goodSize false s) s t (good-most false s) in
+    size-good false (s ++ t) (ap refusedLine line ∙ g .1) ∙ same ∙ sym (g .0)
+
+-- ---- a text that comes in parts
+
+pub lines-apart : (s t : List ℕ) → goodLines (s ++ t) ≡ goodLines s ++ goodLines (rest s ++ t)
+lines-apart = apart (goodSize false) (good-most false) good-stays
+
+pub rest-then : (s t : List ℕ) → rest (s ++ t) ≡ rest (rest s ++ t)
+rest-then = left-then (goodSize false) (good-most false) good-stays
+
+-- what is left before a line that is not all there is no longer than a line may be, so that it leaves room in the buffer
+pub rest-short : (s : List ℕ) → lineSize false (rest s) ≡ 0 → length (rest s) ≤ 65536
+rest-short s none-there =
+    let n = lengthTo (rest s) in
+    ⊎-elim
+    (λ long. absurd (omega (arith, none-there, size-long false (rest s) n refl long)))
+    (λ short.
+    ⊎-elim (λ ended. absurd (omega (arith, none-there, size-ended false (rest s) n refl short ended))) (λ left. omega (arith, left, short)) (lt-or-le n (length (rest s))))
+    (lt-or-le 65536 n)
+
+-- ---- the whole text
+
+-- the pieces by one size, and then those by another that agrees with it where it has a piece
+module _ (size other : List ℕ → ℕ) (most : (s : List ℕ) → size s ≤ length s) (most' : (s : List ℕ) → other s ≤ length s)
+    (agrees : (s : List ℕ) → (size s ≡ 0 → ⊥) → other s ≡ size s) where
+  left-next : (s : List ℕ) (k : ℕ) → k ≡ size s → (k ≡ 0 → ⊥) → leftOf size s ≡ leftOf size (drop k s)
+  unfolding bytesOf
+  left-next s k is some =
+      let few : length (take k s) ≡ k = omega (arith, length-take k s, is, most s) in
+      ap (λ (ps : List (List ℕ)). drop (bytesOf ps) s) (all-next size most s k is some)
+      ∙ ap (λ (n : ℕ). drop (n + bytesOf (allPieces size (drop k s))) s) few
+      ∙ sym (drop-drop (bytesOf (allPieces size (drop k s))) k s)
+
+  left-none : (s : List ℕ) → size s ≡ 0 → leftOf size s ≡ s
+  unfolding bytesOf
+  left-none s e = ap (λ (ps : List (List ℕ)). drop (bytesOf ps) s) (all-none size most s 0 (sym e) refl)
+
+  none-first : (s : List ℕ) → size s ≡ 0 → allPieces other s ≡ allPieces size s ++ allPieces other (leftOf size s)
+  none-first s z =
+      ap (allPieces other) (sym (left-none s z))
+      ∙ ap (λ (ps : List (List ℕ)). ps ++ allPieces other (leftOf size s)) (sym (all-none size most s 0 (sym z) refl))
+
+  then-from : (n : ℕ) (s : List ℕ) → length s ≤ n → allPieces other s ≡ allPieces size s ++ allPieces other (leftOf size s)
+  then-from zero s h = none-first s (omega (arith, most s))
+  then-from (suc n) s h =
+      let k = size s in
+      cases (eqb k 0) (allPieces other s ≡ allPieces size s ++ allPieces other (leftOf size s))
+      (λ e. none-first s (eqb-true k 0 e))
+      (λ e.
+      let some = eqb-false k 0 e in
+      all-next other most' s k (sym (agrees s some)) some
+      ∙ ap (λ (ps : List (List ℕ)). take k s ∷ ps) (then-from n (drop k s) (omega (arith, length-drop k s)))
+      ∙ ap (λ (l : List ℕ). take k s ∷ (allPieces size (drop k s) ++ allPieces other l)) (sym (left-next s k refl some))
+      ∙ ap (λ (ps : List (List ℕ)). ps ++ allPieces other (leftOf size s)) (sym (all-next size most s k refl some)))
+
+  all-then : (s : List ℕ) → allPieces other s ≡ allPieces size s ++ allPieces other (leftOf size s)
+  all-then s = then-from (length s) s (omega arith)
+
+-- a line that is whole is the same where the text ends behind it
+size-ends : (s : List ℕ) → (lineSize false s ≡ 0 → ⊥) → lineSize true s ≡ lineSize false s
+size-ends s some =
+    let n = lengthTo s in
+    ⊎-elim
+    (λ long. sym (size-long true s n refl long) ∙ size-long false s n refl long)
+    (λ short.
+    ⊎-elim
+    (λ ended. sym (size-ended true s n refl short ended) ∙ size-ended false s n refl short ended)
+    (λ left. absurd (some (sym (size-none false s n refl short left refl))))
+    (lt-or-le n (length s)))
+    (lt-or-le 65536 n)
+
+-- the lines that are taken are not refused
+each-good : (last : Bool) (n : ℕ) (s : List ℕ) → Each (λ line. refusedLine line ≡ false) (pieces (goodSize last) n s)
+each-good last zero s = subst (Each (λ line. refusedLine line ≡ false)) (sym (front-zero (goodSize last) (good-most last) s)) tt
+each-good last (suc n) s =
+    let k = goodSize last s in
+    cases (eqb k 0) (Each (λ line. refusedLine line ≡ false) (pieces (goodSize last) (suc n) s))
+    (λ e. subst (Each (λ line. refusedLine line ≡ false)) (sym (front-none (goodSize last) (good-most last) (suc n) s (eqb-true k 0 e))) tt)
+    (λ e.
+    let some = eqb-false k 0 e in
+    subst (Each (λ line. refusedLine line ≡ false)) (sym (front-next (goodSize last) (good-most last) n s some)) (taken-good last s some .1, each-good last n (drop k s)))
+
+no-lines : linesOf [] ≡ []
+unfolding pieces
+no-lines = refl
+
+-- where all lines that are left are taken, the lines of the text are those that were taken
+module _ (text : List ℕ) (all : leftOf (goodSize true) (rest text) ≡ []) where
+  pub lines-all : linesOf text ≡ goodLines text ++ allPieces (goodSize true) (rest text)
+  lines-all =
+      let left = allPieces (goodSize true) (rest text) in
+      all-then (goodSize false) (lineSize true) (good-most false) (size-most true)
+      (λ s some. let g = taken-good false s some in size-ends s (λ z. some (g .0 ∙ z)) ∙ sym (g .0)) text
+      ∙ ap (λ (ls : List (List ℕ)). goodLines text ++ ls)
+      (all-then (goodSize true) (lineSize true) (good-most true) (size-most true) (λ s some. sym (taken-good true s some .0)) (rest text)
+      ∙ ap (λ (l : List ℕ). left ++ linesOf l) all
+      ∙ ap (λ (ls : List (List ℕ)). left ++ ls) no-lines
+      ∙ append-nil left)
+
+  pub lines-good : Each (λ line. refusedLine line ≡ false) (linesOf text)
+  lines-good =
+      subst (Each (λ line. refusedLine line ≡ false)) (sym lines-all)
+      (each-append (λ line. refusedLine line ≡ false) (goodLines text) (allPieces (goodSize true) (rest text))
+      (each-good false (length text) text) (each-good true (length (rest text)) (rest text)))

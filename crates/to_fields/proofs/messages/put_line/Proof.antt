@@ -1,0 +1,60 @@
+-- `to_fields::messages::put_line` is safe and ends. Assumes nothing.
+use Rattle.to_fields.proofs.Lines.{end-within}
+use borrow.Author.Needs.{needs}
+use Rattle.to_fields.proofs.messages.put_line.Statement.{statement}
+use Rattle.to_fields.proofs.messages.put_line.Tie as tie
+
+start-of-requires : tie.Need-start-of-requires
+start-of-requires c κs = search needs
+
+sub-length-to : tie.Need-sub-length-to
+sub-length-to c = search needs
+
+part-length-to-start : tie.Need-part-length-to-start
+part-length-to-start c = search needs
+
+part-length-to-end : tie.Need-part-length-to-end
+part-length-to-end c = search needs
+
+length-to-requires : tie.Need-length-to-requires
+length-to-requires c κs = search needs
+
+add-end : tie.Need-add-end
+add-end c =
+    let w = end-within (c .before .before .before .before .before .args .text .now) _ _ (c .before .before .start-of .ensures) (c .length-to .ensures) in search (needs, w)
+
+sub-put : tie.Need-sub-put
+sub-put c = search needs
+
+part-put-start : tie.Need-part-put-start
+part-put-start c = search needs
+
+part-put-end : tie.Need-part-put-end
+part-put-end c =
+    end-within (c .before .before .before .before .before .before .args .text .now) _ _ (c .before .before .before .start-of .ensures) (c .before .length-to .ensures)
+
+put-requires : tie.Need-put-requires
+put-requires c κs = search needs
+
+same-length : tie.Need-same-length
+same-length c = search needs
+
+returns : tie.Need-returns
+returns c = search needs
+
+pub put-line-spec : {M : Type 1} → statement M
+put-line-spec =
+    tie.close
+    (tie.spec
+    start-of-requires
+    sub-length-to
+    part-length-to-start
+    part-length-to-end
+    length-to-requires
+    add-end
+    sub-put
+    part-put-start
+    part-put-end
+    put-requires
+    same-length
+    returns)
