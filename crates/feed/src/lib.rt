@@ -116,7 +116,7 @@ pub fn flush(out: &[u8], at: usize, name: &[u8]) -> usize
 
 // The turns that are left after a write: none where it failed.
 pub fn turns_left(turns: u64, at: usize) -> u64
-    ensures { λ r. ⌜ r ≤ turns ⌝ }
+    ensures { λ r. ⌜ (at ≡ 0 → r ≡ turns) × (0 < at → r ≡ 0) × (r ≤ turns) ⌝ }
 {
     if at == 0 { turns } else { 0 }
 }
