@@ -1,13 +1,17 @@
-// An answer in words: one sentence for each number, the value at fault where there is one, and the stage and the open units after the call.
-use crate::figures::member_list;
-use crate::figures::with_money;
-use crate::figures::with_number;
+// A call as its line, and its answer in words: one sentence for each number, the value at fault where there is one, and the stage and the open units after the call.
+use crate::texts;
+use crate::texts::Line;
+use crate::texts::fill;
+use crate::texts::one;
+use crate::texts::plain;
+use crate::texts::two;
 use book::Book;
 use book::Stage;
 use case::Case;
+use forms::Tagged;
 use wire::Call;
 
-// The tags of calls that share a number for different reasons.
+// The tags of calls that have reasons of their own.
 const POOL: u8 = 2;
 
 const MEMBER: u8 = 3;
@@ -16,241 +20,117 @@ const ROUND: u8 = 4;
 
 const PAY: u8 = 10;
 
-// ---- the sentence of each number, which speaks of the call at hand
+// ---- the call
 
-// One of two sentences.
-fn either(test: bool, yes: &[u8], no: &[u8], out: &mut [u8], at: usize) -> usize {
-    if test {
-        words::put(out, at, yes)
-    } else {
-        words::put(out, at, no)
-    }
+// A byte as a wider number.
+pub fn wide(b: u8) -> u64 {
+    b as u64
 }
 
-// The sentences of 1 to 8; the tag is that of the call, and `given` whether it is a MEMBER that is given already.
-fn sentence_to_8(tag: u8, given: bool, answer: u8, out: &mut [u8], at: usize) -> usize {
+// Bytes that are no call: their tag and how many bytes of value follow.
+fn unknown_line(bytes: &[u8]) -> Line {
+    if bytes.len() < 3 {
+        return plain(texts::TOO_SHORT);
+    }
+    two(texts::UNKNOWN, wide(bytes[0]), (bytes.len() - 3) as u64)
+}
+
+// The line of a call: that of the notation in which cases are written.
+pub fn write_call(call: Call, bytes: &[u8], out: &mut [u8], at: usize) -> usize {
+    let to = spelling::write_text(call, out, at);
+    if to == at {
+        return fill(out, at, unknown_line(bytes));
+    }
+    to
+}
+
+// ---- the reason, which speaks of the call at hand
+
+// The text of a reason to decline a ROUND.
+fn round_reason(answer: u8) -> usize {
     match answer {
-        1 => either(
-            tag == ROUND,
-            b"wrong number of reserves",
-            b"not a call: unknown tag or wrong length",
-            out,
-            at,
-        ),
-        2 => words::put(out, at, b"not allowed"),
-        3 => either(
-            tag == POOL,
-            b"not the next pool",
-            b"the pool is not in the case",
-            out,
-            at,
-        ),
-        4 => either(
-            given,
-            b"the member is given already",
-            b"the member is not in the set",
-            out,
-            at,
-        ),
-        5 => words::put(out, at, b"a number is out of range"),
-        6 => words::put(out, at, b"below the least bid"),
-        7 => words::put(out, at, b"no more bids are kept"),
-        _ => either(
-            tag == ROUND,
-            b"no unit is open",
-            b"no unit of the pool is open",
-            out,
-            at,
-        ),
+        1 => texts::WRONG_RESERVES,
+        8 => texts::NONE_OPEN,
+        10 => texts::NOT_ALL_GIVEN,
+        _ => texts::REASON + lists::place(answer),
     }
 }
 
-// The sentences of 9 to 16.
-fn sentence_to_16(tag: u8, answer: u8, out: &mut [u8], at: usize) -> usize {
-    match answer {
-        9 => words::put(out, at, b"the pool has a positive market value"),
-        10 => either(
-            tag == ROUND,
-            b"not all pools and members are given",
-            b"nobody is short in the pool",
-            out,
-            at,
-        ),
-        11 => words::put(out, at, b"a unit is open"),
-        12 => words::put(out, at, b"prefunded resources cover the requirement"),
-        13 => words::put(out, at, b"prefunded resources are below the requirement"),
-        14 => either(
-            tag == PAY,
-            b"more than the member owes",
-            b"the member owes nothing",
-            out,
-            at,
-        ),
-        15 => words::put(out, at, b"a member owes"),
-        _ => words::put(out, at, b"no unit is allocated or moved to the member"),
+// The text of a reason; the tag is that of the call, and `given` whether it is a MEMBER that is given already.
+fn reason(tag: u8, given: bool, answer: u8) -> usize {
+    if tag == ROUND {
+        return round_reason(answer);
     }
-}
-
-// Whether a call is a MEMBER for one of the members given.
-fn given_already(tag: u8, m: u32, given: u32) -> bool {
-    if tag != MEMBER {
-        return false;
+    if lists::both(tag == POOL, answer == 3) {
+        return texts::NOT_NEXT;
     }
-    if m < 32 {
-        return sets::has(given, m as u8);
+    if lists::both(given, answer == 4) {
+        return texts::GIVEN;
     }
-    false
-}
-
-// The sentence of a refusal; the members are those given before the call.
-fn write_sentence(call: Call, members: u32, answer: u8, out: &mut [u8], at: usize) -> usize {
-    let flat = forms::flat(call);
-    let numbers = flat.numbers;
-    if answer < 9 {
-        let given = given_already(flat.tag, numbers[0], members);
-        sentence_to_8(flat.tag, given, answer, out, at)
-    } else {
-        sentence_to_16(flat.tag, answer, out, at)
+    if lists::both(tag == PAY, answer == 14) {
+        return texts::MORE_THAN_OWED;
     }
-}
-
-// ---- the stage
-
-// The letter of a stage and its round.
-fn write_stage(stage: Stage, out: &mut [u8], at: usize) -> usize {
-    let round = book::round_of(stage) as u64;
-    match book::letter(stage) {
-        1 => words::put(out, at, b"stage S"),
-        2 => with_number(out, at, b"stage B, round ", round),
-        3 => with_number(out, at, b"stage A, round ", round),
-        4 => words::put(out, at, b"stage C"),
-        _ => words::put(out, at, b"stage F"),
-    }
-}
-
-// A pool's open units behind a plus sign, where the pool is given.
-fn write_open(given: bool, units: u16, out: &mut [u8], at: usize) -> usize {
-    if given {
-        with_number(out, at, b" + ", units as u64)
-    } else {
-        at
-    }
-}
-
-// All open units.
-pub fn all_open(book: Book) -> u64 {
-    let first = book.open_units(0) as u64 + book.open_units(1) as u64;
-    let last = book.open_units(2) as u64 + book.open_units(3) as u64;
-    first + last
-}
-
-// The open units of the pools given, and their sum where there are several.
-fn write_units(book: Book, out: &mut [u8], at: usize) -> usize {
-    let pools = book.pools;
-    let given = pools.given;
-    let first = with_number(out, at, b"; open units ", book.open_units(0) as u64);
-    if given < 2 {
-        return first;
-    }
-    let second = with_number(out, first, b" + ", book.open_units(1) as u64);
-    let third = write_open(2 < given, book.open_units(2), out, second);
-    let fourth = write_open(3 < given, book.open_units(3), out, third);
-    with_number(out, fourth, b" = ", all_open(book))
-}
-
-// The stage and the open units.
-pub fn write_state(present: bool, case: Case, out: &mut [u8], at: usize) -> usize {
-    if !present {
-        return words::put(out, at, b"; no case");
-    }
-    let stage = case.stage;
-    let named = words::put(out, at, b"; ");
-    let said = write_stage(stage, out, named);
-    write_units(case.book, out, said)
+    texts::REASON + lists::place(answer)
 }
 
 // ---- the value at fault
 
 // 1: the reserves that a ROUND must have.
-fn fault_length(present: bool, book: Book, out: &mut [u8], at: usize) -> usize {
-    if !present {
-        return at;
+fn length_fault(test: bool, pools: u8) -> Line {
+    if test {
+        one(texts::RESERVES_FAULT, pools as u64)
+    } else {
+        plain(texts::NOTHING)
     }
-    let head = book.head;
-    let said = with_number(out, at, b" (the case takes ", head.pools as u64);
-    words::put(out, said, b")")
 }
 
-// 2: the stage.
-fn fault_stage(present: bool, stage: Stage, out: &mut [u8], at: usize) -> usize {
-    if !present {
-        return words::put(out, at, b" before HEAD");
+// 2: the stage, which is named behind it.
+fn stage_fault(present: bool) -> Line {
+    if present {
+        plain(texts::IN_STAGE)
+    } else {
+        plain(texts::BEFORE_HEAD)
     }
-    let said = words::put(out, at, b" in ");
-    write_stage(stage, out, said)
 }
 
-// 3: the pools of the case, and the next in turn.
-fn fault_pool(book: Book, out: &mut [u8], at: usize) -> usize {
-    let head = book.head;
-    let pools = book.pools;
-    let all = with_number(out, at, b" (pools of the case ", head.pools as u64);
-    let given = with_number(out, all, b", given ", pools.given as u64);
-    words::put(out, given, b")")
+// 8: the pool, or any.
+fn pool_fault(tag: u8, pool: u8) -> Line {
+    if tag == ROUND {
+        plain(texts::ANY_POOL_FAULT)
+    } else {
+        one(texts::POOL_FAULT, pool as u64)
+    }
 }
 
-// 4: the members of the case, and those given.
-fn fault_member(book: Book, out: &mut [u8], at: usize) -> usize {
-    let head = book.head;
-    let members = book.members;
-    let said = words::put(out, at, b" (members ");
-    let all = member_list(out, said, head.set);
-    let more = words::put(out, all, b"; given ");
-    let given = member_list(out, more, members.given);
-    words::put(out, given, b")")
+// 10: the pools and members given, or the total shortfall of the pool.
+fn short_fault(book: Book, tag: u8, pool: u8) -> Line {
+    if tag == ROUND {
+        let head = book.head;
+        let pools = book.pools;
+        let members = book.members;
+        return texts::four(
+            texts::GIVEN_FAULT,
+            pools.given as u64,
+            head.pools as u64,
+            members.given as u64,
+            head.set as u64,
+        );
+    }
+    one(texts::SHORT_FAULT, book.short(pool))
 }
 
-// 10 at ROUND: the pools and members given.
-fn fault_given(book: Book, out: &mut [u8], at: usize) -> usize {
-    let head = book.head;
-    let pools = book.pools;
-    let members = book.members;
-    let given = with_number(out, at, b" (pools given ", pools.given as u64);
-    let all = with_number(out, given, b" of ", head.pools as u64);
-    let said = words::put(out, all, b"; members given ");
-    let some = member_list(out, said, members.given);
-    let more = words::put(out, some, b" of ");
-    let every = member_list(out, more, head.set);
-    words::put(out, every, b")")
-}
-
-// 11: the open units.
-fn fault_open(book: Book, out: &mut [u8], at: usize) -> usize {
-    let said = with_number(out, at, b" (open units ", all_open(book));
-    words::put(out, said, b")")
-}
-
-// 12 and 13: the requirement and what is prefunded.
-fn fault_prefunded(book: Book, out: &mut [u8], at: usize) -> usize {
-    let required = with_money(out, at, b" (requirement ", book.requirement());
-    let held = with_money(out, required, b", prefunded ", book.prefunded());
-    words::put(out, held, b")")
-}
-
-// 14: what the member owes.
-fn fault_owed(book: Book, m: u8, out: &mut [u8], at: usize) -> usize {
-    let members = book.members;
-    let said = with_money(out, at, b" (owes ", members.owes(m));
-    words::put(out, said, b")")
+// All open units.
+fn all_open(book: Book) -> u64 {
+    let first = book.open_units(0) as u64 + book.open_units(1) as u64;
+    let last = book.open_units(2) as u64 + book.open_units(3) as u64;
+    first + last
 }
 
 // 15: the first member who owes, and what.
-fn fault_owing(book: Book, out: &mut [u8], at: usize) -> usize {
+fn owing_fault(book: Book) -> Line {
     let members = book.members;
     let m = first_owing(book);
-    let said = with_number(out, at, b" (member ", m as u64);
-    let owes = with_money(out, said, b" owes ", members.owes(m));
-    words::put(out, owes, b")")
+    two(texts::OWING_FAULT, m as u64, members.owes(m))
 }
 
 // The first member of the case who owes, and 32 where nobody does.
@@ -268,131 +148,132 @@ fn first_owing(book: Book) -> u8 {
     32
 }
 
-// The word and the number at fault, in brackets.
-fn fault_number(name: &[u8], n: u64, out: &mut [u8], at: usize) -> usize {
-    let said = with_number(out, at, name, n);
-    words::put(out, said, b")")
-}
-
-// The value at fault for a number that does not depend on the call.
-fn write_fault(book: Book, answer: u8, out: &mut [u8], at: usize) -> usize {
+// The value at fault for the answers up to 9; `first` is the call's first number.
+fn early_fault(present: bool, book: Book, tag: u8, first: u8, answer: u8) -> Line {
     let head = book.head;
+    let pools = book.pools;
+    let members = book.members;
     match answer {
-        3 => fault_pool(book, out, at),
-        4 => fault_member(book, out, at),
-        6 => fault_number(b" (least ", head.least as u64, out, at),
-        7 => fault_number(b" (bids kept ", 256, out, at),
-        11 => fault_open(book, out, at),
-        12 => fault_prefunded(book, out, at),
-        13 => fault_prefunded(book, out, at),
-        15 => fault_owing(book, out, at),
-        _ => at,
+        1 => length_fault(lists::both(present, tag == ROUND), head.pools),
+        2 => stage_fault(present),
+        3 => two(texts::POOLS_FAULT, head.pools as u64, pools.given as u64),
+        4 => two(texts::SET_FAULT, head.set as u64, members.given as u64),
+        6 => one(texts::LEAST_FAULT, head.least as u64),
+        7 => one(texts::KEPT_FAULT, 256),
+        8 => pool_fault(tag, first),
+        9 => pool_fault(tag, first),
+        _ => plain(texts::NOTHING),
     }
 }
 
-// The value at fault for a number about a call's pool.
-fn write_pool_fault(book: Book, pool: u8, answer: u8, out: &mut [u8], at: usize) -> usize {
+// The requirement, and what is prefunded.
+fn cover_fault(book: Book) -> Line {
+    two(texts::COVER_FAULT, book.requirement(), book.prefunded())
+}
+
+// What a member owes.
+fn owed_fault(book: Book, m: u8) -> Line {
+    let members = book.members;
+    one(texts::OWED_FAULT, members.owes(m))
+}
+
+// The value at fault for the answers from 10 on.
+fn late_fault(book: Book, tag: u8, first: u8, answer: u8) -> Line {
     match answer {
-        8 => fault_number(b" (pool ", pool as u64, out, at),
-        9 => fault_number(b" (pool ", pool as u64, out, at),
-        10 => fault_number(b" (total shortfall ", book.short(pool), out, at),
-        _ => write_fault(book, answer, out, at),
+        10 => short_fault(book, tag, first),
+        11 => one(texts::OPEN_FAULT, all_open(book)),
+        12 => cover_fault(book),
+        13 => cover_fault(book),
+        14 => owed_fault(book, first),
+        15 => owing_fault(book),
+        _ => one(texts::MEMBER_FAULT, first as u64),
     }
 }
 
-// The value at fault for a number about a call's member.
-fn write_member_fault(book: Book, m: u8, answer: u8, out: &mut [u8], at: usize) -> usize {
-    match answer {
-        14 => fault_owed(book, m, out, at),
-        16 => fault_number(b" (member ", m as u64, out, at),
-        _ => write_fault(book, answer, out, at),
+// The value at fault.
+fn fault(present: bool, book: Book, tag: u8, first: u8, answer: u8) -> Line {
+    if answer < 10 {
+        return early_fault(present, book, tag, first, answer);
+    }
+    late_fault(book, tag, first, answer)
+}
+
+// ---- the stage
+
+// The letter of a stage and its round.
+fn stage_line(stage: Stage) -> Line {
+    let letter = lists::place(book::letter(stage));
+    one(texts::STAGE + letter, book::round_of(stage) as u64)
+}
+
+// The open units of the pools given, and their sum where there are several.
+fn units_line(book: Book) -> Line {
+    let pools = book.pools;
+    let given = pools.given;
+    let a = book.open_units(0) as u64;
+    let b = book.open_units(1) as u64;
+    let c = book.open_units(2) as u64;
+    let d = book.open_units(3) as u64;
+    match given {
+        0 => one(texts::UNITS + 1, a),
+        1 => one(texts::UNITS + 1, a),
+        2 => texts::three(texts::UNITS + 2, a, b, all_open(book)),
+        3 => texts::four(texts::UNITS + 3, a, b, c, all_open(book)),
+        _ => texts::five(texts::UNITS + 4, a, b, c, d, all_open(book)),
     }
 }
 
-// The value at fault for ROUND.
-fn write_round_fault(present: bool, book: Book, answer: u8, out: &mut [u8], at: usize) -> usize {
-    match answer {
-        1 => fault_length(present, book, out, at),
-        8 => words::put(out, at, b" (in any pool)"),
-        10 => fault_given(book, out, at),
-        _ => write_fault(book, answer, out, at),
+// The stage and the open units.
+pub fn write_state(present: bool, case: Case, out: &mut [u8], at: usize) -> usize {
+    if !present {
+        return fill(out, at, plain(texts::NO_CASE));
     }
-}
-
-// The value at fault, by the call.
-fn write_call_fault(
-    present: bool,
-    book: Book,
-    call: Call,
-    answer: u8,
-    out: &mut [u8],
-    at: usize,
-) -> usize {
-    match call {
-        Call::Head(_) => at,
-        Call::Pool {
-            pool,
-            units: _,
-            mark: _,
-        } => write_pool_fault(book, pool, answer, out, at),
-        Call::Member {
-            member,
-            contribution: _,
-            a: _,
-            b: _,
-            c: _,
-            d: _,
-        } => write_member_fault(book, member, answer, out, at),
-        Call::Round {
-            count: _,
-            a: _,
-            b: _,
-            c: _,
-            d: _,
-        } => write_round_fault(present, book, answer, out, at),
-        Call::Bid {
-            pool,
-            member: _,
-            units: _,
-            price: _,
-        } => write_pool_fault(book, pool, answer, out, at),
-        Call::Close => at,
-        Call::Allocate { pool, price: _ } => write_pool_fault(book, pool, answer, out, at),
-        Call::Tear { pool, price: _ } => write_pool_fault(book, pool, answer, out, at),
-        Call::Call => write_fault(book, answer, out, at),
-        Call::Pay { member, amount: _ } => write_member_fault(book, member, answer, out, at),
-        Call::Move { member } => write_member_fault(book, member, answer, out, at),
-        Call::Miss { member, price: _ } => write_member_fault(book, member, answer, out, at),
-        Call::Finish => write_fault(book, answer, out, at),
-        Call::Unknown => at,
-    }
+    let stage = case.stage;
+    let book = case.book;
+    let named = fill(out, at, plain(texts::THEN));
+    let said = fill(out, named, stage_line(stage));
+    fill(out, said, units_line(book))
 }
 
 // ---- the answer
 
-// A refusal: its number, its sentence and the value at fault.
+// The first number of a call, which is that of its pool or its member.
+fn first_of(call: Tagged) -> u8 {
+    let numbers = call.numbers;
+    let n = numbers[0];
+    if n < 256 { n as u8 } else { 255 }
+}
+
+// Whether a call is a MEMBER for one of the members given.
+fn given_already(tag: u8, m: u8, given: u32) -> bool {
+    lists::both(tag == MEMBER, sets::has(given, m))
+}
+
+// A refusal: its number, its reason and the value at fault.
 fn write_refusal(
     present: bool,
     case: Case,
-    call: Call,
+    call: Tagged,
     answer: u8,
     out: &mut [u8],
     at: usize,
 ) -> usize {
     let stage = case.stage;
     let book = case.book;
-    let number = with_number(out, at, b"    refused ", answer as u64);
-    let said = words::put(out, number, b": ");
+    let head = book.head;
     let members = book.members;
-    let sentence = write_sentence(call, members.given, answer, out, said);
-    if answer == 2 {
-        return fault_stage(present, stage, out, sentence);
-    }
+    let first = first_of(call);
+    let given = given_already(call.tag, first, members.given);
+    let text = reason(call.tag, given, answer);
+    let said = fill(out, at, one(text, answer as u64));
+    let more = fill(out, said, fault(present, book, call.tag, first, answer));
     if answer == 5 {
-        let head = book.head;
-        return crate::ranges::write_range(head.pools, call, out, sentence);
+        return crate::ranges::write_ranges(head.pools, call, out, more);
     }
-    write_call_fault(present, book, call, answer, out, sentence)
+    if lists::both(present, answer == 2) {
+        return fill(out, more, stage_line(stage));
+    }
+    more
 }
 
 // The answer to a call in words; the case is that before the call.
@@ -405,7 +286,7 @@ pub fn write_answer(
     at: usize,
 ) -> usize {
     if answer == 0 {
-        return words::put(out, at, b"    accepted");
+        return fill(out, at, plain(texts::ACCEPTED));
     }
-    write_refusal(present, case, call, answer, out, at)
+    write_refusal(present, case, forms::flat(call), answer, out, at)
 }

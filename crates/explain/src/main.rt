@@ -1,10 +1,8 @@
 // The program `explain`: reads the same fields as `ledger` and prints for people what was asked, what was answered and why, and at the end tables.
 mod answers;
-mod calls;
-mod figures;
-mod paper;
 mod ranges;
 mod tables;
+mod texts;
 
 ghost use mathlib.Core.Path.{_≡_};
 ghost use Prim.Native.Nat.{_≤_};
@@ -15,6 +13,7 @@ ghost use Rattle.case.specs.Cases.{applied};
 ghost use Rattle.case.specs.Input.{ledgerAfter, HeldAfter};
 ghost use Rattle.feed.specs.Feeds.{Keeps, Fed};
 use case::Held;
+use texts::Line;
 
 // What is held after a part of an input, the bytes that its whole fields took, and the place behind the text.
 struct Taken {
@@ -49,13 +48,13 @@ fn take_field(held: Held, bytes: &[u8], out: &mut [u8], at: usize) -> Step
 {
     let call = wire::read_call(bytes);
     let applied = case::take(held, call);
-    let named = calls::write_call(call, bytes, out, at);
+    let named = answers::write_call(call, bytes, out, at);
     let said = answers::write_answer(held.present, held.case, call, applied.answer, out, named);
     let next = applied.held;
     let shown = answers::write_state(next.present, next.case, out, said);
     Step {
         held: next,
-        at: paper::end_line(out, shown),
+        at: shown,
     }
 }
 
@@ -118,7 +117,7 @@ fn take_input(buf: &mut [u8], out: &mut [u8]) -> Rest
         let turn = take_turn(held, buf, len + more, out);
         held = turn.held;
         len = turn.len;
-        turns = feed::turns_left(turns, paper::flush(out, turn.at));
+        turns = feed::turns_left(turns, texts::flush(out, turn.at));
     }
     Rest {
         held,
@@ -128,31 +127,20 @@ fn take_input(buf: &mut [u8], out: &mut [u8]) -> Rest
 }
 
 // A field that is cut off by the input's end, of which these bytes are left.
-fn write_cut(rest: &[u8], out: &mut [u8], at: usize) -> usize {
+fn cut_line(rest: &[u8]) -> Line {
     if rest.len() == 0 {
-        return at;
+        return texts::plain(texts::NOTHING);
     }
-    let tag = figures::with_number(out, at, b"cut off, tag ", calls::wide(rest[0]));
-    let size = figures::with_number(out, tag, b", bytes ", rest.len() as u64);
-    let named = paper::end_line(out, size);
-    let said = words::put(
-        out,
-        named,
-        b"    refused 1: the input ends within the field",
-    );
-    paper::end_line(out, said)
+    let tag = answers::wide(rest[0]);
+    texts::two(texts::CUT_OFF, tag, rest.len() as u64)
 }
 
 // The last line, where bytes of a field that is cut off are left: what stands above is not the whole case.
-fn write_incomplete(left: usize, out: &mut [u8], at: usize) -> usize {
+fn last_line(left: usize) -> Line {
     if left == 0 {
-        return at;
+        return texts::plain(texts::NOTHING);
     }
-    paper::line(
-        out,
-        at,
-        b"\nNot the whole case: the input ends within a field.",
-    )
+    texts::plain(texts::INCOMPLETE)
 }
 
 fn run(buf: &mut [u8], out: &mut [u8]) {
@@ -160,10 +148,10 @@ fn run(buf: &mut [u8], out: &mut [u8]) {
     let len = rest.len;
     let held = rest.held;
     if rest.ended {
-        let cut = write_cut(&buf[0..len], out, 0);
+        let cut = texts::fill(out, 0, cut_line(&buf[0..len]));
         let shown = tables::write_tables(held, out, cut);
-        let end = write_incomplete(len, out, shown);
-        paper::flush(out, end);
+        let end = texts::fill(out, shown, last_line(len));
+        texts::flush(out, end);
     }
 }
 

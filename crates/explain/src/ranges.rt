@@ -1,214 +1,156 @@
-// Which number of a call is out of its range, and what the range is.
-use crate::figures::with_money;
-use crate::figures::with_number;
-use crate::figures::with_price;
+// Which numbers of a call are out of their ranges, and what the ranges are.
+use crate::texts;
+use crate::texts::Line;
+use crate::texts::plain;
+use forms::Tagged;
 use wire::Call;
 use wire::Head;
 
-// A count at fault and its range.
-fn count_fault(name: &[u8], n: u64, low: u64, high: u64, out: &mut [u8], at: usize) -> usize {
-    let said = with_number(out, at, name, n);
-    let from = with_number(out, said, b"; from ", low);
-    let to = with_number(out, from, b" to ", high);
-    words::put(out, to, b")")
+// The text that names a number, and its range.
+struct Limits {
+    text: usize,
+    low: u32,
+    high: u32,
 }
 
-// An amount at fault and its range.
-fn money_fault(name: &[u8], cents: u64, low: u64, high: u64, out: &mut [u8], at: usize) -> usize {
-    let said = with_money(out, at, name, cents);
-    let from = with_money(out, said, b"; from ", low);
-    let to = with_money(out, from, b" to ", high);
-    words::put(out, to, b")")
-}
+// Any number.
+const ANY: u32 = 4_294_967_295;
 
-// A price, and its range where it is out of it.
-fn price_fault(name: &[u8], price: u32, out: &mut [u8], at: usize) -> usize {
-    if price <= Call::MAX_PRICE {
-        return at;
-    }
-    let said = with_price(out, at, name, price);
-    let from = with_price(out, said, b"; from ", 0);
-    let to = with_price(out, from, b" to ", Call::MAX_PRICE);
-    words::put(out, to, b")")
-}
-
-// Whether a number lies outside its range.
-fn outside(n: u64, low: u64, high: u64) -> bool {
-    lists::either(n < low, high < n)
-}
-
-// The first count of HEAD that is at fault.
-fn head_counts(h: Head, out: &mut [u8], at: usize) -> usize {
-    let pools = h.pools as u64;
-    if outside(pools, Head::MIN_POOLS as u64, Head::MAX_POOLS as u64) {
-        return count_fault(
-            b" (pools ",
-            pools,
-            Head::MIN_POOLS as u64,
-            Head::MAX_POOLS as u64,
-            out,
-            at,
-        );
-    }
-    let least = h.least as u64;
-    if outside(
-        least,
-        Head::MIN_LEAST_BID as u64,
-        Head::MAX_LEAST_BID as u64,
-    ) {
-        return count_fault(
-            b" (least bid ",
-            least,
-            Head::MIN_LEAST_BID as u64,
-            Head::MAX_LEAST_BID as u64,
-            out,
-            at,
-        );
-    }
-    if h.set == Head::NO_MEMBER {
-        return words::put(out, at, b" (no member)");
-    }
-    at
-}
-
-// An amount of HEAD, where it is above its limit.
-fn amount_fault(name: &[u8], cents: u32, most: u32, out: &mut [u8], at: usize) -> usize {
-    if cents <= most {
-        return at;
-    }
-    money_fault(name, cents as u64, 0, most as u64, out, at)
-}
-
-// The amounts of HEAD that are at fault.
-fn head_amounts(h: Head, out: &mut [u8], at: usize) -> usize {
-    let hedge = amount_fault(b" (hedge loss ", h.hedge, Head::MAX_HEDGE_LOSS, out, at);
-    let other = amount_fault(b" (other loss ", h.other, Head::MAX_OTHER_LOSS, out, hedge);
-    let margin = amount_fault(b" (margin ", h.margin, Head::MAX_MARGIN, out, other);
-    let fund = amount_fault(b" (fund ", h.fund, Head::MAX_FUND, out, margin);
-    amount_fault(b" (house money ", h.house, Head::MAX_HOUSE_MONEY, out, fund)
-}
-
-// Units put up or bid for, where they are at fault.
-fn units_fault(units: u16, out: &mut [u8], at: usize) -> usize {
-    let low = Call::MIN_UNITS as u64;
-    let high = Call::MAX_UNITS as u64;
-    if outside(units as u64, low, high) {
-        return count_fault(b" (units ", units as u64, low, high, out, at);
-    }
-    at
-}
-
-// The numbers of POOL.
-fn pool_range(units: u16, mark: u8, out: &mut [u8], at: usize) -> usize {
-    let to = units_fault(units, out, at);
-    if mark <= Call::MAX_MARK {
-        return to;
-    }
-    count_fault(b" (mark ", mark as u64, 0, Call::MAX_MARK as u64, out, to)
-}
-
-// The units that a member expects in a pool, where they are at fault.
-fn expected_range(lies: bool, n: u16, out: &mut [u8], at: usize) -> usize {
-    if lies {
-        if Call::MAX_EXPECTED < n {
-            let most = Call::MAX_EXPECTED as u64;
-            return count_fault(b" (expected units ", n as u64, 0, most, out, at);
-        }
-        return at;
-    }
-    if 0 < n {
-        return words::put(out, at, b" (units expected in a pool the case lacks)");
-    }
-    at
-}
-
-// The numbers of MEMBER.
-fn member_range(
-    pools: u8,
-    contribution: u32,
-    a: u16,
-    b: u16,
-    c: u16,
-    d: u16,
-    out: &mut [u8],
-    at: usize,
-) -> usize {
-    let most = Call::MAX_CONTRIBUTION;
-    let to = amount_fault(b" (contribution ", contribution, most, out, at);
-    let first = expected_range(0 < pools, a, out, to);
-    let second = expected_range(1 < pools, b, out, first);
-    let third = expected_range(2 < pools, c, out, second);
-    expected_range(3 < pools, d, out, third)
-}
-
-// A reserve of ROUND, where it is given.
-fn reserve_range(given: bool, price: u32, out: &mut [u8], at: usize) -> usize {
-    if given {
-        price_fault(b" (reserve ", price, out, at)
-    } else {
-        at
-    }
-}
-
-// The reserves of ROUND.
-fn round_range(count: u8, a: u32, b: u32, c: u32, d: u32, out: &mut [u8], at: usize) -> usize {
-    let first = reserve_range(0 < count, a, out, at);
-    let second = reserve_range(1 < count, b, out, first);
-    let third = reserve_range(2 < count, c, out, second);
-    reserve_range(3 < count, d, out, third)
-}
-
-// The numbers of BID.
-fn bid_range(units: u16, price: u32, out: &mut [u8], at: usize) -> usize {
-    let to = units_fault(units, out, at);
-    price_fault(b" (price ", price, out, to)
-}
-
-// The number of PAY.
-fn pay_range(amount: u32, out: &mut [u8], at: usize) -> usize {
-    let low = Call::MIN_PAYMENT as u64;
-    let high = Call::MAX_PAYMENT as u64;
-    money_fault(b" (amount ", amount as u64, low, high, out, at)
+// A number with its range.
+fn range(text: usize, low: u32, high: u32) -> Limits {
+    Limits { text, low, high }
 }
 
 // The numbers of HEAD.
-fn head_range(h: Head, out: &mut [u8], at: usize) -> usize {
-    let to = head_counts(h, out, at);
-    head_amounts(h, out, to)
+fn head_range(k: usize) -> Limits {
+    match k {
+        0 => range(
+            texts::HEAD_RANGE,
+            Head::MIN_POOLS as u32,
+            Head::MAX_POOLS as u32,
+        ),
+        1 => range(
+            texts::HEAD_RANGE + 1,
+            Head::MIN_LEAST_BID as u32,
+            Head::MAX_LEAST_BID as u32,
+        ),
+        2 => range(texts::HEAD_RANGE + 2, Head::NO_MEMBER + 1, ANY),
+        3 => range(texts::HEAD_RANGE + 3, 0, Head::MAX_HEDGE_LOSS),
+        4 => range(texts::HEAD_RANGE + 4, 0, Head::MAX_OTHER_LOSS),
+        5 => range(texts::HEAD_RANGE + 5, 0, Head::MAX_MARGIN),
+        6 => range(texts::HEAD_RANGE + 6, 0, Head::MAX_FUND),
+        _ => range(texts::HEAD_RANGE + 7, 0, Head::MAX_HOUSE_MONEY),
+    }
 }
 
-// The numbers of a call that are out of their range; the pools are those of the case.
-pub fn write_range(pools: u8, call: Call, out: &mut [u8], at: usize) -> usize {
-    match call {
-        Call::Head(head) => head_range(head, out, at),
-        Call::Pool {
-            pool: _,
-            units,
-            mark,
-        } => pool_range(units, mark, out, at),
-        Call::Member {
-            member: _,
-            contribution,
-            a,
-            b,
-            c,
-            d,
-        } => member_range(pools, contribution, a, b, c, d, out, at),
-        Call::Round { count, a, b, c, d } => round_range(count, a, b, c, d, out, at),
-        Call::Bid {
-            pool: _,
-            member: _,
-            units,
-            price,
-        } => bid_range(units, price, out, at),
-        Call::Close => at,
-        Call::Allocate { pool: _, price } => price_fault(b" (price ", price, out, at),
-        Call::Tear { pool: _, price } => price_fault(b" (price ", price, out, at),
-        Call::Call => at,
-        Call::Pay { member: _, amount } => pay_range(amount, out, at),
-        Call::Move { member: _ } => at,
-        Call::Miss { member: _, price } => price_fault(b" (price ", price, out, at),
-        Call::Finish => at,
-        Call::Unknown => at,
+// The units put up or bid for.
+fn units_range() -> Limits {
+    range(
+        texts::UNITS_RANGE,
+        Call::MIN_UNITS as u32,
+        Call::MAX_UNITS as u32,
+    )
+}
+
+// A price.
+fn price_range(text: usize) -> Limits {
+    range(text, 0, Call::MAX_PRICE)
+}
+
+// The numbers of POOL behind its pool.
+fn pool_range(k: usize) -> Limits {
+    if k == 1 {
+        units_range()
+    } else {
+        range(texts::MARK_RANGE, 0, Call::MAX_MARK as u32)
     }
+}
+
+// The numbers of MEMBER behind its member.
+fn member_range(k: usize) -> Limits {
+    if k == 1 {
+        range(texts::CONTRIBUTION_RANGE, 0, Call::MAX_CONTRIBUTION)
+    } else {
+        range(texts::EXPECTED_RANGE, 0, Call::MAX_EXPECTED as u32)
+    }
+}
+
+// The numbers of BID behind its pool; its member is named by another answer.
+fn bid_range(k: usize) -> Limits {
+    match k {
+        1 => range(texts::NOTHING, 0, ANY),
+        2 => units_range(),
+        _ => price_range(texts::PRICE_RANGE),
+    }
+}
+
+// The numbers of a call behind its pool or member.
+fn later_range(tag: u8, k: usize) -> Limits {
+    match tag {
+        2 => pool_range(k),
+        3 => member_range(k),
+        5 => bid_range(k),
+        10 => range(texts::AMOUNT_RANGE, Call::MIN_PAYMENT, Call::MAX_PAYMENT),
+        _ => price_range(texts::PRICE_RANGE),
+    }
+}
+
+// Number k of a call, by its tag.
+fn range_of(tag: u8, k: usize) -> Limits {
+    if tag == 1 {
+        return head_range(k);
+    }
+    if tag == 4 {
+        return price_range(texts::RESERVE_RANGE);
+    }
+    if k == 0 {
+        return range(texts::NOTHING, 0, ANY);
+    }
+    later_range(tag, k)
+}
+
+// Whether number k of a call is that of a pool which a case of so many pools lacks.
+fn is_lacking(tag: u8, k: usize, pools: u8) -> bool {
+    lists::both(tag == 3, lists::place(pools) + 2 <= k)
+}
+
+// A number as it is shown, by its kind.
+fn shown(kind: u8, n: u32) -> u64 {
+    if kind == 5 { texts::price(n) } else { n as u64 }
+}
+
+// Number k of a call, where it is out of its range.
+fn range_line(pools: u8, tag: u8, k: usize, n: u32) -> Line {
+    if lists::both(is_lacking(tag, k, pools), 0 < n) {
+        return plain(texts::LACKING_POOL);
+    }
+    let range = range_of(tag, k);
+    if lists::both(range.low <= n, n <= range.high) {
+        return plain(texts::NOTHING);
+    }
+    let kind = forms::kind(tag, k);
+    texts::three(
+        range.text,
+        shown(kind, n),
+        shown(kind, range.low),
+        shown(kind, range.high),
+    )
+}
+
+// Number k of eight.
+fn number_at(numbers: [u32; 8], k: usize) -> u32 {
+    if k < 8 { numbers[k] } else { 0 }
+}
+
+// The numbers of a call that are out of their ranges; the pools are those of the case.
+pub fn write_ranges(pools: u8, call: Tagged, out: &mut [u8], at: usize) -> usize {
+    let numbers = call.numbers;
+    let mut to = at;
+    let mut k: usize = 0;
+    while k < call.count {
+        let n = number_at(numbers, k);
+        to = texts::fill(out, to, range_line(pools, call.tag, k, n));
+        k += 1;
+    }
+    to
 }

@@ -1,10 +1,10 @@
 // The tables at the end: pools, the loss and its six layers, members, and the units held by member, pool and price. Each has a row of totals.
 ghost use Prim.Native.Nat.{_≤_, _<_};
-use crate::figures::difference_right;
-use crate::figures::money_right;
-use crate::figures::with_number;
-use crate::paper::end_line;
-use crate::paper::line;
+use crate::texts;
+use crate::texts::Line;
+use crate::texts::fill;
+use crate::texts::minus;
+use crate::texts::plain;
 use accounts::members::Members;
 use accounts::members::over_pools;
 use accounts::members::widened;
@@ -14,11 +14,9 @@ use case::Case;
 use case::Held;
 use units::Units;
 use wire::Call;
-use words::difference;
-use words::number_right;
 
 // The sum of two numbers, held to the largest number.
-pub fn plus(a: u64, b: u64) -> u64 {
+fn plus(a: u64, b: u64) -> u64 {
     if a <= 18446744073709551615 - b {
         a + b
     } else {
@@ -47,61 +45,20 @@ fn rank_at(xs: [u8; 32], m: u8) -> u64 {
     if m < 32 { xs[m as usize] as u64 } else { 0 }
 }
 
-// An amount at the right of a column of money.
-fn amount(out: &mut [u8], at: usize, cents: u64) -> usize {
-    money_right(out, at, 15, difference(cents, 0))
-}
-
-// What is left of a limit.
-fn remainder(out: &mut [u8], at: usize, limit: u64, charged: u64) -> usize {
-    money_right(out, at, 15, difference(limit, charged))
-}
-
 // ---- pools
 
-// Six counts of units in columns.
-fn counts(
-    units: u64,
-    free: u64,
-    sold: u64,
-    allocated: u64,
-    moved: u64,
-    torn: u64,
-    out: &mut [u8],
-    at: usize,
-) -> usize {
-    let first = number_right(out, at, 10, units);
-    let second = number_right(out, first, 10, free);
-    let third = number_right(out, second, 10, sold);
-    let fourth = number_right(out, third, 11, allocated);
-    let fifth = number_right(out, fourth, 10, moved);
-    let sixth = number_right(out, fifth, 10, torn);
-    end_line(out, sixth)
-}
-
-// The units of a pool, of every kind.
-fn units_of(case: Case, pool: u8) -> u64 {
-    let some = plus(case.count(pool, 0), case.count(pool, 1));
-    let more = plus(case.count(pool, 2), case.count(pool, 3));
-    plus(plus(some, more), case.count(pool, 4))
-}
-
-// The row of a pool, where it is given.
-fn pool_row(case: Case, pool: u8, given: bool, out: &mut [u8], at: usize) -> usize {
-    if !given {
-        return at;
+// The units of a pool: all, and by their kinds.
+fn pool_line(case: Case, pool: u8) -> Line {
+    let free = case.count(pool, 0);
+    let sold = case.count(pool, 1);
+    let allocated = case.count(pool, 2);
+    let moved = case.count(pool, 3);
+    let torn = case.count(pool, 4);
+    let all = plus(plus(plus(free, sold), plus(allocated, moved)), torn);
+    Line {
+        text: texts::POOLS_ROW,
+        numbers: [pool as u64, all, free, sold, allocated, moved, torn, 0, 0],
     }
-    let named = number_right(out, at, 7, pool as u64);
-    counts(
-        units_of(case, pool),
-        case.count(pool, 0),
-        case.count(pool, 1),
-        case.count(pool, 2),
-        case.count(pool, 3),
-        case.count(pool, 4),
-        out,
-        named,
-    )
 }
 
 // The units of a kind in all pools.
@@ -111,110 +68,87 @@ fn all_of(case: Case, kind: u8) -> u64 {
     plus(first, last)
 }
 
-// The units of all pools.
-fn all_units(case: Case) -> u64 {
-    let first = plus(units_of(case, 0), units_of(case, 1));
-    let last = plus(units_of(case, 2), units_of(case, 3));
-    plus(first, last)
+// The units that are not open.
+fn not_open(case: Case) -> u64 {
+    let first = plus(all_of(case, 1), all_of(case, 2));
+    plus(first, plus(all_of(case, 3), all_of(case, 4)))
 }
 
-// The row of totals of the pools.
-fn pools_total(case: Case, out: &mut [u8], at: usize) -> usize {
-    let named = words::right(out, at, 7, b"total");
-    counts(
-        all_units(case),
-        all_of(case, 0),
-        all_of(case, 1),
-        all_of(case, 2),
-        all_of(case, 3),
-        all_of(case, 4),
-        out,
-        named,
-    )
+// The units of all pools.
+fn pools_total(case: Case) -> Line {
+    let free = all_of(case, 0);
+    Line {
+        text: texts::POOLS_TOTAL,
+        numbers: [
+            plus(free, not_open(case)),
+            free,
+            all_of(case, 1),
+            all_of(case, 2),
+            all_of(case, 3),
+            all_of(case, 4),
+            0,
+            0,
+            0,
+        ],
+    }
+}
+
+// The rows of the pools given.
+fn pool_rows(case: Case, given: u8, out: &mut [u8], at: usize) -> usize {
+    let mut to = at;
+    let mut pool: u8 = 0;
+    while pool < given {
+        to = fill(out, to, pool_line(case, pool));
+        pool += 1;
+    }
+    to
 }
 
 // The table of the pools.
 fn write_pools(case: Case, out: &mut [u8], at: usize) -> usize {
     let book = case.book;
     let pools = book.pools;
-    let given = pools.given;
-    let title = line(out, at, b"\nPools, in units");
-    let heads = line(
-        out,
-        title,
-        b"   pool     units      open      sold  allocated     moved      torn",
-    );
-    let first = pool_row(case, 0, 0 < given, out, heads);
-    let second = pool_row(case, 1, 1 < given, out, first);
-    let third = pool_row(case, 2, 2 < given, out, second);
-    let fourth = pool_row(case, 3, 3 < given, out, third);
-    pools_total(case, out, fourth)
+    let title = fill(out, at, plain(texts::POOLS_TITLE));
+    let rows = pool_rows(case, pools.given, out, title);
+    fill(out, rows, pools_total(case))
 }
 
 // ---- the loss
 
-// A word and an amount.
-fn named_amount(name: &[u8], cents: u64, out: &mut [u8], at: usize) -> usize {
-    let named = words::left(out, at, 34, name);
-    let to = amount(out, named, cents);
-    end_line(out, to)
-}
-
-// The prices of the units not open, together.
-fn write_prices(book: Book, out: &mut [u8], at: usize) -> usize {
-    let named = words::left(out, at, 34, b"  less prices of units not open");
-    let to = money_right(
-        out,
-        named,
-        15,
-        difference(book.prices(), Units::ZERO_PRICES),
-    );
-    end_line(out, to)
-}
-
 // How the requirement comes about.
-fn write_requirement(book: Book, out: &mut [u8], at: usize) -> usize {
+fn loss_line(book: Book) -> Line {
     let head = book.head;
-    let title = line(out, at, b"\nLoss");
-    let hedge = named_amount(b"  hedge loss", head.hedge as u64, out, title);
-    let other = named_amount(b"  other loss", head.other as u64, out, hedge);
-    let less = write_prices(book, out, other);
-    named_amount(b"  requirement, at least 0", book.requirement(), out, less)
-}
-
-// A layer: its limit, what it is charged and what is left.
-fn layer_row(name: &[u8], limit: u64, charged: u64, out: &mut [u8], at: usize) -> usize {
-    let named = words::left(out, at, 34, name);
-    let most = amount(out, named, limit);
-    let taken = amount(out, most, charged);
-    let left = remainder(out, taken, limit, charged);
-    end_line(out, left)
-}
-
-// The first three layers, by their limits and charges.
-fn first_layers(most: [u64; 6], charges: [u64; 6], out: &mut [u8], at: usize) -> usize {
-    let one = layer_row(b"  1 defaulter's margin", most[0], charges[0], out, at);
-    let two = layer_row(b"  2 defaulter's fund", most[1], charges[1], out, one);
-    layer_row(
-        b"  3 house money, first tranche",
-        most[2],
-        charges[2],
-        out,
-        two,
+    texts::four(
+        texts::LOSS,
+        head.hedge as u64,
+        head.other as u64,
+        minus(book.prices(), Units::ZERO_PRICES),
+        book.requirement(),
     )
 }
 
-// The last three layers.
-fn last_layers(most: [u64; 6], charges: [u64; 6], out: &mut [u8], at: usize) -> usize {
-    let four = layer_row(b"  4 members' contributions", most[3], charges[3], out, at);
-    let five = layer_row(
-        b"  5 house money, second tranche",
-        most[4],
-        charges[4],
-        out,
-        four,
-    );
-    layer_row(b"  6 members' payments", most[5], charges[5], out, five)
+// A limit, what is charged to it and what is left.
+fn charge_line(text: usize, limit: u64, charged: u64) -> Line {
+    texts::three(text, limit, charged, minus(limit, charged))
+}
+
+// Layer k of six.
+fn layer_line(most: [u64; 6], charges: [u64; 6], k: usize) -> Line {
+    if k < 6 {
+        return charge_line(texts::LAYER + k, most[k], charges[k]);
+    }
+    plain(texts::NOTHING)
+}
+
+// The rows of the six layers.
+fn layer_rows(most: [u64; 6], charges: [u64; 6], out: &mut [u8], at: usize) -> usize {
+    let mut to = at;
+    let mut k: usize = 0;
+    while k < 6 {
+        to = fill(out, to, layer_line(most, charges, k));
+        k += 1;
+    }
+    to
 }
 
 // The sum of six numbers.
@@ -224,210 +158,180 @@ fn sum_of_six(xs: [u64; 6]) -> u64 {
     plus(first, last)
 }
 
-// A word and an amount in the column of the charges.
-fn charge_row(name: &[u8], cents: u64, out: &mut [u8], at: usize) -> usize {
-    let named = words::left(out, at, 49, name);
-    let to = amount(out, named, cents);
-    end_line(out, to)
-}
-
 // The six layers, their totals, the uncovered rest and the loss.
-fn write_layers(book: Book, result: Result, out: &mut [u8], at: usize) -> usize {
-    let most = book.limits();
+fn write_layers(most: [u64; 6], result: Result, out: &mut [u8], at: usize) -> usize {
     let charges = result.charges;
+    let uncovered = result.uncovered;
     let all = sum_of_six(charges);
-    let first = first_layers(most, charges, out, at);
-    let last = last_layers(most, charges, out, first);
-    let total = layer_row(b"  total", sum_of_six(most), all, out, last);
-    let rest = charge_row(b"  uncovered", result.uncovered, out, total);
-    charge_row(b"  loss", plus(all, result.uncovered), out, rest)
+    let title = fill(out, at, plain(texts::LAYERS_TITLE));
+    let rows = layer_rows(most, charges, out, title);
+    let total = charge_line(texts::LAYERS_TOTAL, sum_of_six(most), all);
+    let added = fill(out, rows, total);
+    fill(
+        out,
+        added,
+        texts::two(texts::UNCOVERED, uncovered, plus(all, uncovered)),
+    )
 }
 
 // The table of the loss; the layers stand in it after FINISH.
-fn write_loss(case: Case, out: &mut [u8], at: usize) -> usize {
-    let stage = case.stage;
-    let book = case.book;
-    let required = write_requirement(book, out, at);
-    if book::letter(stage) != 5 {
-        return line(out, required, b"  nothing is charged before FINISH");
+fn write_loss(finished: bool, book: Book, out: &mut [u8], at: usize) -> usize {
+    let required = fill(out, at, loss_line(book));
+    if finished {
+        return write_layers(book.limits(), book.result(), out, required);
     }
-    let heads = line(
-        out,
-        required,
-        b"\nLayers                                      limit        charged           left",
-    );
-    write_layers(book, book.result(), out, heads)
+    fill(out, required, plain(texts::NOT_CHARGED))
 }
 
 // ---- members
 
-// Units won and expected, and the excess.
-fn units_row(won: u64, expected: u64, out: &mut [u8], at: usize) -> usize {
-    let first = number_right(out, at, 8, won);
-    let second = number_right(out, first, 10, expected);
-    difference_right(out, second, 9, won, expected)
+// The units that each member won, over all pools.
+fn units_won(members: Members) -> [u64; 32] {
+    let won = members.won;
+    over_pools(won)
 }
 
-// Four amounts in columns.
-fn money_row(a: u64, b: u64, c: u64, d: u64, out: &mut [u8], at: usize) -> usize {
-    let first = amount(out, at, a);
-    let second = amount(out, first, b);
-    let third = amount(out, second, c);
-    let fourth = amount(out, third, d);
-    end_line(out, fourth)
+// The units that each member is expected to take, over all pools.
+fn units_expected(members: Members) -> [u64; 32] {
+    let expected = members.expected;
+    over_pools(expected)
 }
 
 // The members' contributions.
 fn contributions(members: Members) -> [u64; 32] {
-    let xs = members.contribution;
-    widened(xs)
+    let given = members.contribution;
+    widened(given)
 }
 
 // What is called from the members.
-fn called_amounts(members: Members) -> [u64; 32] {
-    let xs = members.called;
-    widened(xs)
+fn amounts_called(members: Members) -> [u64; 32] {
+    let called = members.called;
+    widened(called)
 }
 
 // What the members have paid.
-fn paid_amounts(members: Members) -> [u64; 32] {
-    let xs = members.paid;
-    widened(xs)
+fn amounts_paid(members: Members) -> [u64; 32] {
+    let paid = members.paid;
+    widened(paid)
 }
 
-// The units won and expected, and the excess, of a member.
-fn member_units(members: Members, m: u8, out: &mut [u8], at: usize) -> usize {
-    let table = members.won;
-    let won = over_pools(table);
-    let other = members.expected;
-    let expected = over_pools(other);
-    units_row(number_at(won, m), number_at(expected, m), out, at)
-}
-
-// The money of a member, and what is charged of it.
-fn member_money(members: Members, result: Result, m: u8, out: &mut [u8], at: usize) -> usize {
-    let contribution = contributions(members);
-    let paid = paid_amounts(members);
-    let charged = result.contributions;
-    let taken = result.payments;
-    money_row(
-        number_at(contribution, m),
-        number_at(charged, m),
-        number_at(paid, m),
-        number_at(taken, m),
-        out,
-        at,
-    )
-}
-
-// The row of a member.
-fn member_row(members: Members, result: Result, m: u8, out: &mut [u8], at: usize) -> usize {
+// The row of a member after FINISH.
+fn ranked_line(members: Members, result: Result, m: u8) -> Line {
     let ranks = result.ranks;
-    let named = number_right(out, at, 8, m as u64);
-    let units = member_units(members, m, out, named);
-    let ranked = number_right(out, units, 7, rank_at(ranks, m));
-    member_money(members, result, m, out, ranked)
-}
-
-// The units won and expected by all members, and the excess.
-fn units_total(members: Members, out: &mut [u8], at: usize) -> usize {
-    let table = members.won;
-    let won = over_pools(table);
-    let other = members.expected;
-    let expected = over_pools(other);
-    units_row(sum_of(won), sum_of(expected), out, at)
-}
-
-// The money of all members, and what is charged of it.
-fn money_total(members: Members, result: Result, out: &mut [u8], at: usize) -> usize {
-    let contribution = contributions(members);
-    let paid = paid_amounts(members);
     let charged = result.contributions;
     let taken = result.payments;
-    money_row(
-        sum_of(contribution),
-        sum_of(charged),
-        sum_of(paid),
-        sum_of(taken),
-        out,
-        at,
-    )
-}
-
-// The row of totals of the members.
-fn members_total(members: Members, result: Result, out: &mut [u8], at: usize) -> usize {
-    let named = words::right(out, at, 8, b"total");
-    let units = units_total(members, out, named);
-    let ranked = words::spaces(out, units, 7);
-    money_total(members, result, out, ranked)
-}
-
-// The rows of a set's members.
-fn member_rows(members: Members, result: Result, set: u32, out: &mut [u8], at: usize) -> usize {
-    let mut to = at;
-    let mut left = set;
-    while left != 0 {
-        let m = sets::next(left);
-        left = sets::without_least(left);
-        to = member_row(members, result, m as u8, out, to);
+    let won = number_at(units_won(members), m);
+    let expected = number_at(units_expected(members), m);
+    let numbers = [
+        m as u64,
+        won,
+        expected,
+        minus(won, expected),
+        rank_at(ranks, m),
+        number_at(contributions(members), m),
+        number_at(charged, m),
+        number_at(amounts_paid(members), m),
+        number_at(taken, m),
+    ];
+    Line {
+        text: texts::MEMBERS_ROW,
+        numbers,
     }
-    to
 }
 
 // The row of a member before FINISH, when nothing is charged and nobody is ranked.
-fn early_row(members: Members, m: u8, out: &mut [u8], at: usize) -> usize {
-    let contribution = contributions(members);
-    let called = called_amounts(members);
-    let paid = paid_amounts(members);
-    let named = number_right(out, at, 8, m as u64);
-    let units = member_units(members, m, out, named);
-    money_row(
-        number_at(contribution, m),
-        number_at(called, m),
-        number_at(paid, m),
+fn early_line(members: Members, m: u8) -> Line {
+    let won = number_at(units_won(members), m);
+    let expected = number_at(units_expected(members), m);
+    let numbers = [
+        m as u64,
+        won,
+        expected,
+        minus(won, expected),
+        number_at(contributions(members), m),
+        number_at(amounts_called(members), m),
+        number_at(amounts_paid(members), m),
         members.owes(m),
-        out,
-        units,
-    )
+        0,
+    ];
+    Line {
+        text: texts::EARLY_ROW,
+        numbers,
+    }
 }
 
-// The rows of a set's members before FINISH.
-fn early_rows(members: Members, set: u32, out: &mut [u8], at: usize) -> usize {
+// The row of a member.
+fn member_line(finished: bool, members: Members, result: Result, m: u8) -> Line {
+    if finished {
+        ranked_line(members, result, m)
+    } else {
+        early_line(members, m)
+    }
+}
+
+// The rows of a set's members.
+fn member_rows(
+    finished: bool,
+    members: Members,
+    result: Result,
+    set: u32,
+    out: &mut [u8],
+    at: usize,
+) -> usize {
     let mut to = at;
     let mut left = set;
     while left != 0 {
         let m = sets::next(left);
         left = sets::without_least(left);
-        to = early_row(members, m as u8, out, to);
+        to = fill(out, to, member_line(finished, members, result, m as u8));
     }
     to
 }
 
+// The row of totals of the members; before FINISH there is none.
+fn members_total(finished: bool, members: Members, result: Result) -> Line {
+    if !finished {
+        return plain(texts::NOTHING);
+    }
+    let charged = result.contributions;
+    let taken = result.payments;
+    let won = sum_of(units_won(members));
+    let expected = sum_of(units_expected(members));
+    let numbers = [
+        won,
+        expected,
+        minus(won, expected),
+        sum_of(contributions(members)),
+        sum_of(charged),
+        sum_of(amounts_paid(members)),
+        sum_of(taken),
+        0,
+        0,
+    ];
+    Line {
+        text: texts::MEMBERS_TOTAL,
+        numbers,
+    }
+}
+
+// The title of the members' table.
+fn members_title(finished: bool, set: u32) -> Line {
+    let count = sets::count(set) as u64;
+    if finished {
+        texts::one(texts::MEMBERS_TITLE, count)
+    } else {
+        texts::one(texts::EARLY_TITLE, count)
+    }
+}
+
 // The table of the members.
-fn write_members(case: Case, out: &mut [u8], at: usize) -> usize {
-    let stage = case.stage;
-    let book = case.book;
+fn write_members(finished: bool, book: Book, out: &mut [u8], at: usize) -> usize {
     let head = book.head;
     let members = book.members;
-    let count = sets::count(head.set) as u64;
-    let counted = with_number(out, at, b"\nMembers, ", count);
-    let title = end_line(out, counted);
-    if book::letter(stage) != 5 {
-        let heads = line(
-            out,
-            title,
-            b"  member     won  expected   excess   contribution         called           paid           owes",
-        );
-        return early_rows(members, head.set, out, heads);
-    }
-    let heads = line(
-        out,
-        title,
-        b"  member     won  expected   excess   rank   contribution        charged           paid        charged",
-    );
     let result = book.result();
-    let rows = member_rows(members, result, head.set, out, heads);
-    members_total(members, result, out, rows)
+    let title = fill(out, at, members_title(finished, head.set));
+    let rows = member_rows(finished, members, result, head.set, out, title);
+    fill(out, rows, members_total(finished, members, result))
 }
 
 // ---- units held
@@ -500,22 +404,19 @@ fn worth(units: u64, price: u32) -> u64 {
     lists::smaller(units, 4_000) * lists::smaller(price as u64, Call::MAX_PRICE as u64)
 }
 
-// A row of the units held at a price, where there are any.
-fn held_row(m: u8, pool: u8, price: u32, units: u64, out: &mut [u8], at: usize) -> usize {
+// The units held at a price, where there are any.
+fn held_line(m: u8, pool: u8, price: u32, units: u64) -> Line {
     if units == 0 {
-        return at;
+        return plain(texts::NOTHING);
     }
-    let named = number_right(out, at, 8, m as u64);
-    let kept = number_right(out, named, 8, pool as u64);
-    let priced = money_right(out, kept, 15, words::price(price));
-    let counted = number_right(out, priced, 10, units);
-    let amounted = money_right(
-        out,
-        counted,
-        15,
-        difference(worth(units, price), worth(units, 1_000_000)),
-    );
-    end_line(out, amounted)
+    texts::five(
+        texts::HELD_ROW,
+        m as u64,
+        pool as u64,
+        texts::price(price),
+        units,
+        minus(worth(units, price), worth(units, 1_000_000)),
+    )
 }
 
 // The rows of a member's units in a pool, by price.
@@ -531,7 +432,7 @@ fn price_rows(case: Case, m: u8, pool: u8, rows: Rows, out: &mut [u8]) -> Rows {
             return Rows { at, units, prices };
         }
         let n = case.holding(m, pool, price);
-        at = held_row(m, pool, price, n, out, at);
+        at = fill(out, at, held_line(m, pool, price, n));
         units = plus(units, n);
         prices = plus(prices, worth(n, price));
         first = after(price, first);
@@ -555,7 +456,7 @@ fn after(price: u32, first: u32) -> u32
 }
 
 // The rows of a member's units.
-fn pool_rows(case: Case, m: u8, rows: Rows, out: &mut [u8]) -> Rows {
+fn holding_rows(case: Case, m: u8, rows: Rows, out: &mut [u8]) -> Rows {
     let first = price_rows(case, m, 0, rows, out);
     let second = price_rows(case, m, 1, first, out);
     let third = price_rows(case, m, 2, second, out);
@@ -569,24 +470,15 @@ fn held_rows(case: Case, set: u32, rows: Rows, out: &mut [u8]) -> Rows {
     while left != 0 {
         let m = sets::next(left);
         left = sets::without_least(left);
-        next = pool_rows(case, m as u8, next, out);
+        next = holding_rows(case, m as u8, next, out);
     }
     next
 }
 
 // A row of units and their prices together.
-fn sum_row(name: &[u8], units: u64, prices: u64, out: &mut [u8], at: usize) -> usize {
-    let named = words::left(out, at, 31, name);
-    let counted = number_right(out, named, 10, units);
+fn sum_line(text: usize, units: u64, prices: u64) -> Line {
     let few = lists::smaller(units, 16_000);
-    let amounted = money_right(out, counted, 15, difference(prices, 1_000_000 * few));
-    end_line(out, amounted)
-}
-
-// The units that are not open.
-fn not_open(case: Case) -> u64 {
-    let first = plus(all_of(case, 1), all_of(case, 2));
-    plus(first, plus(all_of(case, 3), all_of(case, 4)))
+    texts::two(text, units, minus(prices, 1_000_000 * few))
 }
 
 // The sum of the prices of units that are not open, each as cents + 1,000,000.
@@ -595,38 +487,28 @@ fn prices_of(book: Book, units: u64) -> u64 {
     lists::less(above, Units::ZERO_PRICES)
 }
 
-// The units held, the torn ones, and all units that are not open.
-fn write_sums(case: Case, rows: Rows, out: &mut [u8]) -> usize {
-    let units = not_open(case);
-    let prices = prices_of(case.book, units);
-    let held = sum_row(b"  held", rows.units, rows.prices, out, rows.at);
-    let torn = sum_row(
-        b"  torn",
-        lists::less(units, rows.units),
-        lists::less(prices, rows.prices),
-        out,
-        held,
-    );
-    sum_row(b"  total, units not open", units, prices, out, torn)
+// The units held, the torn ones, and all units that are not open, with their prices.
+fn write_sums(rows: Rows, units: u64, prices: u64, out: &mut [u8]) -> usize {
+    let torn = lists::less(units, rows.units);
+    let lost = lists::less(prices, rows.prices);
+    let first = sum_line(texts::HELD_SUM, rows.units, rows.prices);
+    let at = fill(out, rows.at, first);
+    let to = fill(out, at, sum_line(texts::TORN_SUM, torn, lost));
+    fill(out, to, sum_line(texts::PRICED_SUM, units, prices))
 }
 
 // The table of the units held, with the torn ones and all units that are not open below.
 fn write_held(case: Case, out: &mut [u8], at: usize) -> usize {
     let book = case.book;
     let head = book.head;
-    let title = line(out, at, b"\nUnits held, by pool and price");
-    let heads = line(
-        out,
-        title,
-        b"  member    pool          price     units         amount",
-    );
     let none = Rows {
-        at: heads,
+        at: fill(out, at, plain(texts::HELD_TITLE)),
         units: 0,
         prices: 0,
     };
     let rows = held_rows(case, head.set, none, out);
-    write_sums(case, rows, out)
+    let units = not_open(case);
+    write_sums(rows, units, prices_of(book, units), out)
 }
 
 // ---- all tables
@@ -634,11 +516,14 @@ fn write_held(case: Case, out: &mut [u8], at: usize) -> usize {
 // The tables of what is held at the end.
 pub fn write_tables(held: Held, out: &mut [u8], at: usize) -> usize {
     if !held.present {
-        return line(out, at, b"no case");
+        return fill(out, at, plain(texts::NO_TABLES));
     }
     let case = held.case;
+    let stage = case.stage;
+    let book = case.book;
+    let finished = book::letter(stage) == 5;
     let pools = write_pools(case, out, at);
-    let loss = write_loss(case, out, pools);
-    let members = write_members(case, out, loss);
+    let loss = write_loss(finished, book, out, pools);
+    let members = write_members(finished, book, out, loss);
     write_held(case, out, members)
 }

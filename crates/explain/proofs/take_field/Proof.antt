@@ -21,17 +21,13 @@ write-answer-requires c κs = search needs
 write-state-requires : tie.Need-write-state-requires
 write-state-requires c κs = search needs
 
-end-line-requires : tie.Need-end-line-requires
-end-line-requires c κs = search needs
-
 same-length : tie.Need-same-length
 same-length c = search needs
 
 returns : tie.Need-returns
 unfolding applied
 returns c =
-    ap (λ (x : Applied). x .held)
-    (c .before .before .before .before .before .before .before .before .before .before .before .before .before .before .before .before .before .take .ensures ∙ ap (takeAsked (c .before .before .before .before .before .before .before .before .before .before .before .before .before .before .before .before .before .before .before .before .before .args .held)) (c .before .before .before .before .before .before .before .before .before .before .before .before .before .before .before .before .before .before .read-call .ensures))
+    ap (λ (x : Applied). x .held) (c .before .before .before .before .before .before .before .before .before .before .before .before .before .take .ensures ∙ ap (takeAsked (c .before .before .before .before .before .before .before .before .before .before .before .before .before .before .before .before .before .args .held)) (c .before .before .before .before .before .before .before .before .before .before .before .before .before .before .read-call .ensures))
 
 pub take-field-spec : {M : Type 1} → statement M
 take-field-spec =
@@ -42,6 +38,5 @@ take-field-spec =
     write-call-requires
     write-answer-requires
     write-state-requires
-    end-line-requires
     same-length
     returns)

@@ -30,11 +30,11 @@ next-requires c κs = search needs
 without-least-requires : tie.Need-without-least-requires Inv-loop μ-loop
 without-least-requires c κs = search needs
 
-cast-pool-rows : tie.Need-cast-pool-rows Inv-loop μ-loop
-cast-pool-rows c = omega (arith, next-taken c .below)
+cast-holding-rows : tie.Need-cast-holding-rows Inv-loop μ-loop
+cast-holding-rows c = omega (arith, next-taken c .below)
 
-pool-rows-requires : tie.Need-pool-rows-requires Inv-loop μ-loop
-pool-rows-requires c κs = search needs
+holding-rows-requires : tie.Need-holding-rows-requires Inv-loop μ-loop
+holding-rows-requires c κs = search needs
 
 loop-less : tie.Need-loop-less Inv-loop μ-loop
 loop-less c = next-taken (c .before .before .before .before) .shorter
@@ -57,8 +57,8 @@ held-rows-spec =
     loop-holds
     next-requires
     without-least-requires
-    cast-pool-rows
-    pool-rows-requires
+    cast-holding-rows
+    holding-rows-requires
     loop-less
     loop-again
     same-length

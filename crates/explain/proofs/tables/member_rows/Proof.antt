@@ -10,10 +10,10 @@ use Rattle.explain.proofs.tables.member_rows.Statement.{statement}
 use Rattle.explain.proofs.tables.member_rows.Tie as tie
 
 abbrev Inv-loop : tie.InvT-loop
-Inv-loop members result set out₀ at to₀ left₀ out to left = (left < 2 ^ 32) × (length out ≡ length out₀)
+Inv-loop finished members result set out₀ at to₀ left₀ out to left = (left < 2 ^ 32) × (length out ≡ length out₀)
 
 abbrev μ-loop : tie.MeasureT-loop
-μ-loop members result set out₀ at to₀ left₀ out to left = length (membersOf left)
+μ-loop finished members result set out₀ at to₀ left₀ out to left = length (membersOf left)
 
 -- the next member, known and taken off
 next-taken : (c : tie.After-without-least Inv-loop μ-loop) → Taken (c .before .before .before .loop .left) (c .before .next .result) (c .without-least .result)
@@ -30,14 +30,17 @@ next-requires c κs = search needs
 without-least-requires : tie.Need-without-least-requires Inv-loop μ-loop
 without-least-requires c κs = search needs
 
-cast-member-row : tie.Need-cast-member-row Inv-loop μ-loop
-cast-member-row c = omega (arith, next-taken c .below)
+cast-member-line : tie.Need-cast-member-line Inv-loop μ-loop
+cast-member-line c = omega (arith, next-taken (c .before) .below)
 
-member-row-requires : tie.Need-member-row-requires Inv-loop μ-loop
-member-row-requires c κs = search needs
+member-line-requires : tie.Need-member-line-requires Inv-loop μ-loop
+member-line-requires c κs = search needs
+
+fill-requires : tie.Need-fill-requires Inv-loop μ-loop
+fill-requires c κs = search needs
 
 loop-less : tie.Need-loop-less Inv-loop μ-loop
-loop-less c = next-taken (c .before .before .before .before) .shorter
+loop-less c = next-taken (c .before .before .before .before .before) .shorter
 
 loop-again : tie.Need-loop-again Inv-loop μ-loop
 loop-again c = (omega arith, search needs)
@@ -57,8 +60,9 @@ member-rows-spec =
     loop-holds
     next-requires
     without-least-requires
-    cast-member-row
-    member-row-requires
+    cast-member-line
+    member-line-requires
+    fill-requires
     loop-less
     loop-again
     same-length

@@ -27,8 +27,11 @@ returns c = search needs
 holding-requires : tie.Need-holding-requires Inv-loop μ-loop
 holding-requires c κs = search needs
 
-held-row-requires : tie.Need-held-row-requires Inv-loop μ-loop
-held-row-requires c κs = search needs
+held-line-requires : tie.Need-held-line-requires Inv-loop μ-loop
+held-line-requires c κs = search needs
+
+fill-requires : tie.Need-fill-requires Inv-loop μ-loop
+fill-requires c κs = search needs
 
 plus-requires : tie.Need-plus-requires Inv-loop μ-loop
 plus-requires c κs = search needs
@@ -65,7 +68,8 @@ price-rows-spec =
     same-length
     returns
     holding-requires
-    held-row-requires
+    held-line-requires
+    fill-requires
     plus-requires
     worth-requires
     plus-requires-2

@@ -1,4 +1,4 @@
--- `explain::figures::member_list` meets its contract: it ends. Assumes nothing.
+-- `explain::texts::put_members` meets its contract: it ends. Assumes nothing.
 use mathlib.Core.Path.{_≡_, refl}
 use Prim.Native.Nat.{_^_, _<_}
 use native.Mathlib.Omega.{arith}
@@ -6,8 +6,8 @@ use lib.ListN.{length}
 use borrow.Author.Needs.{needs}
 use Rattle.sets.specs.Set.{members}
 use Rattle.sets.proofs.Members.{Taken, taken}
-use Rattle.explain.proofs.figures.member_list.Statement.{statement}
-use Rattle.explain.proofs.figures.member_list.Tie as tie
+use Rattle.explain.proofs.texts.put_members.Statement.{statement}
+use Rattle.explain.proofs.texts.put_members.Tie as tie
 
 abbrev Inv-loop : tie.InvT-loop
 Inv-loop out₀ at set to₀ left₀ out to left = (left < 2 ^ 32) × (length out ≡ length out₀)
@@ -51,8 +51,8 @@ same-length c = search needs
 returns : tie.Need-returns Inv-loop μ-loop
 returns c = search needs
 
-pub member-list-spec : {M : Type 1} → statement M
-member-list-spec =
+pub put-members-spec : {M : Type 1} → statement M
+put-members-spec =
     tie.close
     (tie.spec
     Inv-loop
