@@ -232,6 +232,16 @@ for text in sorted(pathlib.Path('examples').glob('*.txt')):
     r = run(['bin/run', str(text)])
     tell('bin/run %s' % text, r.returncode == 0 and r.stderr == b'' and r.stdout == text.with_suffix('.out').read_bytes(), r)
 
+# ---- reasons that no example has
+
+text = [b'HEAD pools 1 least 1 members 0 hedge 0.00 other 0.00 margin 0.00 fund 0.00 house 0.00', b'POOL pool 0 units 1 mark 0',
+        b'MEMBER member 0 contribution 0.00 expected 0,0,0,0', b'ROUND reserves 0.00'] + [b'BID pool 0 member 0 units 1 price 0.00'] * 257
+r = run(['bin/run'], b'\n'.join(text))
+tell('bin/run, a bid too many', r.returncode == 0 and r.stdout.count(b'refused') == 1 and b'refused 7: no more bids are kept (bids kept 256); stage B' in r.stdout, r)
+r = run(['bin/explain'], bytes([99, 0, 1, 5, 5, 0, 0]))
+reason = b'    refused 1: not a call: unknown tag or wrong length; no case\n'
+tell('bin/explain, fields that are no calls', r.stdout == b'tag 99, bytes 1\n' + reason + b'tag 5, bytes 0\n' + reason + b'no case\n', r)
+
 # ---- what docs/USING.md quotes is what the example prints
 
 printed = open('examples/one-default.out').read().splitlines()

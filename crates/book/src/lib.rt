@@ -1,13 +1,9 @@
 // The book of a case (document 01): all but its stage. It says how each call changes it, what is called and what is charged.
 ghost use mathlib.Core.Path.{_≡_};
-ghost use mathlib.Core.List.{[], _∷_};
 ghost use Prim.Native.Nat.{ℕ, _≤_};
-ghost use lib.ListN.{take, getD};
-ghost use Rattle.lists.specs.Lists.{between, sum, all};
+ghost use lib.ListN.{getD};
+ghost use Rattle.lists.specs.Lists.{sum};
 ghost use Rattle.lists.specs.Adding.{most16};
-ghost use Rattle.auction.specs.Price.{priceOk};
-ghost use Rattle.machine.specs.Refusals.{headOk, poolOk, memberOk, bidOk, paymentOk};
-ghost use Rattle.wire.specs.Asked.{headOf};
 ghost use Rattle.accounts.specs.Members.{shortfallsOf};
 ghost use Rattle.book.specs.Stages.{letterOf, roundOf, nextRound};
 ghost use Rattle.book.specs.Books.{openIn, anyOpenIn, passedIn, pricesIn, requirementIn, contributionsIn, prefundedIn, shortIn, allocationIn, callsIn};

@@ -10,6 +10,7 @@ pub struct Line {
     pub numbers: [u64; 9],
 }
 
+// The numbers of the texts: each is that of its line in `fill`, from 0 on.
 pub const NOTHING: usize = 0;
 
 pub const ACCEPTED: usize = 1;
@@ -247,6 +248,14 @@ fn set_of(n: u64) -> u32 {
     if n < 4_294_967_296 { n as u32 } else { 0 }
 }
 
+// The members of a set, if there are any.
+fn put_set(out: &mut [u8], at: usize, set: u32) -> usize {
+    if set == 0 {
+        return words::put(out, at, b"none");
+    }
+    put_members(out, at, set)
+}
+
 // The members of a set, with commas between them.
 fn put_members(out: &mut [u8], at: usize, set: u32) -> usize {
     let mut to = at;
@@ -313,7 +322,7 @@ fn put_piece(out: &mut [u8], at: usize, b: u8, width: usize, n: u64) -> usize {
     match b {
         b'#' => put_number(out, at, width, false, n),
         b'$' => put_number(out, at, width, true, n),
-        b'@' => put_members(out, at, set_of(n)),
+        b'@' => put_set(out, at, set_of(n)),
         _ => put_byte(out, at, b),
     }
 }
