@@ -8,7 +8,7 @@ ghost use Rattle.machine.specs.Printed.{decimal, numbersText};
 ghost use Rattle.lines.specs.Placed.{Placed, placed, lineOf, lineText};
 
 // How many digits a number has.
-pub fn digits(n: u64) -> usize
+fn digits(n: u64) -> usize
     ensures { λ r. ⌜ (r ≡ length (decimal 20 n)) × (r ≤ 20) ⌝ }
 {
     let mut k: usize = 1;

@@ -1,4 +1,4 @@
--- A word in a column of a lent buffer: spaces before it, or behind it, up to the column's width.
+-- A word in a column of a lent buffer: spaces before it, up to the column's width.
 use mathlib.Core.List.{List}
 use Prim.Native.Nat.{ℕ, _-_, min}
 use lib.ListN.{length, take, replicate}
@@ -13,9 +13,3 @@ unfoldable pub placedRight : ℕ → List ℕ → List ℕ → ℕ → Placed
 placedRight width word out at =
     let p = placed (blanks (width - length word)) out at in
     placed word (p .1) (p .0)
-
--- the word, and spaces behind it
-unfoldable pub placedLeft : ℕ → List ℕ → List ℕ → ℕ → Placed
-placedLeft width word out at =
-    let p = placed word out at in
-    placed (blanks (width - length word)) (p .1) (p .0)

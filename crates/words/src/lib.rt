@@ -1,10 +1,10 @@
-// Text for people in a lent buffer: words, whole numbers, money with a point, and columns. Every function gives the place behind what it put.
+// Text for people in a lent buffer: words, whole numbers, amounts with their sign, and columns. Every function that puts something gives the place behind it.
 ghost use mathlib.Core.Path.{_≡_};
 ghost use Prim.Native.Nat.{_-_, min};
 ghost use Rattle.lines.specs.Placed.{Placed, placed};
 ghost use Rattle.machine.specs.Printed.{decimal};
 ghost use Rattle.words.specs.Amounts.{differenceOf, amountOf};
-ghost use Rattle.words.specs.Columns.{blanks, placedRight, placedLeft};
+ghost use Rattle.words.specs.Columns.{blanks, placedRight};
 
 // An amount of cents with its sign.
 pub struct Amount {
@@ -38,7 +38,7 @@ fn at_most_widest(n: usize) -> usize
 }
 
 // Spaces at a place of the buffer, at most 64.
-pub fn spaces(out: &mut [u8], at: usize, n: usize) -> usize
+fn spaces(out: &mut [u8], at: usize, n: usize) -> usize
     ensures { λ r. ⌜ _≡_ {A = Placed} (r, now (out .exit)) (placed (blanks n) (now (out .entry)) at) ⌝ }
 {
     let row = [b' '; 64];
@@ -61,28 +61,11 @@ pub fn right(out: &mut [u8], at: usize, width: usize, word: &[u8]) -> usize
     put(out, to, word)
 }
 
-// A word at the left of a column.
-pub fn left(out: &mut [u8], at: usize, width: usize, word: &[u8]) -> usize
-    ensures { λ r. ⌜ _≡_ {A = Placed} (r, now (out .exit)) (placedLeft width (now (word .entry)) (now (out .entry)) at) ⌝ }
-{
-    let to = put(out, at, word);
-    spaces(out, to, gap(width, word.len()))
-}
-
 // A number in decimal.
 pub fn number(out: &mut [u8], at: usize, n: u64) -> usize
     ensures { λ r. ⌜ _≡_ {A = Placed} (r, now (out .exit)) (placed (decimal 20 n) (now (out .entry)) at) ⌝ }
 {
     lines::number(out, at, n)
-}
-
-// A number at the right of a column.
-pub fn number_right(out: &mut [u8], at: usize, width: usize, n: u64) -> usize
-    ensures { λ r. ⌜ _≡_ {A = Placed} (r, now (out .exit)) (placedRight width (decimal 20 n) (now (out .entry)) at) ⌝ }
-{
-    let k = lines::digits(n);
-    let to = spaces(out, at, gap(width, k));
-    number(out, to, n)
 }
 
 // a − b as an amount of money.
