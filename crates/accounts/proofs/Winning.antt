@@ -125,9 +125,6 @@ module _ (x : Bids) (round pool n reserve : ℕ) (w : BidsLong x) (small : n ≤
   pub wins-le : (i : ℕ) → getD (winsOf x round pool n reserve) i 0 ≤ getD (x .units) i 0
   wins-le i = omega (arith, ap (λ (r : List ℕ). getD r i 0) won-is, allot-le n reserve (unitsIn x round pool) (x .price) i, units-le i)
 
-  pub wins-past : (i : ℕ) → x .kept ≤ i → getD (winsOf x round pool n reserve) i 0 ≡ 0
-  wins-past i h = omega (arith, ap (λ (r : List ℕ). getD r i 0) won-is, allot-le n reserve (unitsIn x round pool) (x .price) i, units-past i h)
-
 -- the same in a case that has the bids x, these open units and this reserve
 pub wins-in : (c : S.Case) (x : Bids) (round pool n low : ℕ) → c .bids ≡ viewBids x → BidsLong x
     → n ≡ M.openUnits (c .roll) pool → low ≡ reserve (c .rounds) round pool → n ≤ unitLimit → low ≤ priceLimit

@@ -1,12 +1,12 @@
 -- Tests taken apart and put together, and claims about a choice. Assumes nothing.
 use mathlib.Core.Path.{_≡_, refl, sym, ap}
-use mathlib.Core.Bool.{Bool, true, false, _&&_, _||_, not, false≢true}
+use mathlib.Core.Bool.{Bool, true, false, _&&_, _||_, false≢true}
 use mathlib.Core.Logic.{_⊎_, inl, inr, ⊎-elim}
-use Prim.Native.Nat.{ℕ, _+_, _≤_, _<_}
+use Prim.Native.Nat.{ℕ, _≤_, _<_}
 use native.Mathlib.Nat.{eq-or-lt-of-le}
 use native.Mathlib.Omega.{arith}
 use lib.Dec.{leb, ltb, eqb}
-use borrow.Author.Tests.{ltb-true, ltb-false, lt-ltb, le-ltb, eqb-true, eqb-false, eq-eqb, ne-eqb, leb-true, leb-false}
+use borrow.Author.Tests.{ltb-true, ltb-false, eqb-true, eqb-false, leb-true, leb-false}
 use Rattle.lists.specs.Lists.{if_then_else_, oneIf}
 
 -- ---- a choice
@@ -30,21 +30,6 @@ cases false P t f = f refl
 pub same-choice : {A : Type 0} (b : Bool) (x : A) → (if b then x else x) ≡ x
 same-choice true x = refl
 same-choice false x = refl
-
--- a function of a choice
-pub of-choice : {A B : Type 0} (f : A → B) (b : Bool) (x y : A) → f (if b then x else y) ≡ (if b then f x else f y)
-of-choice f true x y = refl
-of-choice f false x y = refl
-
--- a choice by the opposite test
-pub choice-not : {A : Type 0} (b : Bool) (x y : A) → (if b then x else y) ≡ (if not b then y else x)
-choice-not true x y = refl
-choice-not false x y = refl
-
--- a choice in a choice
-pub choice-and : {A : Type 0} (a b : Bool) (x y : A) → (if a then (if b then x else y) else y) ≡ (if a && b then x else y)
-choice-and true b x y = refl
-choice-and false b x y = refl
 
 -- ---- and, or, not
 
@@ -129,10 +114,6 @@ eqb-same a b c d there back = go (eqb a b) (eqb c d) refl refl
     go false true e u = absurd (eqb-false a b e (back (eqb-true c d u)))
     go false false e u = refl
 
--- none is not some
-pub none-some : (n : ℕ) → eqb n 0 ≡ not (ltb 0 n)
-none-some n = ⊎-elim (λ h. rw (lt-ltb 0 n h, ne-eqb n 0 (omega arith))) (λ h. rw (le-ltb 0 n h, eq-eqb n 0 (omega arith))) (lt-or-le 0 n)
-
 -- ---- a test as a number
 
 pub one-true : oneIf true ≡ 1
@@ -153,26 +134,7 @@ unfolding oneIf
 oneIf-le true b h = omega (arith, ap oneIf (h refl))
 oneIf-le false b h = omega arith
 
--- a test and its opposite make 1
-pub oneIf-not : (b : Bool) → oneIf b + oneIf (not b) ≡ 1
-unfolding oneIf
-oneIf-not true = refl
-oneIf-not false = refl
-
--- a test that passes where another does, and the rest of it
-pub oneIf-and : (a b : Bool) → oneIf (a && b) + oneIf (a && not b) ≡ oneIf a
-unfolding oneIf
-oneIf-and true true = refl
-oneIf-and true false = refl
-oneIf-and false b = refl
-
 pub oneIf-choice : (b : Bool) → (if b then 1 else 0) ≡ oneIf b
 unfolding oneIf
 oneIf-choice true = refl
 oneIf-choice false = refl
-
--- a test that counts only where another passes
-pub choice-oneIf : (a b : Bool) → (if a then oneIf b else 0) ≡ oneIf (a && b)
-unfolding oneIf
-choice-oneIf true b = refl
-choice-oneIf false b = refl

@@ -1,18 +1,16 @@
 -- One pass over the first k entries of a list, with a state: the shape of a loop that changes an array from the front. The loop's invariant says what is LEFT,
 -- `take i l ++ pass new next (k - i) s (drop i l)`; `pass-turn` is a turn, `pass-done` and `pass-all` are the ends, and `pass-map`, `pass-first` and
 -- `pass-fill` say what a pass is by its kind. Assumes nothing.
-use Prim.Native.Nat.{ℕ, zero, suc, _+_, _-_, _≤_, _<_, min}
+use Prim.Native.Nat.{ℕ, zero, suc, _+_, _-_, _≤_, _<_}
 use mathlib.Core.Path.{_≡_, refl, ap, sym, _∙_}
 use mathlib.Core.List.{List, [], _∷_, _++_, map}
 use mathlib.Core.Bool.{Bool, true, false, cond}
-use mathlib.Core.Logic.{⊎-elim}
-use lib.ListN.{length-drop, length-map, length, getD, take, drop, set, replicate, take-append-drop, drop-of-length-le}
-use lib.Seq.{take-all, drop-drop, drop-cons, drop-set-lt, take-suc-set, append-snoc}
+use lib.ListN.{length-drop, length-map, length, getD, take, drop, set, replicate, take-append-drop}
+use lib.Seq.{drop-drop, drop-cons, drop-set-lt, take-suc-set, append-snoc}
 use native.Mathlib.Numerals.{add-one}
 use native.Mathlib.Omega.{arith}
-use native.Mathlib.Nat.{not-suc-le-zero, le-of-suc-le-suc, le-of-lt, min-eq-left, min-eq-right}
+use native.Mathlib.Nat.{not-suc-le-zero, le-of-suc-le-suc}
 use Rattle.lists.specs.Lists.{changeFirst}
-use Rattle.lists.proofs.Bools.{lt-or-le}
 
 -- the list with each of its first k elements x replaced by `new s x`, the state s going on by `next s x`
 abbrev pub pass : {A S : Type 0} → (S → A → A) → (S → A → S) → ℕ → S → List A → List A
@@ -23,10 +21,6 @@ pass new next (suc k) s (x ∷ xs) = new s x ∷ pass new next k (next s x) xs
 -- ---- laws
 
 module _ {A S : Type 0} (new : S → A → A) (next : S → A → S) where
-  pub pass-nil : (k : ℕ) (s : S) → pass new next k s [] ≡ []
-  pass-nil zero s = refl
-  pass-nil (suc k) s = refl
-
   -- one turn of the loop at index i: the element is replaced, the state goes on
   pub pass-turn :
       (k i : ℕ) (s : S) (l : List A) (d : A) → i < k → i < length l →
@@ -36,12 +30,6 @@ module _ {A S : Type 0} (new : S → A → A) (next : S → A → S) where
       let e : k - i ≡ suc (k - (i + 1)) = omega arith in
       let h : i < suc i = omega arith in
       rw (e, drop-cons l i d, add-one, take-suc-set, drop-set-lt, append-snoc)
-
-  -- the loop's end: k elements are done, or all
-  pub pass-done : (k i : ℕ) (s : S) (l : List A) → k ≤ i → take i l ++ pass new next (k - i) s (drop i l) ≡ l
-  pass-done k i s l h =
-      let e : k - i ≡ 0 = omega arith in
-      rw e (take-append-drop i l)
 
 -- ---- what a pass is, by its kind
 
@@ -82,18 +70,6 @@ module _ {A : Type 0} (p : A → Bool) (f : A → A) where
           ≡ elim b [ true ↦ f x ∷ changeFirst p f n (take k xs) | false ↦ x ∷ changeFirst p f (suc n) (take k xs) ] ++ drop k xs
       by-test true h1 h2 = ap (λ (r : List A). f x ∷ r) h1
       by-test false h1 h2 = ap (λ (r : List A). x ∷ r) h2
-
-  -- a step while some are left, as code says it
-  pub first-new : (n : ℕ) (x : A) → (n ≡ 0 → ⊥) → firstNew p f n x ≡ cond (p x) (f x) x
-  first-new zero x h = absurd (h refl)
-  first-new (suc n) x h = refl
-
-  pub first-next : (n : ℕ) (x : A) → (n ≡ 0 → ⊥) → firstNext p n x ≡ cond (p x) (n - 1) n
-  first-next zero x h = absurd (h refl)
-  first-next (suc n) x h = rw (succ-sub-one n)
-    where
-      succ-sub-one : (m : ℕ) → suc m - 1 ≡ m
-      succ-sub-one m = omega arith
 
 -- a pass that writes one value at each of the first k
 pub pass-fill :
@@ -139,18 +115,3 @@ take-changed {A} (suc n) (x ∷ l) (y ∷ m) e = ap (λ (r : List A). y ∷ r) (
   where
     fewer : (j k : ℕ) → suc j ≡ suc k → j ≡ k
     fewer j k h = omega arith
-
--- a loop that stops at the list's length, n, where k is larger
-pub take-min : {A : Type 0} (k n : ℕ) (l : List A) → length l ≡ n → take (min k n) l ≡ take k l
-take-min k n l e =
-    ⊎-elim
-    (λ h. rw (min-eq-left {n = k} {m = n} (le-of-lt h)))
-    (λ h. rw (min-eq-right {n = n} {m = k} h, take-all n l (omega arith), take-all k l (omega arith)))
-    (lt-or-le k n)
-
-pub drop-min : {A : Type 0} (k n : ℕ) (l : List A) → length l ≡ n → drop (min k n) l ≡ drop k l
-drop-min k n l e =
-    ⊎-elim
-    (λ h. rw (min-eq-left {n = k} {m = n} (le-of-lt h)))
-    (λ h. rw (min-eq-right {n = n} {m = k} h, drop-of-length-le l {i = n} (omega arith), drop-of-length-le l {i = k} (omega arith)))
-    (lt-or-le k n)

@@ -70,14 +70,8 @@ group-3 a b c d z = simp append-assoc
 group-4 : (a b c d e z : List ℕ) → a ++ (b ++ (c ++ (d ++ (e ++ z)))) ≡ ((((a ++ b) ++ c) ++ d) ++ e) ++ z
 group-4 a b c d e z = simp append-assoc
 
-group-5 : (a b c d e f z : List ℕ) → a ++ (b ++ (c ++ (d ++ (e ++ (f ++ z))))) ≡ (((((a ++ b) ++ c) ++ d) ++ e) ++ f) ++ z
-group-5 a b c d e f z = simp append-assoc
-
 group-6 : (a b c d e f g z : List ℕ) → a ++ (b ++ (c ++ (d ++ (e ++ (f ++ (g ++ z)))))) ≡ ((((((a ++ b) ++ c) ++ d) ++ e) ++ f) ++ g) ++ z
 group-6 a b c d e f g z = simp append-assoc
-
-group-7 : (a b c d e f g h z : List ℕ) → a ++ (b ++ (c ++ (d ++ (e ++ (f ++ (g ++ (h ++ z))))))) ≡ (((((((a ++ b) ++ c) ++ d) ++ e) ++ f) ++ g) ++ h) ++ z
-group-7 a b c d e f g h z = simp append-assoc
 
 group-8 : (a b c d e f g h i z : List ℕ) → a ++ (b ++ (c ++ (d ++ (e ++ (f ++ (g ++ (h ++ (i ++ z)))))))) ≡ ((((((((a ++ b) ++ c) ++ d) ++ e) ++ f) ++ g) ++ h) ++ i) ++ z
 group-8 a b c d e f g h i z = simp append-assoc

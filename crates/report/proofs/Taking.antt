@@ -81,11 +81,6 @@ startFrom : ℕ → List ℕ → ℕ → ℕ
 startFrom at ends zero = at
 startFrom at ends (suc k) = getD ends k 0
 
-start-is : (ends : List ℕ) (k : ℕ) → startFrom 0 ends k ≡ startOf ends k
-unfolding startFrom
-start-is ends zero = refl
-start-is ends (suc k) = refl
-
 start-next : (at end : ℕ) (ends : List ℕ) (j : ℕ) → startFrom at (end ∷ ends) (suc j) ≡ startFrom end ends j
 unfolding startFrom
 start-next at end ends zero = refl

@@ -10,7 +10,7 @@ use native.Mathlib.Omega.{arith}
 use lib.Dec.{leb, ltb, eqb}
 use lib.ListN.{getD}
 use borrow.Author.Tests.{leb-true, leb-false, ltb-true, lt-ltb, le-ltb, le-leb, lt-leb, eq-eqb, ne-eqb, eqb-true}
-use Rattle.lists.proofs.Bools.{order-of, leb-same, lt-or-le, cases, by-test, and-left, and-right}
+use Rattle.lists.proofs.Bools.{order-of, leb-same, lt-or-le, cases, and-left, and-right}
 use Rattle.auction.specs.Price.{negative}
 use Rattle.machine.specs.Roll.{UnitState, Open, Sold, Allocated, Moved, Torn, Entry, Bid, noBid, kind, priceOf}
 use Rattle.machine.specs.Move.{mayMove, turn, later}
@@ -68,15 +68,6 @@ sold-low p b h = cases (negative p) _ (λ e. e) (λ e. absurd (omega (arith, leb
 
 pub allocated-low : (p j m : ℕ) → allocatedKey p j m < noKey → negative p ≡ true
 allocated-low p j m h = cases (negative p) _ (λ e. e) (λ e. absurd (omega (arith, leb-true noKey (allocatedKey p j m) (allocated-may p j m ∙ ap not e))))
-
--- never above `noKey`
-pub sold-top : (p b : ℕ) → soldKey p b ≤ noKey
-unfolding soldKey
-sold-top p b = by-test (λ k. k ≤ noKey) (negative p) (λ t. omega (arith, under p t)) (λ t. omega arith)
-
-pub allocated-top : (p j m : ℕ) → allocatedKey p j m ≤ noKey
-unfolding allocatedKey
-allocated-top p j m = by-test (λ k. k ≤ noKey) (negative p) (λ t. omega (arith, under p t)) (λ t. omega arith)
 
 -- by price and later bid
 sold-order : (p q b c : ℕ) → negative p ≡ true → negative q ≡ true
