@@ -7,7 +7,7 @@ use lib.ListN.{length, set, length-append}
 use lib.Seq.{sets, length-sets}
 use Rattle.lines.specs.Placed.{Placed, placed}
 use Rattle.lines.proofs.Numbers.{placed-fits}
-use Rattle.lines.proofs.Stores.{sets-then, sets-earlier}
+use Rattle.lists.proofs.Stores.{sets-then, sets-earlier}
 use borrow.Author.Tests.{lt-leb, le-leb}
 use Rattle.lists.specs.Lists.{joined}
 use Rattle.forms.specs.Put.{Put, Written, putInto}

@@ -9,7 +9,7 @@ use lib.Seq.{sets, drop-cons, drop-length, getD-take, length-take-le}
 use borrow.Author.Tests.{le-leb, lt-leb}
 use Rattle.machine.specs.Printed.{Line, decimal, numbersText, text}
 use Rattle.lines.specs.Placed.{Placed, placed, lineText}
-use Rattle.lines.proofs.Stores.{sets-then}
+use Rattle.lists.proofs.Stores.{sets-then}
 
 -- the text of what is left from number i on
 abbrev pub textFrom : ℕ → List ℕ → ℕ → List ℕ

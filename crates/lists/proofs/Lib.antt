@@ -1,6 +1,7 @@
 pub mod Bools
 pub mod Sums
 pub mod Places
+pub mod Stores
 pub mod Keep
 pub mod Among
 pub mod Each

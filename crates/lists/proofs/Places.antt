@@ -6,7 +6,7 @@ use native.Mathlib.Nat.{zero-add, not-suc-le-zero, le-of-suc-le-suc}
 use native.Mathlib.Numerals.{add-one}
 use native.Mathlib.Omega.{arith}
 use lib.Dec.{eqb}
-use lib.ListN.{length, getD, set, take, replicate, length-set, List·getD-eq-default}
+use lib.ListN.{length, getD, set, take, drop, replicate, length-set, List·getD-eq-default}
 use lib.Seq.{append-snoc, take-suc, length-take-le, set-at, getD-set-same, getD-set-other, ext-getD}
 use borrow.Author.Count.{below-more}
 use borrow.Author.Tests.{eqb-true, eqb-false}
@@ -86,6 +86,30 @@ pub getD-same : {A : Type 0} (n i : ℕ) (a : A) → getD (replicate n a) i a �
 getD-same zero i a = refl
 getD-same (suc n) zero a = refl
 getD-same (suc n) (suc i) a = getD-same n i a
+
+-- a run of 0, cut
+pub take-zeros : (m n : ℕ) → n ≤ m → take {A = ℕ} n (replicate m 0) ≡ replicate n 0
+take-zeros m zero h = refl
+take-zeros zero (suc n) h = absurd (omega arith)
+take-zeros (suc m) (suc n) h = ap (λ (l : List ℕ). 0 ∷ l) (take-zeros m n (omega arith))
+
+pub drop-zeros : (m n : ℕ) → drop {A = ℕ} n (replicate m 0) ≡ replicate (m - n) 0
+drop-zeros m zero =
+    let e : m - 0 ≡ m = omega arith in
+    rw e
+drop-zeros zero (suc n) =
+    let e : 0 - suc n ≡ 0 = omega arith in
+    rw e
+drop-zeros (suc m) (suc n) =
+    let e : suc m - suc n ≡ m - n = omega arith in
+    rw e (drop-zeros m n)
+
+-- a run of 0 behind a list changes no place of it
+pub getD-zeros : (xs : List ℕ) (k j : ℕ) → getD (xs ++ replicate k 0) j 0 ≡ getD xs j 0
+getD-zeros [] k zero = getD-same k zero 0
+getD-zeros [] k (suc j) = getD-same k (suc j) 0
+getD-zeros (x ∷ xs) k zero = refl
+getD-zeros (x ∷ xs) k (suc j) = getD-zeros xs k j
 
 -- a loop that fills a list from the front: after the store at place i the places below i + 1 are filled
 pub filled-next : {A : Type 0} (f : ℕ → A) (d : A) (xs : List A) (i : ℕ) (v : A) → i < length xs → ((k : ℕ) → k < i → getD xs k d ≡ f k) → v ≡ f i

@@ -11,7 +11,7 @@ use Rattle.lists.proofs.Bools.{lt-or-le}
 use Rattle.lists.proofs.Places.{tab-ext}
 use Rattle.machine.specs.Printed.{Line, numbersText, text}
 use Rattle.lines.specs.Placed.{Placed, placed, lineText}
-use Rattle.lines.proofs.Stores.{sets-then}
+use Rattle.lists.proofs.Stores.{sets-then}
 use Rattle.lines.proofs.Numbers.{line-text, placed-fits, placed-not}
 use Rattle.report.specs.Texts.{placedLines}
 

@@ -15,7 +15,7 @@ use Rattle.lists.proofs.Each.{Each, each-at, each-take, each-drop}
 use Rattle.lists.proofs.Places.{tab-of}
 use Rattle.machine.specs.Printed.{Line, sLine, text}
 use Rattle.lines.specs.Placed.{Placed, lineText}
-use Rattle.lines.proofs.Stores.{sets-then}
+use Rattle.lists.proofs.Stores.{sets-then}
 use Rattle.case.specs.declared.Held.{Held}
 use Rattle.case.specs.declared.Front.{Front}
 use Rattle.case.specs.Cases.{applied}

@@ -8,7 +8,7 @@ use lib.ListN.{length, getD, set, take}
 use lib.Seq.{sets, take-suc, take-all, length-take-le}
 use Rattle.lines.specs.Placed.{Placed, placed}
 use Rattle.lines.proofs.Numbers.{placed-fits}
-use Rattle.lines.proofs.Stores.{sets-then}
+use Rattle.lists.proofs.Stores.{sets-then}
 
 -- one byte more
 pub copied-next : (t old out : List ℕ) (at i : ℕ) → i < length t → out ≡ sets old at (take i t)

@@ -8,7 +8,7 @@ use Rattle.machine.specs.Printed.{decimal}
 use lib.Seq.{sets}
 use borrow.Author.Needs.{needs}
 use Rattle.lines.proofs.Decimals.{Spelling, spelling-none, spelling-turn, spelling-done, spelling-some}
-use Rattle.lines.proofs.Stores.{sets-earlier}
+use Rattle.lists.proofs.Stores.{sets-earlier}
 use Rattle.lines.proofs.spell.Statement.{statement}
 use Rattle.lines.proofs.spell.Tie as tie
 

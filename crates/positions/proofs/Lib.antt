@@ -1,0 +1,11 @@
+pub mod Days
+pub mod Rows
+pub mod Taking
+pub mod Records
+pub mod Ends
+pub mod Window
+pub mod Reached
+pub mod Whole
+pub mod Parts
+pub mod Claims
+pub mod Examples

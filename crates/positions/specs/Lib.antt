@@ -1,0 +1,4 @@
+pub mod Days
+pub mod Keeping
+pub mod Claim
+pub mod Computing
