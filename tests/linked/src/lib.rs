@@ -1,7 +1,8 @@
-//! The proved functions of splitting, the auction and the ledger, as safe Rust, and random numbers for the tests.
+//! The proved functions of splitting, the auction, the ledger and the daily positions, as safe Rust, and random numbers for the tests.
 pub use model::BidRecord;
 
 pub mod ledger;
+pub mod positions;
 
 mod c {
     use model::BidRecord;
