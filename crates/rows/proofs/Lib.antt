@@ -1,1 +1,4 @@
 pub mod Scanning
+pub mod Examples
+pub mod RoundTrip
+pub mod Limits

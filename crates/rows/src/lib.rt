@@ -1,8 +1,7 @@
 // A line of whole numbers between commas, read in one pass: the positions of members on a day, a set of members, a number of units.
 ghost use mathlib.Core.Path.{_≡_};
 ghost use mathlib.Core.Bool.{cond};
-ghost use Prim.Native.Nat.{_+_, _-_, _*_, _≤_, _<_, min};
-ghost use lib.Dec.{ltb};
+ghost use Prim.Native.Nat.{_+_, _-_, _*_, _≤_, min};
 ghost use lib.ListN.{set};
 ghost use Rattle.rows.specs.Scans.{begin, withPhase, inNumber, stored, refused};
 ghost use Rattle.rows.specs.Reading.{strange, settle, grow, hasRoom, firstDigit, onDigit, onComma, ended, onMark, byteRead, behind, step, scan, finish, outcome, rowOf};

@@ -12,7 +12,7 @@ both-requires : tie.Need-both-requires
 both-requires c κs = search needs
 
 digit-of-requires : tie.Need-digit-of-requires
-digit-of-requires c κs = 
+digit-of-requires c κs =
     let t = sym (c .before .both .ensures) ∙ c .if1 .taken in
     let b = c .before .before .args .b in
     (leb-true 48 b (and-left (leb 48 b) (leb b 57) t), leb-true b 57 (and-right (leb 48 b) (leb b 57) t))

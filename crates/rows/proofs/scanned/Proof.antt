@@ -20,7 +20,7 @@ begun-requires : tie.Need-begun-requires Inv-loop μ-loop
 begun-requires c κs = search needs
 
 loop-holds : tie.Need-loop-holds Inv-loop μ-loop
-loop-holds c = 
+loop-holds c =
     let a = c .before .before .args in
     (ap (λ (s : Scan). scan (a .least) (a .most) (a .limit) s 0 (a .line .now)) (c .begun .ensures), search needs)
 
@@ -37,12 +37,12 @@ loop-less : tie.Need-loop-less Inv-loop μ-loop
 loop-less c = search needs
 
 loop-again : tie.Need-loop-again Inv-loop μ-loop
-loop-again c = 
+loop-again c =
     let l = c .before .before .before .loop in
     (rw (c .stepped .ensures) (scan-next _ _ _ (l .s) (l .i) _ (search needs) ∙ l .inv .0), search needs)
 
 returns : tie.Need-returns Inv-loop μ-loop
-returns c = 
+returns c =
     let l = c .before .loop in
     sym (scan-end _ _ _ (l .s) (l .i) _ (l .inv .1) (search needs)) ∙ l .inv .0
 
