@@ -1,10 +1,14 @@
-// A line of whole numbers between commas, read in one pass: the positions of members on a day, a set of members, a number of units.
+// A line of whole numbers between commas, read in one pass: the positions of members on a day, a set of members, a number of units; and the lines of a text
+// as records.
 ghost use mathlib.Core.Path.{_≡_};
 ghost use mathlib.Core.Bool.{cond};
 ghost use Prim.Native.Nat.{_+_, _-_, _*_, _≤_, min};
-ghost use lib.ListN.{set};
+ghost use lib.ListN.{length, take, set};
+ghost use Rattle.forms.specs.Put.{Put};
 ghost use Rattle.rows.specs.Scans.{begin, withPhase, inNumber, stored, refused};
 ghost use Rattle.rows.specs.Reading.{strange, settle, grow, hasRoom, firstDigit, onDigit, onComma, ended, onMark, byteRead, behind, step, scan, finish, outcome, rowOf};
+ghost use Rattle.rows.specs.Days.{tooLong, dayOf, fourEach, IsDay, NextDay, WritesDays};
+use text_lines::LONGEST;
 
 // What is known of a line while it is read.
 pub struct Scan {
@@ -23,6 +27,28 @@ pub struct Row {
     pub count: usize,
     pub numbers: [u32; 32],
 }
+
+// A line's bytes, and the numbers in it; no bytes where it is not to be taken.
+struct Day {
+    size: usize,
+    count: usize,
+    numbers: [u32; 32],
+}
+
+// How many lines were written, the bytes that they took, and the bytes of their records.
+pub struct Part {
+    pub count: usize,
+    pub used: usize,
+    pub written: usize,
+}
+
+// A position is at most this.
+const POSITION: u32 = 10_000_000;
+
+// The bytes that a record has at most.
+const RECORD: usize = 128;
+
+// ---- a line
 
 fn begun() -> Scan
     ensures { λ r. ⌜ r ≡ begin ⌝ }
@@ -309,4 +335,102 @@ pub fn read_row(line: &[u8], least: usize, most: usize, limit: u32) -> Row
     let s = scanned(line, least, most, limit);
     let t = finished(least, s, line.len());
     outcome_of(t)
+}
+
+// ---- the lines of a text
+
+fn too_long() -> Row
+    ensures { λ r. ⌜ r ≡ tooLong ⌝ }
+{
+    Row {
+        reason: 7,
+        at: LONGEST,
+        count: 0,
+        numbers: [0u32; 32],
+    }
+}
+
+// A line of so many positions, with or without its end; one that is too long is refused.
+pub fn read_day(n: usize, line: &[u8]) -> Row
+    ensures { λ r. ⌜ r ≡ dayOf n (now (line .entry)) ⌝ }
+{
+    let k = text_lines::length_to(line);
+    if LONGEST < k {
+        return too_long();
+    }
+    read_row(&line[0..k], n, n, POSITION)
+}
+
+// No line.
+fn no_day() -> Day
+    ensures { λ r. ⌜ (r .size ≡ 0) × (r .count ≡ 0) ⌝ }
+{
+    Day {
+        size: 0,
+        count: 0,
+        numbers: [0u32; 32],
+    }
+}
+
+// A line of so many bytes by what it is read as; one that is refused is not to be taken.
+fn day_of(size: usize, row: Row) -> Day
+    ensures { λ r. ⌜ IsDay size row r ⌝ }
+{
+    if row.reason != 0 {
+        return no_day();
+    }
+    let numbers = row.numbers;
+    Day {
+        size,
+        count: row.count,
+        numbers,
+    }
+}
+
+// The line at the front, with no bytes where it is refused or not all there, or its record has no room.
+fn next_day(last: bool, input: &[u8], n: usize, room: usize) -> Day
+    ensures { λ r. ⌜ NextDay n room last (now (input .entry)) r ⌝ }
+{
+    if room < RECORD {
+        return no_day();
+    }
+    let size = text_lines::line_size(last, input);
+    let row = read_day(n, &input[0..size]);
+    day_of(size, row)
+}
+
+// The first numbers, four bytes each, from a place on.
+fn put_numbers(out: &mut [u8], at: usize, count: usize, numbers: [u32; 32]) -> usize
+    requires { ⌜ (count ≤ 32) × (at + 128 ≤ length (now out)) ⌝ }
+    ensures { λ r. ⌜ Put (now (out .entry)) at (fourEach (take count numbers)) 128 r (now (out .exit)) ⌝ }
+{
+    let mut to = at;
+    let mut i: usize = 0;
+    while i < count {
+        to = forms::put_four(out, to, numbers[i]);
+        i += 1;
+    }
+    to
+}
+
+// The lines at the front of some bytes, up to the first that is refused or not all there and as many as there is room for, as records at the front of the buffer.
+pub fn take_lines(last: bool, input: &[u8], n: usize, out: &mut [u8]) -> Part
+    ensures { λ r. ⌜ WritesDays n last (now (input .entry)) (now (out .entry)) (now (out .exit)) r ⌝ }
+{
+    let mut count: usize = 0;
+    let mut used: usize = 0;
+    let mut to: usize = 0;
+    let mut day = next_day(last, input, n, out.len());
+    while day.size != 0 {
+        let numbers = day.numbers;
+        to = put_numbers(out, to, day.count, numbers);
+        used += day.size;
+        count += 1;
+        day = next_day(last, &input[used..], n, out.len() - to);
+    }
+    Part {
+        count,
+        used,
+        written: to,
+    }
 }
