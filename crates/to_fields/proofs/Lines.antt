@@ -1,17 +1,12 @@
--- The first line of a text: its end, its bytes, and what it is read as. Assumes nothing.
+-- The first line of a text: what it is read as. Assumes nothing.
 use mathlib.Core.Path.{_≡_, refl, sym, ap, ap₂, _∙_}
-use mathlib.Core.Bool.{Bool, true, false, false≢true}
-use mathlib.Core.Logic.{⊎-elim}
-use mathlib.Core.List.{List, [], _∷_}
-use Prim.Native.Nat.{ℕ, suc, _+_, _-_, _≤_, _<_}
-use native.Mathlib.Numerals.{add-one}
-use native.Mathlib.Omega.{arith}
-use lib.Dec.{eqb}
-use lib.ListN.{length, getD, take, drop, drop-of-length-le, length-take}
-use lib.Seq.{drop-cons}
-use borrow.Author.Tests.{lt-ltb, le-ltb, eq-eqb, ne-eqb, eqb-true, eqb-false}
+use mathlib.Core.Bool.{Bool, true, false≢true}
+use mathlib.Core.List.{List, []}
+use Prim.Native.Nat.{ℕ, _≤_, _<_}
+use lib.ListN.{take}
+use borrow.Author.Tests.{lt-ltb, le-ltb}
 use Rattle.lists.specs.Lists.{if_then_else_}
-use Rattle.lists.proofs.Bools.{cases, lt-or-le}
+use Rattle.lists.proofs.Bools.{cases}
 use Rattle.notation.specs.declared.Read.{Read}
 use Rattle.notation.specs.declared.Read.the-variants.{Nothing, Called, Refused}
 use Rattle.notation.specs.Reading.{readLine, askedBy, isRefused}
@@ -22,8 +17,10 @@ use Rattle.forms.specs.Forms.{formOf}
 use Rattle.forms.specs.Encode.{encodeForm}
 use Rattle.to_fields.specs.declared.Line.{Line}
 use Rattle.to_fields.specs.Computing.{computing}
-use Rattle.to_fields.specs.Lines.{lengthTo, lineSize, lineRead, fieldOf, lineField, goodSize}
-use Rattle.to_fields.specs.Turns.{sizeWithin, NoCall, IsLine, NextLine}
+use Rattle.text_lines.specs.Lines.{lengthTo, lineSize, goodSize as goodBy}
+use Rattle.text_lines.proofs.Taking.{size-small, size-there}
+use Rattle.to_fields.specs.Lines.{lineRead, fieldOf, lineField, goodSize}
+use Rattle.to_fields.specs.Turns.{NoCall, IsLine, NextLine}
 
 -- ---- what a line is read as
 
@@ -71,23 +68,22 @@ is-call size read call e = record { size = rw e refl; field = rw e refl }
 
 -- no room
 pub next-none : (room : ℕ) (last : Bool) (s : List ℕ) (r : Line) → room < 64 → NoCall 0 r → NextLine room last s r
-unfolding sizeWithin
 next-none room last s r h n =
     record {
-      size = rw (lt-ltb room 64 h) (n .size);
+      size = n .size ∙ sym (size-small 64 room (goodSize last) s h);
       field = n .field ∙ sym (ap (λ (k : ℕ). lineField (take k s)) (n .size) ∙ empty-field);
     }
 
 pub next-is : (room : ℕ) (last : Bool) (s part : List ℕ) (size : ℕ) (read : Read) (r : Line) → 64 ≤ room → size ≡ lineSize last s → part ≡ take size s
     → read ≡ lineRead part → IsLine size read r → NextLine room last s r
-unfolding sizeWithin goodSize
+unfolding goodBy
 next-is room last s part size read r h is lends e l =
     let same : read ≡ lineRead (take (lineSize last s) s) = e ∙ ap lineRead (lends ∙ ap (λ (n : ℕ). take n s) is) in
     record {
       size =
           l .size
           ∙ ap₂ (λ (x : Read) (n : ℕ). if isRefused x then 0 else n) same is
-          ∙ sym (ap (λ (b : Bool). if b then 0 else goodSize last s) (le-ltb room 64 h));
+          ∙ sym (size-there 64 room (goodSize last) s h);
       field =
           l .field
           ∙ cases (isRefused read) (fieldOf read ≡ lineField (take (r .size) s))

@@ -23,7 +23,7 @@ part-read-day-start : tie.Need-part-read-day-start
 part-read-day-start c = search needs
 
 part-read-day-end : tie.Need-part-read-day-end
-part-read-day-end c = 
+part-read-day-end c =
     omega (arith, size-most (c .before .before .before .args .last) (c .before .before .before .args .input .now), c .line-size .ensures)
 
 read-day-requires : tie.Need-read-day-requires
@@ -33,7 +33,7 @@ day-of-requires : tie.Need-day-of-requires
 day-of-requires c κs = search needs
 
 returns-2 : tie.Need-returns-2
-returns-2 c = 
+returns-2 c =
     next-is _ _ _ _ _ _ _ _ (c .before .before .before .before .if1 .left) (c .before .before .before .line-size .ensures) (lent (c .before .before .before .line-size .result) (c .before .before .before .before .before .before .args .input .now)) (c .before .read-day .ensures) (c .day-of .ensures)
 
 pub next-day-spec : {M : Type 1} → statement M

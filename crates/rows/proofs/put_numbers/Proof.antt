@@ -10,7 +10,7 @@ use Rattle.rows.proofs.put_numbers.Statement.{statement}
 use Rattle.rows.proofs.put_numbers.Tie as tie
 
 abbrev Inv-loop : tie.InvT-loop
-Inv-loop out₀ at count numbers to₀ i₀ out to i = 
+Inv-loop out₀ at count numbers to₀ i₀ out to i =
     Putting out₀ at (fourEach (take count numbers)) (fourEach (drop i (take count numbers))) (i * 4) to out × (i ≤ count) × (count ≤ 32) × (at + 128 ≤ length out₀)
 
 abbrev μ-loop : tie.MeasureT-loop
@@ -26,7 +26,7 @@ array-read-put-four : tie.Need-array-read-put-four Inv-loop μ-loop
 array-read-put-four c = search needs
 
 put-four-requires : tie.Need-put-four-requires Inv-loop μ-loop
-put-four-requires c κs = 
+put-four-requires c κs =
     let l = c .before .before .loop .inv in
     omega (arith, l .0 .put .behind, l .0 .put .short, l .0 .put .same, l .1, l .2, l .3)
 
@@ -37,7 +37,7 @@ loop-less : tie.Need-loop-less Inv-loop μ-loop
 loop-less c = search needs
 
 loop-again : tie.Need-loop-again Inv-loop μ-loop
-loop-again c = 
+loop-again c =
     let l = c .before .before .before .before .before .loop in
     let a = c .before .before .before .before .before .before .before .args in
     let e = four-next (a .count) (a .t4) (search needs) (l .i) (search needs) in
@@ -47,7 +47,7 @@ same-length : tie.Need-same-length Inv-loop μ-loop
 same-length c = c .before .loop .inv .0 .put .same
 
 returns : tie.Need-returns Inv-loop μ-loop
-returns c = 
+returns c =
     let l = c .before .loop in
     let a = c .before .before .before .args in
     putting-end 128 (omega (arith, l .inv .1, l .inv .2)) (four-none (a .count) (a .t4) (search needs) (l .i) (l .inv .1) (omega arith)) (l .inv .0)

@@ -29,7 +29,7 @@ read-row-requires : tie.Need-read-row-requires
 read-row-requires c κs = search needs
 
 returns-2 : tie.Need-returns-2
-returns-2 c = 
+returns-2 c =
     day-there _ _ _ (c .before .before .before .length-to .ensures) _ _ (c .before .before .if1 .left) (lent (c .before .before .before .length-to .result) (c .before .before .before .before .before .args .line .now)) (c .read-row .ensures)
 
 pub read-day-spec : {M : Type 1} → statement M
