@@ -1,16 +1,17 @@
 -- A line of a text as its record, and lines taken one by one. Assumes nothing.
 use mathlib.Core.Path.{_≡_, refl, sym, ap, ap₂, _∙_}
-use mathlib.Core.Bool.{Bool, not}
+use mathlib.Core.Bool.{Bool, false, not, false≢true}
+use mathlib.Core.Logic.{_⊎_, inl, inr, ⊎-elim}
 use mathlib.Core.List.{List, [], _∷_, _++_}
-use Prim.Native.Nat.{ℕ, suc, _+_, _-_, _≤_, _<_}
+use Prim.Native.Nat.{ℕ, suc, _+_, _-_, _*_, _≤_, _<_}
 use native.Mathlib.Numerals.{add-one}
 use native.Mathlib.Omega.{arith}
 use lib.Dec.{eqb, ltb}
-use lib.ListN.{length, getD, take, drop}
+use lib.ListN.{length, getD, take, drop, length-take}
 use lib.Seq.{drop-cons, drop-length, getD-take, length-take-le}
-use borrow.Author.Tests.{lt-ltb, le-ltb, eq-eqb, ne-eqb}
+use borrow.Author.Tests.{lt-ltb, le-ltb, eq-eqb, ne-eqb, eqb-true, not-false}
 use Rattle.lists.specs.Lists.{if_then_else_}
-use Rattle.lists.proofs.Bools.{cases, either}
+use Rattle.lists.proofs.Bools.{cases, either, by-test}
 use Rattle.forms.specs.Encode.{bytesOf}
 use Rattle.forms.specs.Put.{Put}
 use Rattle.forms.proofs.Puts.{put-as}
@@ -116,6 +117,28 @@ module _ (count : ℕ) (xs : List ℕ) (inside : count ≤ length xs) where
   four-none i le ge =
       let k : length (take count xs) ≡ i = length-take-le count xs inside ∙ omega arith in
       ap (λ (j : ℕ). fourEach (drop j (take count xs))) (sym k) ∙ ap fourEach (drop-length (take count xs))
+
+-- ---- the size of a record
+
+four-size : (ns : List ℕ) → length (fourEach ns) ≡ 4 * length ns
+unfolding fourEach bytesOf
+four-size [] = omega arith
+four-size (n ∷ ns) = omega (arith, four-size ns)
+
+-- a line that is not refused is nothing, or has four bytes for each of n numbers
+pub record-size : (n : ℕ) (line : List ℕ) → refusedDay n line ≡ false → (recordOf n line ≡ []) ⊎ (length (recordOf n line) ≡ 4 * n)
+unfolding recordOf refusedDay dayOf
+record-size n line =
+    by-test (λ (r : Row). not (eqb (r .reason) 0) ≡ false → (fourEach (take (r .count) (r .numbers)) ≡ []) ⊎ (length (fourEach (take (r .count) (r .numbers))) ≡ 4 * n))
+    (ltb 65536 (lengthTo line))
+    (λ _ e. absurd (false≢true (sym e)))
+    (λ _ e.
+    let row = rowOf n n 10000000 (take (lengthTo line) line) in
+    let w = row-within n n 10000000 (take (lengthTo line) line) in
+    ⊎-elim
+    (λ z. inl (ap (λ (k : ℕ). fourEach (take k (row .numbers))) z ∙ no-bytes))
+    (λ l. inr (four-size (take (row .count) (row .numbers)) ∙ omega (arith, length-take (row .count) (row .numbers), w .few, w .long)))
+    (w .whole (eqb-true (row .reason) 0 (not-false (eqb (row .reason) 0) e))))
 
 -- ---- lines taken one by one
 

@@ -1,11 +1,14 @@
 -- Lines and what they are read as, with from 2 to 3 numbers, each at most 10,000,000, computed. Assumes nothing.
 use mathlib.Core.Path.{_≡_, refl}
+use mathlib.Core.Bool.{true, false}
 use mathlib.Core.List.{List, [], _∷_}
 use Prim.Native.Nat.{ℕ}
 use lib.ListN.{take}
+use Rattle.input.specs.Pieces.{pieces}
 use Rattle.machine.proofs.Examples.{Example, _says_, AllHold}
 use Rattle.rows.specs.declared.Row.{Row}
 use Rattle.rows.specs.Reading.{rowOf, rowText}
+use Rattle.rows.specs.Days.{recordOf, daySize}
 use Rattle.rows.specs.Computing.{computing}
 
 -- the reason, the place and the numbers
@@ -72,3 +75,15 @@ units-read = refl
 pub units-refused : seen (rowOf 1 1 1000000 (52 ∷ 48 ∷ 44 ∷ 49 ∷ [])) ≡ 4 ∷ 2 ∷ []
 unfolding computing
 units-refused = refl
+
+-- ---- records
+
+-- a line of two positions, its end with it; a comment; a line that is refused
+pub records : (recordOf 2 (49 ∷ 44 ∷ 51 ∷ 48 ∷ 48 ∷ 13 ∷ 10 ∷ []) ≡ 0 ∷ 0 ∷ 0 ∷ 1 ∷ 0 ∷ 0 ∷ 1 ∷ 44 ∷ []) × (recordOf 2 (35 ∷ 32 ∷ 49 ∷ 44 ∷ 50 ∷ 10 ∷ []) ≡ []) × (recordOf 2 (49 ∷ 44 ∷ 50 ∷ 44 ∷ 51 ∷ 10 ∷ []) ≡ [])
+unfolding computing
+records = (refl, refl, refl)
+
+-- of a text whose second line is refused only the first line is taken, and of one that ends in the first line that line if it is the last
+pub taken : (pieces (daySize 1 false) 9 (55 ∷ 10 ∷ 56 ∷ 44 ∷ 10 ∷ 57 ∷ 10 ∷ []) ≡ (55 ∷ 10 ∷ []) ∷ []) × (pieces (daySize 1 false) 9 (55 ∷ []) ≡ []) × (pieces (daySize 1 true) 9 (55 ∷ []) ≡ (55 ∷ []) ∷ [])
+unfolding computing
+taken = (refl, refl, refl)

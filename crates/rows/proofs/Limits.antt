@@ -1,12 +1,12 @@
 -- What is read is in the limits that were asked for. Assumes nothing.
-use mathlib.Core.Path.{_≡_, refl}
+use mathlib.Core.Path.{_≡_, refl, _∙_}
 use mathlib.Core.Bool.{_&&_, _||_}
 use mathlib.Core.Logic.{_⊎_, inl, inr, ⊎-elim}
 use mathlib.Core.List.{List, [], _∷_}
 use Prim.Native.Nat.{ℕ, suc, _+_, _-_, _*_, _≤_, _<_, min}
 use native.Mathlib.Omega.{arith}
 use lib.Dec.{eqb, leb, ltb}
-use lib.ListN.{length}
+use lib.ListN.{length, length-set, length-replicate}
 use borrow.Author.Tests.{leb-true, ltb-true, eqb-true, eqb-false}
 use Rattle.lists.specs.Lists.{between, Each}
 use Rattle.lists.proofs.Bools.{either, by-test, and-left, and-right, or-cases}
@@ -27,12 +27,13 @@ module _ (least most limit : ℕ) where
     pub room : s .phase ≡ 2 → s .count < min most 32
     pub small : s .value ≤ limit
     pub each : Each (λ n. n ≤ limit) (s .numbers)
+    pub long : length (s .numbers) ≡ 32
     pub none : s .phase ≡ 0 → s .count ≡ 0
     pub whole : 4 ≤ s .phase → (s .phase ≡ 6) ⊎ Whole (s .count)
 
   refused-kept : (s : Scan) (at reason : ℕ) → Kept s → Kept (refused s at reason)
   refused-kept s at reason k =
-      record { few = k .few; room = λ e. absurd (omega arith); small = k .small; each = k .each; none = λ e. absurd (omega arith); whole = λ h. inl refl }
+      record { few = k .few; room = λ e. absurd (omega arith); small = k .small; each = k .each; long = k .long; none = λ e. absurd (omega arith); whole = λ h. inl refl }
 
   strange-kept : (s : Scan) (at : ℕ) → Kept s → Kept (strange s at)
   unfolding strange
@@ -48,6 +49,7 @@ module _ (least most limit : ℕ) where
         room = λ e. absurd (omega arith);
         small = k .small;
         each = each-set (λ n. n ≤ limit) (s .numbers) (s .count) (s .value) (k .small) (k .each);
+        long = length-set (s .numbers) (s .count) (s .value) ∙ k .long;
         none = λ e. absurd (omega arith);
         whole = λ h. absurd (omega arith);
       })
@@ -58,7 +60,7 @@ module _ (least most limit : ℕ) where
   grow-kept s at v h k =
       by-test Kept (leb v limit)
       (λ e.
-      record { few = k .few; room = λ z. h; small = leb-true v limit e; each = k .each; none = λ z. absurd (omega arith); whole = λ z. absurd (omega arith) })
+      record { few = k .few; room = λ z. h; small = leb-true v limit e; each = k .each; long = k .long; none = λ z. absurd (omega arith); whole = λ z. absurd (omega arith) })
       (λ e. refused-kept s at 3 k)
 
   first-kept : (s : Scan) (d at : ℕ) → Kept s → Kept (firstDigit most limit s d at)
@@ -77,13 +79,13 @@ module _ (least most limit : ℕ) where
   comma-kept s at k =
       by-test Kept (eqb (s .phase) 3)
       (λ e.
-      record { few = k .few; room = λ z. absurd (omega arith); small = k .small; each = k .each; none = λ z. absurd (omega arith); whole = λ z. absurd (omega arith) })
+      record { few = k .few; room = λ z. absurd (omega arith); small = k .small; each = k .each; long = k .long; none = λ z. absurd (omega arith); whole = λ z. absurd (omega arith) })
       (λ e. strange-kept s at k)
 
   -- a comment or the line's end
   close-kept : (s : Scan) (p at : ℕ) → 4 ≤ p → Whole (s .count) → Kept s → Kept (withPhase s p at)
   close-kept s p at l w k =
-      record { few = k .few; room = λ z. absurd (omega arith); small = k .small; each = k .each; none = λ z. absurd (omega arith); whole = λ z. inr w }
+      record { few = k .few; room = λ z. absurd (omega arith); small = k .small; each = k .each; long = k .long; none = λ z. absurd (omega arith); whole = λ z. inr w }
 
   ended-kept : (s : Scan) (at : ℕ) → Kept s → Kept (ended least s at)
   unfolding ended
@@ -137,6 +139,7 @@ module _ (least most limit : ℕ) where
         room = λ e. absurd (omega arith);
         small = omega arith;
         each = each-replicate (λ n. n ≤ limit) 32 0 (omega arith);
+        long = length-replicate {A = ℕ} 32 0;
         none = λ e. refl;
         whole = λ h. absurd (omega arith);
       }
@@ -145,6 +148,7 @@ module _ (least most limit : ℕ) where
   pub record Within (r : Row) : Type 0 where
     pub few : r .count ≤ min most 32
     pub each : Each (λ n. n ≤ limit) (r .numbers)
+    pub long : length (r .numbers) ≡ 32
     pub whole : r .reason ≡ 0 → Whole (r .count)
 
   finish-kept : (s : Scan) (at : ℕ) → Kept s → Kept (finish least s at)
@@ -162,8 +166,8 @@ module _ (least most limit : ℕ) where
   unfolding outcome
   outcome-within s l k =
       by-test Within (eqb (s .phase) 6)
-      (λ e. record { few = omega arith; each = each-replicate (λ n. n ≤ limit) 32 0 (omega arith); whole = λ _. inl refl })
-      (λ e. record { few = k .few; each = k .each; whole = λ _. ⊎-elim (λ f. absurd (eqb-false (s .phase) 6 e f)) (λ w. w) (k .whole l) })
+      (λ e. record { few = omega arith; each = each-replicate (λ n. n ≤ limit) 32 0 (omega arith); long = length-replicate {A = ℕ} 32 0; whole = λ _. inl refl })
+      (λ e. record { few = k .few; each = k .each; long = k .long; whole = λ _. ⊎-elim (λ f. absurd (eqb-false (s .phase) 6 e f)) (λ w. w) (k .whole l) })
 
   pub row-within : (line : List ℕ) → Within (rowOf least most limit line)
   unfolding rowOf

@@ -11,13 +11,13 @@ ghost use Rattle.rows.specs.Days.{tooLong, dayOf, fourEach, IsDay, NextD
 use text_lines::LONGEST;
 
 // What is known of a line while it is read.
-pub struct Scan {
-    pub phase: u8,
-    pub start: usize,
-    pub value: u32,
-    pub count: usize,
-    pub numbers: [u32; 32],
-    pub reason: u8,
+struct Scan {
+    phase: u8,
+    start: usize,
+    value: u32,
+    count: usize,
+    numbers: [u32; 32],
+    reason: u8,
 }
 
 // What a line is: its numbers; nothing, where it has none and is empty or a comment; or refused, at a place counted from 0, for a reason that is not 0.
