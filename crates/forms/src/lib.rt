@@ -195,7 +195,8 @@ fn put_two(out: &mut [u8], at: usize, n: u32) -> usize
     put(out, a, low(n))
 }
 
-fn put_four(out: &mut [u8], at: usize, n: u32) -> usize
+// A number in four bytes, from a place on.
+pub fn put_four(out: &mut [u8], at: usize, n: u32) -> usize
     requires { ⌜ at + 4 ≤ length (now out) ⌝ }
     ensures { λ r. ⌜ Put (now (out .entry)) at (bytesOf 4 n) 4 r (now (out .exit)) ⌝ }
 {

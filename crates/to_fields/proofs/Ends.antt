@@ -14,12 +14,12 @@ use Rattle.input.proofs.Pieces.{fields-chunk}
 use Rattle.forms.specs.Put.{Put}
 use Rattle.forms.proofs.Puts.{put-then, put-placed, joined-map-two}
 use Rattle.translation.proofs.Writing.{put-front}
+use Rattle.text_lines.proofs.Parts.{lines-all, lines-good}
 use Rattle.to_fields.specs.declared.Part.{Part}
 use Rattle.to_fields.specs.declared.Ending.{Ending}
-use Rattle.to_fields.specs.Lines.{lineField, fieldsOf, goodSize, goodLines, rest}
+use Rattle.to_fields.specs.Lines.{lineField, refusedLine, fieldsOf, goodSize, goodLines, rest}
 use Rattle.to_fields.specs.Turns.{WritesLines, FedTo, CutOff, Finishes, Ends}
 use Rattle.to_fields.proofs.Sizes.{good-most}
-use Rattle.to_fields.proofs.Parts.{lines-all, lines-good}
 
 -- ---- a field that is cut off
 
@@ -85,11 +85,11 @@ ends buf kept out lines len r f lends end =
     record {
       parts = f .parts;
       bytes = f .bytes;
-      all = λ e. lines-good text (all e);
+      all = λ e. lines-good refusedLine text (all e);
       last = λ e.
           ap (λ (x : List ℕ). fieldsOf (goodLines text) ++ x) (end .last e ∙ ap (λ (s : List ℕ). fieldsOf (allPieces (goodSize true) s)) is)
           ∙ sym (joined-map-two lineField (goodLines text) (allPieces (goodSize true) (rest text)))
-          ∙ ap fieldsOf (sym (lines-all text (all e)));
+          ∙ ap fieldsOf (sym (lines-all refusedLine text (all e)));
       cut = λ e g. end .cut e;
       fits = end .fits;
     }

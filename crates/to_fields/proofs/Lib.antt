@@ -1,5 +1,4 @@
 pub mod Lines
 pub mod Sizes
-pub mod Parts
 pub mod Turning
 pub mod Ends

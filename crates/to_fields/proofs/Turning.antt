@@ -13,13 +13,14 @@ use Rattle.feed.specs.Feeds.{Slides}
 use Rattle.feed.proofs.Turning.{fed-turn as turn-fed}
 use Rattle.translation.proofs.Writing.{part-within, part-some, part-goes, part-ends}
 use Rattle.translation.proofs.Turning.{turn-keeps, fed-first}
+use Rattle.text_lines.specs.Lines.{lineSize}
+use Rattle.text_lines.proofs.Parts.{lines-apart, rest-then, rest-short}
 use Rattle.to_fields.specs.declared.Part.{Part}
 use Rattle.to_fields.specs.declared.Wrote.{Wrote}
 use Rattle.to_fields.specs.declared.Turn.{Turn}
-use Rattle.to_fields.specs.Lines.{lineSize, lineField, goodSize, goodLines, rest}
+use Rattle.to_fields.specs.Lines.{lineField, refusedLine, goodSize, goodLines, rest}
 use Rattle.to_fields.specs.Turns.{WritesLines, stopsAt, WritesAllLines, TakesTurn, Counts, FedTo}
 use Rattle.to_fields.proofs.Sizes.{good-most}
-use Rattle.to_fields.proofs.Parts.{lines-apart, rest-then, rest-short}
 
 -- ---- the lines of some bytes, part by part
 
@@ -94,11 +95,11 @@ module _ (buf next after : List ℕ) (lines len more : ℕ) (r : Turn) (f : FedT
     (small : (k : ℕ) → getD next k 0 < 256) (turn : TakesTurn lines (take (len + more) next) next after r) (good : r .failed ≡ false) where
   pub fed-turn : FedTo after (r .lines) (r .len)
   fed-turn =
-      turn-fed rest (λ s. Counts lines (length (goodLines s))) (λ s. Counts (r .lines) (length (goodLines s))) rest-then buf next after len more (r .len) f same small
+      turn-fed rest (λ s. Counts lines (length (goodLines s))) (λ s. Counts (r .lines) (length (goodLines s))) (rest-then refusedLine) buf next after len more (r .len) f same small
       (turn .keeps good)
       (λ s t was e.
       let all : length (goodLines (s ++ t)) ≡ length (goodLines s) + length (goodLines (take (len + more) next)) =
-      ap length (lines-apart s t) ∙ length-append (goodLines s) (goodLines (rest s ++ t))
+      ap length (lines-apart refusedLine s t) ∙ length-append (goodLines s) (goodLines (rest s ++ t))
       ∙ ap (λ (l : List ℕ). length (goodLines s) + length (goodLines l)) (sym e) in
       omega (arith, turn .lines good, was, all))
 
@@ -107,4 +108,4 @@ module _ (buf next after : List ℕ) (lines len more : ℕ) (r : Turn) (f : FedT
   turn-room on =
       let bytes = take (len + more) next in
       let none-there : lineSize false (rest bytes) ≡ 0 = eqb-true (lineSize false (rest bytes)) 0 (not-false _ (sym (turn .refused good) ∙ on)) in
-      omega (arith, turn .keeps good .len, rest-short bytes none-there)
+      omega (arith, turn .keeps good .len, rest-short refusedLine bytes none-there)

@@ -3,7 +3,7 @@ use mathlib.Core.Path.{_≡_}
 use mathlib.Core.Bool.{Bool, true, false, not}
 use mathlib.Core.List.{List, [], _∷_, _++_}
 use Prim.Native.Nat.{ℕ, _+_, _%_, _^_, _≤_, _<_}
-use lib.Dec.{eqb, ltb}
+use lib.Dec.{eqb}
 use lib.ListN.{length, take}
 use Rattle.lists.specs.Lists.{if_then_else_, joined, Bytes, Each}
 use Rattle.wire.specs.Asked.{asked}
@@ -20,11 +20,13 @@ use Rattle.to_fields.specs.declared.Wrote.{Wrote}
 use Rattle.to_fields.specs.declared.Turn.{Turn}
 use Rattle.to_fields.specs.declared.Rest.{Rest}
 use Rattle.to_fields.specs.declared.Ending.{Ending}
-use Rattle.to_fields.specs.Lines.{lineSize, fieldOf, lineField, fieldsOf, linesOf, refusedLine, goodSize, goodLines, rest}
+use Rattle.text_lines.specs.Lines as Lines
+use Rattle.text_lines.specs.Lines.{lineSize, linesOf}
+use Rattle.to_fields.specs.Lines.{fieldOf, lineField, fieldsOf, refusedLine, goodSize, goodLines, rest}
 
 -- the bytes of the first line, and 0 where it is refused or not all there, or a field has no room
-unfoldable pub sizeWithin : ℕ → Bool → List ℕ → ℕ
-sizeWithin room last s = if ltb room 64 then 0 else goodSize last s
+abbrev pub sizeWithin : ℕ → Bool → List ℕ → ℕ
+sizeWithin room last s = Lines.sizeWithin 64 room (goodSize last) s
 
 -- a line of so many bytes that asks for no call
 pub record NoCall (bytes : ℕ) (r : Line) : Type 0 where

@@ -8,11 +8,12 @@ ghost use mathlib.Core.Bool.{true, false};
 ghost use Prim.Native.Nat.{_+_, _%_, _^_, _≤_};
 ghost use lib.ListN.{length, take};
 ghost use Rattle.feed.specs.Feeds.{Reads};
-ghost use Rattle.to_fields.specs.Lines.{lengthTo, lineSize, lineRead};
+ghost use Rattle.to_fields.specs.Lines.{lineRead};
 ghost use Rattle.to_fields.specs.Turns.{NoCall, IsLine, NextLine, WritesLines, WritesAllLines, TakesTurn, TakesInput, CutOff, Finishes, Ends};
 use feed::Got;
 use libc::STDERR_FILENO;
 use notation::Read;
+use text_lines::LONGEST;
 use wire::Call;
 
 // A line's bytes, and the call that it asks for; no bytes where it is not to be taken.
@@ -59,47 +60,16 @@ struct Ending {
     len: usize,
 }
 
-// A line longer than this is refused.
-const LONGEST: usize = 65536;
-
 // The bytes that a field has at most.
 const FIELD: usize = 64;
 
 // ---- lines
 
-// The bytes before the first line end, and all where there is none.
-fn length_to(input: &[u8]) -> usize
-    ensures { λ r. ⌜ r ≡ lengthTo (now (input .entry)) ⌝ }
-{
-    let mut i: usize = 0;
-    while i < input.len() {
-        if input[i] == 10 {
-            return i;
-        }
-        i += 1;
-    }
-    i
-}
-
-// The bytes of the first line with its end, and 0 where it is not all there. Where the text ends here, a last line needs no end.
-fn line_size(last: bool, input: &[u8]) -> usize
-    ensures { λ r. ⌜ r ≡ lineSize last (now (input .entry)) ⌝ }
-{
-    let n = length_to(input);
-    if LONGEST < n {
-        return LONGEST + 1;
-    }
-    if n < input.len() {
-        return n + 1;
-    }
-    if last { n } else { 0 }
-}
-
 // A line as it is read; one that is too long is refused.
 fn read_piece(line: &[u8]) -> Read
     ensures { λ r. ⌜ r ≡ lineRead (now (line .entry)) ⌝ }
 {
-    let n = length_to(line);
+    let n = text_lines::length_to(line);
     if LONGEST < n {
         return Read::Refused {
             at: LONGEST,
@@ -144,7 +114,7 @@ fn next_line(last: bool, input: &[u8], room: usize) -> Line
     if room < FIELD {
         return no_call(0);
     }
-    let size = line_size(last, input);
+    let size = text_lines::line_size(last, input);
     let read = read_piece(&input[0..size]);
     line_of(size, read)
 }
@@ -203,7 +173,7 @@ fn write_all(first: u64, input: &[u8], out: &mut [u8]) -> Wrote
         let part = take_some(false, &input[used..], out);
         let count = part.count;
         if count == 0 {
-            let next = line_size(false, &input[used..]);
+            let next = text_lines::line_size(false, &input[used..]);
             return Wrote {
                 used,
                 lines,
@@ -342,7 +312,7 @@ fn refuse(last: bool, lines: u64, text: &[u8], out: &mut [u8]) -> usize
     requires { ⌜ 515 ≤ length (now out) ⌝ }
     ensures { λ r. ⌜ CutOff (now (out .exit)) r ⌝ }
 {
-    let size = line_size(last, text);
+    let size = text_lines::line_size(last, text);
     let read = read_piece(&text[0..size]);
     match read {
         Read::Refused {

@@ -1,9 +1,9 @@
 // Why a line is refused, in words: the place, what was expected, and how it is written.
 ghost use Prim.Native.Nat.{_≤_};
 ghost use lib.ListN.{length};
-use crate::length_to;
-use crate::line_size;
 use crate::more;
+use text_lines::length_to;
+use text_lines::line_size;
 use words::number;
 
 // The numbers of the pieces that the messages are made of.

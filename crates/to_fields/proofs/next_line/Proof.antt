@@ -1,7 +1,8 @@
 -- `to_fields::next_line` meets its contract. Assumes nothing.
 use native.Mathlib.Omega.{arith}
 use Rattle.feed.proofs.Turning.{lent}
-use Rattle.to_fields.proofs.Lines.{size-most, next-none, next-is}
+use Rattle.text_lines.proofs.Lines.{size-most}
+use Rattle.to_fields.proofs.Lines.{next-none, next-is}
 use borrow.Author.Needs.{needs}
 use Rattle.to_fields.proofs.next_line.Statement.{statement}
 use Rattle.to_fields.proofs.next_line.Tie as tie

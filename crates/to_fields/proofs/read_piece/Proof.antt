@@ -1,7 +1,8 @@
 -- `to_fields::read_piece` meets its contract. Assumes nothing.
 use native.Mathlib.Omega.{arith}
 use Rattle.feed.proofs.Turning.{lent}
-use Rattle.to_fields.proofs.Lines.{to-most, read-long, read-there}
+use Rattle.text_lines.proofs.Lines.{to-most}
+use Rattle.to_fields.proofs.Lines.{read-long, read-there}
 use borrow.Author.Needs.{needs}
 use Rattle.to_fields.proofs.read_piece.Statement.{statement}
 use Rattle.to_fields.proofs.read_piece.Tie as tie

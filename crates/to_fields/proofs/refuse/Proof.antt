@@ -1,6 +1,6 @@
 -- `to_fields::refuse` meets its contract. Assumes nothing.
 use native.Mathlib.Omega.{arith}
-use Rattle.to_fields.proofs.Lines.{size-most}
+use Rattle.text_lines.proofs.Lines.{size-most}
 use borrow.Author.Needs.{needs}
 use Rattle.to_fields.proofs.refuse.Statement.{statement}
 use Rattle.to_fields.proofs.refuse.Tie as tie

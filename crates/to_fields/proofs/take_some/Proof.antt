@@ -4,7 +4,7 @@ use Prim.Native.Nat.{_+_, _-_}
 use native.Mathlib.Omega.{arith}
 use lib.ListN.{length, drop}
 use Rattle.to_fields.specs.Turns.{NextLine}
-use Rattle.to_fields.proofs.Sizes.{Taking, taking-starts, next-first, next-lent, taking-few, taking-within, taking-behind, taking-goes, taking-ends}
+use Rattle.to_fields.proofs.Sizes.{Taking, taking-starts, next-first, next-lent, lines-few, lines-within, lines-behind, lines-go, lines-end}
 use borrow.Author.Needs.{needs}
 use Rattle.to_fields.proofs.take_some.Statement.{statement}
 use Rattle.to_fields.proofs.take_some.Tie as tie
@@ -28,26 +28,26 @@ write-call-requires c κs = search needs
 
 add-used : tie.Need-add-used Inv-loop μ-loop
 add-used c =
-    let l = c .before .before .before .before .before .before .before .loop in let w = taking-within _ _ _ _ _ _ _ (l .line) (l .inv .0) (l .inv .1) (c .before .before .before .before .before .if1 .taken) in search (needs, w)
+    let l = c .before .before .before .before .before .before .before .loop in let w = lines-within _ _ _ _ _ _ _ (l .line) (l .inv .0) (l .inv .1) (c .before .before .before .before .before .if1 .taken) in search (needs, w)
 
 add-count : tie.Need-add-count Inv-loop μ-loop
 add-count c =
-    let l = c .before .before .before .before .before .before .before .loop in let w = taking-few _ _ _ _ _ _ _ (l .line) (l .inv .0) (l .inv .1) in search (needs, w)
+    let l = c .before .before .before .before .before .before .before .loop in let w = lines-few _ _ _ _ _ _ _ (l .line) (l .inv .0) (l .inv .1) in search (needs, w)
 
 sub-next-line : tie.Need-sub-next-line Inv-loop μ-loop
 sub-next-line c =
-    let l = c .before .before .before .before .before .before .before .loop in taking-within _ _ _ _ _ _ _ (l .line) (l .inv .0) (l .inv .1) (c .before .before .before .before .before .if1 .taken)
+    let l = c .before .before .before .before .before .before .before .loop in lines-within _ _ _ _ _ _ _ (l .line) (l .inv .0) (l .inv .1) (c .before .before .before .before .before .if1 .taken)
 
 part-next-line-start : tie.Need-part-next-line-start Inv-loop μ-loop
 part-next-line-start c =
-    let l = c .before .before .before .before .before .before .before .loop in let w = taking-within _ _ _ _ _ _ _ (l .line) (l .inv .0) (l .inv .1) (c .before .before .before .before .before .if1 .taken) in search (needs, w)
+    let l = c .before .before .before .before .before .before .before .loop in let w = lines-within _ _ _ _ _ _ _ (l .line) (l .inv .0) (l .inv .1) (c .before .before .before .before .before .if1 .taken) in search (needs, w)
 
 part-next-line-end : tie.Need-part-next-line-end Inv-loop μ-loop
 part-next-line-end c = search needs
 
 sub-next-line-2 : tie.Need-sub-next-line-2 Inv-loop μ-loop
 sub-next-line-2 c =
-    let l = c .before .before .before .before .before .before .before .before .loop in taking-behind _ _ _ _ _ _ _ (l .line) (l .inv .0) (l .inv .1) (c .before .before .before .before .before .before .if1 .taken) _ _ (c .before .before .before .before .write-call .ensures)
+    let l = c .before .before .before .before .before .before .before .before .loop in lines-behind _ _ _ _ _ _ _ (l .line) (l .inv .0) (l .inv .1) (c .before .before .before .before .before .before .if1 .taken) _ _ (c .before .before .before .before .write-call .ensures)
 
 next-line-requires-2 : tie.Need-next-line-requires-2 Inv-loop μ-loop
 next-line-requires-2 c κs = search needs
@@ -56,13 +56,13 @@ loop-less : tie.Need-loop-less Inv-loop μ-loop
 loop-less c =
     let l = c .before .before .before .before .before .before .before .before .before .loop in
     let t = c .before .before .before .before .before .before .before .if1 .taken in
-    omega (arith, taking-within _ _ _ _ _ _ _ (l .line) (l .inv .0) (l .inv .1) t, t)
+    omega (arith, lines-within _ _ _ _ _ _ _ (l .line) (l .inv .0) (l .inv .1) t, t)
 
 loop-again : tie.Need-loop-again Inv-loop μ-loop
 loop-again c =
     let l = c .before .before .before .before .before .before .before .before .before .loop in
     let w = c .before .before .before .before .before .write-call in (
-      taking-goes _ _ _ _ _ _ _ (l .line) (l .inv .0) (l .inv .1) (c .before .before .before .before .before .before .before .if1 .taken) _ _ (w .ensures),
+      lines-go _ _ _ _ _ _ _ (l .line) (l .inv .0) (l .inv .1) (c .before .before .before .before .before .before .before .if1 .taken) _ _ (w .ensures),
       next-lent _ _ _ (l .used + l .line .size) _ (c .next-line2 .ensures),
       w .kept .1 .0 ∙ l .inv .2,
     )
@@ -72,7 +72,7 @@ same-length c = c .before .before .loop .inv .2
 
 returns : tie.Need-returns Inv-loop μ-loop
 returns c =
-    taking-ends _ _ _ _ _ _ _ (c .before .before .loop .line) (c .before .before .loop .inv .0) (c .before .before .loop .inv .1) (c .if1 .left)
+    lines-end _ _ _ _ _ _ _ (c .before .before .loop .line) (c .before .before .loop .inv .0) (c .before .before .loop .inv .1) (c .if1 .left)
 
 pub take-some-spec : {M : Type 1} → statement M
 take-some-spec =

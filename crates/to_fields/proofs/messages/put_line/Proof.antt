@@ -1,5 +1,5 @@
 -- `to_fields::messages::put_line` is safe and ends. Assumes nothing.
-use Rattle.to_fields.proofs.Lines.{end-within}
+use Rattle.text_lines.proofs.Lines.{end-within}
 use borrow.Author.Needs.{needs}
 use Rattle.to_fields.proofs.messages.put_line.Statement.{statement}
 use Rattle.to_fields.proofs.messages.put_line.Tie as tie

@@ -1,7 +1,7 @@
 -- `to_fields::messages::start_of` meets its contract. Assumes nothing.
 use Prim.Native.Nat.{_-_, _≤_}
 use lib.ListN.{length}
-use Rattle.to_fields.proofs.Lines.{line-within}
+use Rattle.text_lines.proofs.Lines.{line-within}
 use borrow.Author.Needs.{needs}
 use Rattle.to_fields.proofs.messages.start_of.Statement.{statement}
 use Rattle.to_fields.proofs.messages.start_of.Tie as tie

@@ -1,8 +1,8 @@
--- `to_fields::line_size` meets its contract. Assumes nothing.
-use Rattle.to_fields.proofs.Lines.{size-long, size-ended, size-last, size-none}
+-- `text_lines::line_size` meets its contract. Assumes nothing.
+use Rattle.text_lines.proofs.Lines.{size-long, size-ended, size-last, size-none}
 use borrow.Author.Needs.{needs}
-use Rattle.to_fields.proofs.line_size.Statement.{statement}
-use Rattle.to_fields.proofs.line_size.Tie as tie
+use Rattle.text_lines.proofs.line_size.Statement.{statement}
+use Rattle.text_lines.proofs.line_size.Tie as tie
 
 length-to-requires : tie.Need-length-to-requires
 length-to-requires c κs = search needs

@@ -1,10 +1,10 @@
--- `to_fields::length_to` meets its contract. Assumes nothing.
+-- `text_lines::length_to` meets its contract. Assumes nothing.
 use Prim.Native.Nat.{_-_, _≤_}
 use lib.ListN.{length}
-use Rattle.to_fields.proofs.Lines.{Seeking, seek-starts, seek-finds, seek-goes, seek-ends}
+use Rattle.text_lines.proofs.Lines.{Seeking, seek-starts, seek-finds, seek-goes, seek-ends}
 use borrow.Author.Needs.{needs}
-use Rattle.to_fields.proofs.length_to.Statement.{statement}
-use Rattle.to_fields.proofs.length_to.Tie as tie
+use Rattle.text_lines.proofs.length_to.Statement.{statement}
+use Rattle.text_lines.proofs.length_to.Tie as tie
 
 abbrev Inv-loop : tie.InvT-loop
 Inv-loop input i₀ i = (i ≤ length input) × Seeking input i

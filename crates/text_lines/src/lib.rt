@@ -1,0 +1,34 @@
+// A text as its lines.
+ghost use mathlib.Core.Path.{_≡_};
+ghost use Rattle.text_lines.specs.Lines.{lengthTo, lineSize};
+
+// A line longer than this is refused.
+pub const LONGEST: usize = 65536;
+
+// The bytes before the first line end, and all where there is none.
+pub fn length_to(input: &[u8]) -> usize
+    ensures { λ r. ⌜ r ≡ lengthTo (now (input .entry)) ⌝ }
+{
+    let mut i: usize = 0;
+    while i < input.len() {
+        if input[i] == 10 {
+            return i;
+        }
+        i += 1;
+    }
+    i
+}
+
+// The bytes of the first line with its end, and 0 where it is not all there. Where the text ends here, a last line needs no end.
+pub fn line_size(last: bool, input: &[u8]) -> usize
+    ensures { λ r. ⌜ r ≡ lineSize last (now (input .entry)) ⌝ }
+{
+    let n = length_to(input);
+    if LONGEST < n {
+        return LONGEST + 1;
+    }
+    if n < input.len() {
+        return n + 1;
+    }
+    if last { n } else { 0 }
+}
