@@ -133,6 +133,28 @@ module _ (n : ℕ) (some : 1 ≤ n) where
       = sym (drop-drop (t .used) (begun xs .used) (xs ++ ys)) ∙ ap (drop (t .used)) (drop-append-le (begun xs .used) xs ys fits) in
       rw (eq-eqb (begun xs .answer) 0 h, part-days (begun xs .kept) bytes, goes-on xs ys h, dropped)
 
+  -- the same of parts of a run from its begin on
+  abbrev pub first : List ℕ → Taken
+  first xs = partOf n noDays xs
+
+  pub first-days : (xs : List ℕ) → first xs ≡ begun xs
+  first-days xs = part-days noDays xs
+
+  -- what a part takes lies in it, and it leaves less than a record
+  pub first-used : (xs : List ℕ) → first xs .answer ≡ 0 → first xs .used ≡ size n * (length xs / size n)
+  first-used xs h = ap (λ (t : Taken). t .used) (first-days xs) ∙ begun-used xs (ap (λ (t : Taken). t .answer) (sym (first-days xs)) ∙ h)
+
+  pub first-then : (xs ys : List ℕ) → first xs .answer ≡ 0
+      → let t = partOf n (first xs .kept) (drop (first xs .used) xs ++ ys) in
+      first (xs ++ ys) ≡ record { kept = t .kept; used = first xs .used + t .used; answer = t .answer }
+  first-then xs ys h =
+      let same = first-days xs in
+      let t : Taken → Taken = λ s. partOf n (s .kept) (drop (s .used) xs ++ ys) in
+      first-days (xs ++ ys)
+      ∙ goes-on xs ys (ap (λ (s : Taken). s .answer) (sym same) ∙ h)
+      ∙ ap (λ (v : Taken). record { kept = v .kept; used = begun xs .used + v .used; answer = v .answer }) (sym (part-days (begun xs .kept) (drop (begun xs .used) xs ++ ys)))
+      ∙ ap (λ (s : Taken). record { kept = t s .kept; used = s .used + t s .used; answer = t s .answer }) (sym same)
+
   -- ---- any parts
 
   -- what is in hand after parts whose bytes are xs

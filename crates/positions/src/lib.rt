@@ -154,14 +154,14 @@ fn take_records(
 }
 
 // How many members a set has.
-fn count_of(set: u32) -> usize
+pub fn count_of(set: u32) -> usize
     ensures { λ r. ⌜ (r ≡ length (members set)) × (r ≤ 32) ⌝ }
 {
     sets::count(set) as usize
 }
 
 // Why a run is declined before its first record, or 0.
-fn why_before(n: usize, units: u64) -> u8
+pub fn why_before(n: usize, units: u64) -> u8
     ensures { λ r. ⌜ r ≡ whyBefore n units ⌝ }
 {
     let fits = lists::both(1 <= units, units <= 1_000);
