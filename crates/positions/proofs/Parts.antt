@@ -1,21 +1,25 @@
 -- A run that is read in parts: the parts may be cut anywhere. What a part leaves, less than a record, goes before the next part. Assumes nothing.
 use mathlib.Core.Path.{_≡_, refl, sym, ap, _∙_}
+use mathlib.Core.Bool.{Bool, true, false}
 use mathlib.Core.List.{List, [], _∷_, _++_, foldl, append-assoc, append-nil}
-use Prim.Native.Nat.{ℕ, _+_, _*_, _/_, _≤_, _<_}
+use mathlib.Core.Logic.{⊎-elim}
+use Prim.Native.Nat.{ℕ, _+_, _-_, _*_, _/_, _≤_, _<_}
 use native.Mathlib.Omega.{arith}
 use native.Mathlib.Nat.{zero-div, div-mul-le-self, mul-comm, mul-add, mul-add-div}
 use lib.Dec.{eqb}
-use lib.ListN.{length, drop, length-append, length-drop}
-use lib.Seq.{take-append-le, drop-append-le, drop-drop}
+use lib.ListN.{length, take, drop, length-append, length-drop}
+use lib.Seq.{sets, take-append-le, drop-append-le, drop-drop}
 use borrow.Author.Tests.{eq-eqb, ne-eqb, eqb-true, eqb-false}
-use Rattle.lists.specs.Lists.{tab, joined}
-use Rattle.lists.proofs.Bools.{cases}
+use Rattle.lists.specs.Lists.{if_then_else_, tab, joined}
+use Rattle.lists.proofs.Bools.{cases, lt-or-le}
 use Rattle.lists.proofs.Places.{tab-ext, tab-append}
 use Rattle.sets.specs.Set.{members}
 use Rattle.machine.specs.Wire.{number}
-use Rattle.splitting.proofs.Answers.{answered-not-0}
-use Rattle.positions.specs.Days.{size, dayAt, daysOf, whyBefore, whyRun, expectedUnits}
-use Rattle.positions.specs.Keeping.{Kept, noDays, Taken, taken, partOf, ended, Fed, fed, inParts}
+use Rattle.splitting.specs.Split.{split}
+use Rattle.splitting.specs.Limits.{Answer}
+use Rattle.splitting.proofs.Answers.{answered-0, answered-not-0}
+use Rattle.positions.specs.Days.{size, dayAt, daysOf, whyBefore, whyRun, byMember, expectedUnits}
+use Rattle.positions.specs.Keeping.{Kept, noDays, Taken, taken, partOf, whyEnd, ended, Fed, fed, inParts}
 use Rattle.positions.proofs.Days.{days-count, record-fits}
 use Rattle.positions.proofs.Records.{taken-used, taken-then, taken-stops, taken-shift}
 use Rattle.positions.proofs.Whole.{ready-some, whole-before, whole-bad, whole-end}
@@ -50,7 +54,7 @@ module _ (n : ℕ) (some : 1 ≤ n) (xs ys : List ℕ) where
   abbrev used : ℕ
   used = size n * records
 
-  used-le : used ≤ length xs
+  pub used-le : used ≤ length xs
   used-le = omega (arith, div-mul-le-self (length xs) (size n), mul-comm records (size n))
 
   day-front : (d : ℕ) → d < records → dayAt n (xs ++ ys) (size n * d) ≡ dayAt n xs (size n * d)
@@ -140,9 +144,13 @@ module _ (n : ℕ) (some : 1 ≤ n) where
   pub first-days : (xs : List ℕ) → first xs ≡ begun xs
   first-days xs = part-days noDays xs
 
-  -- what a part takes lies in it, and it leaves less than a record
-  pub first-used : (xs : List ℕ) → first xs .answer ≡ 0 → first xs .used ≡ size n * (length xs / size n)
-  first-used xs h = ap (λ (t : Taken). t .used) (first-days xs) ∙ begun-used xs (ap (λ (t : Taken). t .answer) (sym (first-days xs)) ∙ h)
+  -- a part with no record out of range takes its whole records
+  pub part-used : (x : Kept) (xs : List ℕ) → partOf n x xs .answer ≡ 0 → partOf n x xs .used ≡ size n * (length xs / size n)
+  part-used x xs h =
+      let same = part-days x xs in
+      ap (λ (t : Taken). t .used) same
+      ∙ taken-used n x 0 (daysOf n xs) (ap (λ (t : Taken). t .answer) (sym same) ∙ h)
+      ∙ omega (arith, ap (λ (k : ℕ). size n * k) (days-count n xs))
 
   pub first-then : (xs ys : List ℕ) → first xs .answer ≡ 0
       → let t = partOf n (first xs .kept) (drop (first xs .used) xs ++ ys) in
@@ -190,6 +198,10 @@ module _ (n : ℕ) (some : 1 ≤ n) where
   no-days : daysOf n [] ≡ []
   unfolding daysOf tab
   no-days = rw (zero-div (size n))
+
+  pub first-none : first [] ≡ record { kept = noDays; used = 0; answer = 0 }
+  unfolding taken
+  first-none = first-days [] ∙ rw no-days
 
   after-none : (answer : ℕ) → answer ≡ 0 → After (record { kept = noDays; left = []; answer = answer }) []
   unfolding taken
@@ -250,3 +262,30 @@ module _ (set units : ℕ) (parts : List (List ℕ)) (shares : List ℕ) where
       let no = eqb-false (whyBefore n units) 0 b in
       let same = before-stays n parts (record { kept = noDays; left = []; answer = whyBefore n units }) no in
       stopped (λ e. no (ap (λ (f : Fed). f .answer) (sym same) ∙ e)) (whole-before set units bytes shares no ∙ ap (λ (f : Fed). f .answer) (sym same)))
+
+-- a part of a run that is answered by 0 has a member
+pub part-some-member : (n : ℕ) (x : Kept) (xs : List ℕ) → partOf n x xs .answer ≡ 0 → 1 ≤ n
+unfolding partOf
+part-some-member n x xs = go (eqb n 0) refl
+  where
+    go : (b : Bool) → eqb n 0 ≡ b → (if b then record { kept = x; used = 0; answer = 5 } else taken n x 0 (daysOf n xs)) .answer ≡ 0 → 1 ≤ n
+    go true e h = absurd (omega arith)
+    go false e h = ⊎-elim (λ l. absurd (eqb-false n 0 e (omega arith))) (λ g. g) (lt-or-le n 1)
+
+-- the end of a run whose parts are answered by 0
+pub end-first : (set units : ℕ) (bytes shares : List ℕ) → whyBefore (length (members set)) units ≡ 0 → partOf (length (members set)) noDays bytes .answer ≡ 0
+    → let t = partOf (length (members set)) noDays bytes in
+    ended set units (length bytes - t .used) (t .kept .sums) shares ≡ expectedUnits set units bytes shares
+end-first set units bytes shares z h =
+    let n = length (members set) in
+    let same = first-days n (ready-some n units z) bytes in
+    ap (λ (t : Taken). ended set units (length bytes - t .used) (t .kept .sums) shares) same
+    ∙ whole-end set units bytes shares z (ap (λ (t : Taken). t .answer) (sym same) ∙ h)
+
+-- a run that is declined at its end leaves the shares as they were
+pub end-untouched : (set units left : ℕ) (sums shares : List ℕ) (a : ℕ) (out : List ℕ) → _≡_ {A = Answer} (a, out) (ended set units left sums shares) → (a ≡ 0 → ⊥) → out ≡ shares
+unfolding ended
+end-untouched set units left sums shares a out e h =
+    let why = whyEnd (length (members set)) units left sums in
+    let done = sets shares 0 (byMember set (split units (take (length (members set)) sums))) in
+    ap (λ (x : Answer). x .1) (e ∙ answered-not-0 why done shares (λ z. h (ap (λ (x : Answer). x .0) (e ∙ answered-0 why done shares z))))
