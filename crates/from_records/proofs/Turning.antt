@@ -12,7 +12,7 @@ use borrow.Author.Tests.{eqb-true, eqb-false}
 use Rattle.lists.specs.Lists.{joined}
 use Rattle.sets.specs.Set.{members}
 use Rattle.splitting.specs.Limits.{Answer}
-use Rattle.feed.specs.Feeds.{Slides, Keeps, Fed}
+use Rattle.feed.specs.Feeds.{Slides, Fed}
 use Rattle.feed.proofs.Turning.{keeps, fed-none as none-fed, fed-turn as turn-fed}
 use Rattle.positions.specs.Days.{size, whyBefore, expectedUnits}
 use Rattle.positions.specs.Keeping.{Kept, noDays, Taken, partOf, ended}

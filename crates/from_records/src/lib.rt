@@ -1,11 +1,9 @@
 // A run of day records, read from standard input part by part. What is kept of a run of any length is a ring of days, their sums, and less than a record of bytes.
 // No contract can say what is read; there are parts, those that were read, and what is given is what document 02 says of the parts joined.
-ghost use mathlib.Core.Path.{_≡_};
 ghost use Prim.Native.Nat.{_≤_};
 ghost use lib.ListN.{length, take};
 ghost use Rattle.sets.specs.Set.{members};
 ghost use Rattle.feed.specs.Feeds.{Reads};
-ghost use Rattle.positions.specs.Keeping.{Kept};
 ghost use Rattle.from_records.specs.Turns.{TakesTurn, TakesInput, Finishes, Gives};
 use feed::Got;
 use libc::STDERR_FILENO;

@@ -11,6 +11,7 @@ use Rattle.lists.proofs.Bools.{lt-or-le}
 use Rattle.lists.proofs.Places.{length-tab, getD-tab, tab-ext, take-places, getD-same}
 use Rattle.lists.proofs.Stores.{get-before, get-behind, get-within}
 use Rattle.lists.proofs.Each.{each-append}
+use Rattle.lists.proofs.Joined.{foldl-more}
 use Rattle.positions.specs.Days.{Day, DayOf, lastDays, sumAt, sumsOf}
 use Rattle.positions.specs.Keeping.{Kept, noDays, rowOf, rolled, rolledAt, dayKept, keptAfter, TakesDay}
 use Rattle.positions.proofs.Days.{Fits, range-fits}
@@ -201,16 +202,12 @@ module _ (n : ℕ) (few : n ≤ 32) where
 
 -- ---- the step that takes a day
 
-foldl-last : (n : ℕ) (x : Kept) (days : List Day) (day : Day) → foldl (dayKept n) x (days ++ (day ∷ [])) ≡ dayKept n (foldl (dayKept n) x days) day
-foldl-last n x [] day = refl
-foldl-last n x (d ∷ days) day = foldl-last n (dayKept n x d) days day
-
 pub takes-day : (n : ℕ) → n ≤ 32 → (day : Day) (old new : Kept) → new ≡ dayKept n old day → TakesDay n day old new
 unfolding keptAfter
 takes-day n few day old new e =
     record {
       kept = e;
       afresh = λ days fit reached.
-          let same : new ≡ keptAfter n (days ++ (day ∷ [])) = e ∙ ap (λ (x : Kept). dayKept n x day) reached ∙ sym (foldl-last n noDays days day) in
+          let same : new ≡ keptAfter n (days ++ (day ∷ [])) = e ∙ ap (λ (x : Kept). dayKept n x day) reached ∙ sym (foldl-more (dayKept n) noDays days day) in
           ap (λ (x : Kept). take n (x .sums)) same ∙ sums-afresh n few (days ++ (day ∷ [])) fit;
     }

@@ -1,5 +1,4 @@
 -- `from_records::run` meets its contract. Assumes nothing.
-use native.Mathlib.Omega.{arith}
 use Rattle.positions.proofs.Whole.{ready-some}
 use Rattle.from_records.proofs.Turning.{ready, gives-not, gives}
 use borrow.Author.Needs.{needs}

@@ -7,7 +7,7 @@ use borrow.Author.Needs.{needs}
 use Rattle.sets.specs.Set.{members}
 use Rattle.feed.specs.Feeds.{Fed}
 use Rattle.feed.proofs.Turning.{fed-read}
-use Rattle.positions.specs.Keeping.{Kept, noDays}
+use Rattle.positions.specs.Keeping.{noDays}
 use Rattle.from_records.specs.Turns.{leftOf, Reached}
 use Rattle.from_records.proofs.Turning.{fed-none, fed-turn, sums-read}
 use Rattle.from_records.proofs.take_input.Statement.{statement}
