@@ -101,6 +101,34 @@ uint8_t ledger_auction_records(const struct ledger_bid *bids, size_t bids_len, u
 uint8_t ledger_auction(uint64_t open_units, uint32_t reserve, const uint64_t *units, size_t units_len, const uint32_t *prices, size_t prices_len,
                        uint64_t *counts, size_t counts_len);
 
+/* ---- Expected units from daily positions (document 02, C-11). `rt staticlib positions` writes libpositions.a, which has these.
+ *
+ * A day is a record of 4 bytes, big-endian, for each member of the set, in member order; bit i of the set is member i. The shares are 32 numbers by member, 0
+ * outside the set. */
+
+enum { LEDGER_DAYS = 66 };
+
+/* Splits the units by the sums of the members' positions over the last 66 days of a whole run, or over the days there are, and answers 0. It answers 5 where the
+ * set is empty or the units are not 1 to 1,000, before any record is looked at; then the first bad record decides: 1 where it is cut short, 5 where a
+ * position is above 10,000,000. The shares are then as they were. */
+uint8_t ledger_expected(uint32_t set, uint64_t units, const uint8_t *days, size_t days_len, uint64_t shares[LEDGER_MEMBERS]);
+
+/* What a part of a run led to. */
+struct ledger_days {
+    size_t row;     /* goes with the next part */
+    size_t used;    /* how many of the bytes were records that were taken */
+    uint8_t answer; /* 0, or 5 where the next record has a position above 10,000,000 or the set is empty: the run has then ended */
+};
+
+/* Takes the whole records of a part of a run. A run begins with a ring and sums of zeros and row 0. The bytes that were not used, less than a record, go in
+ * front of the next part; parts may be cut anywhere. After every part the sums, in member order from the front on, are those over the last 66 days. */
+struct ledger_days ledger_take_days(uint32_t ring[LEDGER_DAYS * LEDGER_MEMBERS], uint64_t sums[LEDGER_MEMBERS], size_t row, uint32_t set, const uint8_t *days,
+                                    size_t days_len);
+
+/* Ends a run that no part has ended: splits the units by the sums and answers 0, or answers 5 where the set is empty or the units are not 1 to 1,000, then 1
+ * where bytes of a record are left. The shares are then as they were. */
+uint8_t ledger_end_days(const uint64_t sums[LEDGER_MEMBERS], uint32_t set, uint64_t units, size_t left, uint64_t shares[LEDGER_MEMBERS]);
+
 #ifdef __cplusplus
 }
 #endif

@@ -1,6 +1,6 @@
-/* The example of document 01 through include/ledger.h. From the top of the repository, after `rt staticlib` of exports, auction and splitting:
+/* The example of document 01 through include/ledger.h. From the top of the repository, after `rt staticlib` of exports, auction, positions and splitting:
  *
- *     cc -std=c11 -Wall -Wextra -Werror -I include tests/linked/example.c target/staticlib/lib{exports,auction,splitting}.a -o target/example && target/example
+ *     cc -std=c11 -Wall -Wextra -Werror -I include tests/linked/example.c target/staticlib/lib{exports,auction,positions,splitting}.a -o target/example && target/example
  *
  * It prints what document 01 prints, and ends with 1 where a number differs. */
 #include <ledger.h>
@@ -110,6 +110,20 @@ int main(void) {
     uint64_t flat_counts[] = {0, 0, 0, 0};
     wrong |= ledger_auction(10, 1000000 - 30, flat_units, 4, flat_prices, 4, flat_counts, 4) != 0;
     wrong |= memcmp(counts, flat_counts, sizeof counts) != 0;
+
+    /* Expected units: 10 by the positions of members 0 and 2 on two days, 1 + 2 and 3 + 2; at once, and in two parts of 3 and 13 bytes. */
+    const uint8_t days[] = {0, 0, 0, 1, 0, 0, 0, 3, 0, 0, 0, 2, 0, 0, 0, 2};
+    uint64_t expects[LEDGER_MEMBERS] = {9, 9, 9};
+    wrong |= ledger_expected(5, 10, days, 15, expects) != 1 || expects[0] != 9;
+    wrong |= ledger_expected(5, 10, days, sizeof days, expects) != 0 || expects[0] != 4 || expects[1] != 0 || expects[2] != 6;
+    static uint32_t ring[LEDGER_DAYS * LEDGER_MEMBERS];
+    uint64_t sums[LEDGER_MEMBERS] = {0};
+    struct ledger_days part = ledger_take_days(ring, sums, 0, 5, days, 3);
+    wrong |= part.answer != 0 || part.used != 0;
+    part = ledger_take_days(ring, sums, part.row, 5, days, sizeof days);
+    wrong |= part.answer != 0 || part.used != sizeof days || sums[0] != 3 || sums[1] != 5;
+    uint64_t again[LEDGER_MEMBERS];
+    wrong |= ledger_end_days(sums, 5, 10, 0, again) != 0 || memcmp(again, expects, sizeof again) != 0;
 
     fputs(text, stdout);
     wrong |= strcmp(text, expected) != 0 || shown.prices != -160;
