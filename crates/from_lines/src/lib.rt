@@ -1,5 +1,7 @@
 // Lines of positions, one line a day, read part by part: the sums over the last 66 days are kept as the lines go by, and at the input's end the units are split by
 // them. At the first line that is refused, and where the input cannot be read, the reading stops and no shares are given.
+mod messages;
+
 ghost use mathlib.Core.Path.{_≡_};
 ghost use Prim.Native.Nat.{_+_, _%_, _^_, _≤_};
 ghost use lib.ListN.{length, take};
@@ -210,10 +212,21 @@ fn take_input(
 
 // ---- the end
 
+// Tells why the first line of some bytes is refused, where it is all there and refused.
+fn tell_refused(last: bool, set: u32, lines: u64, text: &[u8]) {
+    let size = text_lines::line_size(last, text);
+    let n = positions::count_of(set);
+    let row = rows::read_day(n, &text[0..size]);
+    if row.reason != 0 {
+        messages::tell_line(counted(lines, 1), row.at, row.reason, n);
+    }
+}
+
 // The last line taken, where there is one, and the shares given: whether that was done.
 fn finish(
     set: u32,
     units: u64,
+    lines: u64,
     row: usize,
     rest: &[u8],
     out: &mut [u8],
@@ -226,10 +239,11 @@ fn finish(
 {
     let part = take_some(true, set, rest, out);
     if part.used != rest.len() {
+        tell_refused(true, set, lines, rest);
         return false;
     }
-    let n = part.written;
-    let step = take_records(set, row, &out[0..n], ring, sums);
+    let end = part.written;
+    let step = take_records(set, row, &out[0..end], ring, sums);
     if !step.whole {
         return false;
     }
@@ -246,11 +260,13 @@ fn run_to_end(set: u32, units: u64, buf: &mut [u8], out: &mut [u8], shares: &mut
     let rest = take_input(set, buf, out, &mut ring, &mut sums);
     let len = rest.len;
     if !rest.ended {
+        tell_refused(false, set, rest.lines, &buf[0..len]);
         return false;
     }
     finish(
         set,
         units,
+        rest.lines,
         rest.row,
         &buf[0..len],
         out,
@@ -266,14 +282,15 @@ fn run_to_end(set: u32, units: u64, buf: &mut [u8], out: &mut [u8], shares: &mut
 pub fn run(set: u32, units: u64, buf: &mut [u8], out: &mut [u8], shares: &mut [u64; 32]) -> bool
     ensures { λ r. ⌜ Gives set units (now (shares .entry)) (now (shares .exit)) r ⌝ }
 {
+    let n = positions::count_of(set);
+    if positions::why_before(n, units) != 0 {
+        messages::tell_before(n);
+        return false;
+    }
     if buf.len() < 65537 {
         return false;
     }
     if out.len() < 128 {
-        return false;
-    }
-    let n = positions::count_of(set);
-    if positions::why_before(n, units) != 0 {
         return false;
     }
     run_to_end(set, units, buf, out, shares)

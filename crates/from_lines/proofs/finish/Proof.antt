@@ -10,6 +10,9 @@ use Rattle.from_lines.proofs.finish.Tie as tie
 take-some-requires : tie.Need-take-some-requires
 take-some-requires c κs = search needs
 
+tell-refused-requires : tie.Need-tell-refused-requires
+tell-refused-requires c κs = search needs
+
 same-length : tie.Need-same-length
 same-length c = search needs
 
@@ -50,6 +53,7 @@ finish-spec =
     tie.close
     (tie.spec
     take-some-requires
+    tell-refused-requires
     same-length
     returns
     sub-take-records

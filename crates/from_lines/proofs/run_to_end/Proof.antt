@@ -12,6 +12,18 @@ take-input-requires : tie.Need-take-input-requires
 unfolding noDays
 take-input-requires c κs = (c .before .before .before .before .before .before .pre .1, search needs, refl)
 
+sub-tell-refused : tie.Need-sub-tell-refused
+sub-tell-refused c = search needs
+
+part-tell-refused-start : tie.Need-part-tell-refused-start
+part-tell-refused-start c = search needs
+
+part-tell-refused-end : tie.Need-part-tell-refused-end
+part-tell-refused-end c = search needs
+
+tell-refused-requires : tie.Need-tell-refused-requires
+tell-refused-requires c κs = search needs
+
 same-length : tie.Need-same-length
 same-length c = search needs
 
@@ -28,7 +40,7 @@ part-finish-start : tie.Need-part-finish-start
 part-finish-start c = search needs
 
 part-finish-end : tie.Need-part-finish-end
-part-finish-end c = c .before .before .before .before .before .before .before .take-input .ensures .fits
+part-finish-end c = search needs
 
 finish-requires : tie.Need-finish-requires
 finish-requires c κs = search needs
@@ -49,6 +61,10 @@ run-to-end-spec =
     tie.close
     (tie.spec
     take-input-requires
+    sub-tell-refused
+    part-tell-refused-start
+    part-tell-refused-end
+    tell-refused-requires
     same-length
     same-length-2
     returns
