@@ -57,7 +57,7 @@ fn take_some(last: bool, set: u32, input: &[u8], out: &mut [u8]) -> Part
     rows::take_lines(last, input, n, out)
 }
 
-// Records taken. A line that is read has whole records in range, so that all bytes are taken; the test gives this without a law of lines and records.
+// Records taken. The lines that are read have whole records in range, so that all bytes are taken; the test spares a law that says so.
 fn take_records(
     set: u32,
     row: usize,
@@ -250,7 +250,7 @@ fn finish(
     positions::end(sums, set, units, 0, shares) == 0
 }
 
-// The run of a set with members and of units within their limits.
+// The run for a set with members and units within their limits.
 fn run_to_end(set: u32, units: u64, buf: &mut [u8], out: &mut [u8], shares: &mut [u64; 32]) -> bool
     requires { ⌜ (whyBefore (count set) units ≡ 0) × (1 ≤ count set) × (128 ≤ length (now out)) ⌝ }
     ensures { λ r. ⌜ Gives set units (now (shares .entry)) (now (shares .exit)) r ⌝ }
