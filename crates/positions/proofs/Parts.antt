@@ -195,7 +195,7 @@ module _ (n : ℕ) (some : 1 ≤ n) where
   after-all [] f xs a = rw (append-nil xs) a
   after-all (part ∷ parts) f xs a = rw append-assoc at (after-all parts (fed n f part) (xs ++ part) (after-more f xs part a))
 
-  no-days : daysOf n [] ≡ []
+  pub no-days : daysOf n [] ≡ []
   unfolding daysOf tab
   no-days = rw (zero-div (size n))
 

@@ -5,7 +5,8 @@ use Prim.Native.Nat.{ℕ, suc, _+_}
 use lib.Dec.{eqb, ltb}
 use lib.ListN.{length, take}
 use Rattle.lists.specs.Lists.{if_then_else_}
-use Rattle.input.specs.Pieces.{allPieces, leftOf}
+use Rattle.input.specs.Strings.{bytesOf}
+use Rattle.input.specs.Pieces.{pieces, allPieces, leftOf}
 
 -- the bytes before the first line end, and all where there is none
 unfoldable pub lengthTo : List ℕ → ℕ
@@ -24,6 +25,10 @@ lineSize last s =
 -- the lines of a text
 abbrev pub linesOf : List ℕ → List (List ℕ)
 linesOf text = allPieces (lineSize true) text
+
+-- where a line of a text begins, by its number from 0 on; at the text's end where there is none
+unfoldable pub startOf : ℕ → List ℕ → ℕ
+startOf k text = bytesOf (pieces (lineSize true) k text)
 
 -- the bytes of the first line, and 0 where it is refused or not all there
 unfoldable pub goodSize : (refused : List ℕ → Bool) → Bool → List ℕ → ℕ

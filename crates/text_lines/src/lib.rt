@@ -1,6 +1,6 @@
 // A text as its lines.
 ghost use mathlib.Core.Path.{_≡_};
-ghost use Rattle.text_lines.specs.Lines.{lengthTo, lineSize};
+ghost use Rattle.text_lines.specs.Lines.{lengthTo, lineSize, startOf};
 
 // A line longer than this is refused.
 pub const LONGEST: usize = 65536;
@@ -31,4 +31,17 @@ pub fn line_size(last: bool, input: &[u8]) -> usize
         return n + 1;
     }
     if last { n } else { 0 }
+}
+
+// Where a line of a text begins, by its number from 0 on; at the text's end where there is none.
+pub fn start_of(text: &[u8], k: usize) -> usize
+    ensures { λ r. ⌜ r ≡ startOf k (now (text .entry)) ⌝ }
+{
+    let mut at: usize = 0;
+    let mut i: usize = 0;
+    while i < k {
+        at += line_size(true, &text[at..]);
+        i += 1;
+    }
+    at
 }
