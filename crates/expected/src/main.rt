@@ -7,7 +7,6 @@ ghost use lib.ListN.{length, take};
 ghost use Rattle.lists.specs.Lists.{sum, Each};
 ghost use Rattle.machine.specs.Printed.{decimal};
 ghost use Rattle.forms.specs.Put.{Put};
-ghost use Rattle.from_records.specs.Turns.{Gives};
 ghost use Rattle.expected.specs.Words.{setOf, membersIn, unitsIn, eqList};
 ghost use Rattle.expected.specs.Shares.{memberText, placeText, membersText, sharesText};
 use libc::STDERR_FILENO;
@@ -248,20 +247,33 @@ fn print(set: u32, shares: [u64; 32]) {
     feed::flush(&out, n, b"expected: standard output");
 }
 
-// The shares from day records.
-fn take_records(set: u32, units: u64, shares: &mut [u64; 32]) -> bool
-    ensures { λ r. ⌜ Gives set units (now (shares .entry)) (now (shares .exit)) r ⌝ }
-{
+// The shares from day records: whether they are given.
+fn take_records(set: u32, units: u64, shares: &mut [u64; 32]) -> bool {
     let mut buf = [0u8; 65536];
-    from_records::run(set, units, &mut buf, shares)
+    let run = from_records::run(set, units, &mut buf, shares);
+    lists::both(run.known, run.answer == 0)
+}
+
+// The shares from lines of positions: whether they are given.
+fn take_lines(set: u32, units: u64, shares: &mut [u64; 32]) -> bool {
+    let mut buf = [0u8; 131072];
+    let mut out = [0u8; 65536];
+    from_lines::run(set, units, &mut buf, &mut out, shares)
+}
+
+// The shares from the days on standard input: whether they are given.
+fn take_days(set: u32, units: u64, text: bool, shares: &mut [u64; 32]) -> bool {
+    if text {
+        return take_lines(set, units, shares);
+    }
+    take_records(set, units, shares)
 }
 
 // The answer to what is asked for.
 fn answer(asked: Asked) {
     let set = asked.set;
-    let units = asked.units as u64;
     let mut shares = [0u64; 32];
-    if take_records(set, units, &mut shares) {
+    if take_days(set, asked.units as u64, asked.text, &mut shares) {
         print(set, shares);
     }
 }

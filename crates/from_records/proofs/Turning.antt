@@ -1,25 +1,29 @@
 -- One turn of the loop, what holds after each, and what is given at the end: laws that the proofs of the functions cite. Assumes nothing.
 use mathlib.Core.Path.{_≡_, refl, sym, ap, _∙_}
 use mathlib.Core.Bool.{Bool, true, false, true≢false}
-use mathlib.Core.List.{List, [], _++_}
+use mathlib.Core.List.{List, [], _∷_, _++_}
 use Prim.Native.Nat.{ℕ, _+_, _-_, _*_, _/_, _≤_, _<_}
 use native.Mathlib.Omega.{arith}
 use native.Mathlib.Nat.{mul-add, mul-add-div}
 use lib.Dec.{eqb}
 use lib.ListN.{length, getD, take, drop, length-append, length-drop}
-use lib.Seq.{length-take-le, drop-append-le, drop-drop, drop-nil}
+use lib.Seq.{length-take-le, take-add, drop-append-le, drop-drop, drop-nil}
 use borrow.Author.Tests.{eqb-true, eqb-false}
 use Rattle.lists.specs.Lists.{joined}
+use Rattle.lists.proofs.Bools.{cases}
+use Rattle.lists.proofs.Joined.{joined-more}
 use Rattle.sets.specs.Set.{members}
 use Rattle.splitting.specs.Limits.{Answer}
 use Rattle.feed.specs.Feeds.{Slides, Fed}
 use Rattle.feed.proofs.Turning.{keeps, fed-none as none-fed, fed-turn as turn-fed}
-use Rattle.positions.specs.Days.{size, whyBefore, expectedUnits}
-use Rattle.positions.specs.Keeping.{Kept, noDays, Taken, partOf, ended}
-use Rattle.positions.proofs.Parts.{used-le, part-used, first-then, first-none, part-some-member, end-first, end-untouched}
+use Rattle.positions.specs.Days.{size, daysOf, whyBefore, expectedUnits}
+use Rattle.positions.specs.Keeping.{Kept, noDays, Taken, taken, partOf, ended}
+use Rattle.positions.proofs.Whole.{ready-some, answers-before, answers-bad}
+use Rattle.positions.proofs.Parts.{used-le, part-used, first-days, first-then, first-none, part-some-member, end-first}
 use Rattle.from_records.specs.declared.Turn.{Turn}
 use Rattle.from_records.specs.declared.Rest.{Rest}
-use Rattle.from_records.specs.Turns.{leftOf, TakesTurn, Reached, SumsOf, TakesInput, Finishes, Gives}
+use Rattle.from_records.specs.declared.Outcome.{Outcome}
+use Rattle.from_records.specs.Turns.{leftOf, TakesTurn, Reached, SumsOf, Declined, TakesInput, Finishes, Gives}
 
 -- ---- what is left of bytes
 
@@ -102,23 +106,27 @@ sums-read n row ring sums buf len f =
       fits = f .fits;
     }
 
--- ---- what is given
-
--- nothing is given
-pub gives-not : (set units : ℕ) (shares : List ℕ) → Gives set units shares shares false
-gives-not set units shares = record { parts = []; given = λ e. absurd (true≢false (sym e)); untouched = λ e. refl }
-
-pub finishes-not : (set units : ℕ) (rest : Rest) (shares : List ℕ) → Finishes set units rest shares shares false
-finishes-not set units rest shares = record { whole = λ e. absurd (true≢false (sym e)); given = λ e. absurd (true≢false (sym e)); untouched = λ e. refl }
-
-pub finishes : (set units : ℕ) (rest : Rest) (shares out : List ℕ) (answer : ℕ) → rest .ended ≡ true
-    → _≡_ {A = Answer} (answer, out) (ended set units (rest .len) (rest .sums) shares) → Finishes set units rest shares out (eqb answer 0)
-finishes set units rest shares out answer t e =
+-- a turn that a record ends
+pub turn-declines : (n : ℕ) → 1 ≤ n → (buf next after : List ℕ) (x y : Kept) (len more : ℕ) (r : Turn) → Fed (leftOf n) (Reached n x) buf len → take len next ≡ take len buf
+    → TakesTurn n x (take (len + more) next) next after y r → Declined n (r .answer)
+unfolding leftOf
+turn-declines n some buf next after x y len more r f same turn =
+    let part = take more (drop len next) in
+    let past = joined (f .parts) in
+    let first = partOf n noDays past in
+    let all : take (len + more) next ≡ drop (first .used) past ++ part
+    = take-add len more next
+    ∙ ap (λ (l : List ℕ). l ++ part) (same ∙ f .kept ∙ ap (λ (k : ℕ). drop k past) (sym (part-used n some noDays past (f .is .good)))) in
+    let answer : partOf n noDays (past ++ part) .answer ≡ partOf n x (take (len + more) next) .answer
+    = ap (λ (t : Taken). t .answer) (first-then n some past part (f .is .good))
+    ∙ ap (λ (l : List ℕ). partOf n (first .kept) l .answer) (sym all)
+    ∙ ap (λ (v : Kept). partOf n v (take (len + more) next) .answer) (sym (f .is .kept)) in
     record {
-      whole = λ g. t;
-      given = λ g. ap (λ (a : ℕ). (a, out)) (sym (eqb-true answer 0 g)) ∙ e;
-      untouched = λ g. end-untouched set units (rest .len) (rest .sums) shares answer out e (eqb-false answer 0 g);
+      parts = f .parts ++ (part ∷ []);
+      is = ap (λ (l : List ℕ). partOf n noDays l .answer) (joined-more (f .parts) part) ∙ answer ∙ sym (turn .answer);
     }
+
+-- ---- what is given
 
 -- the sums of all that was read
 read-end : (set units : ℕ) (shares buf sums : List ℕ) (len : ℕ) → whyBefore (length (members set)) units ≡ 0
@@ -137,16 +145,60 @@ read-end set units shares buf sums len z f =
     ∙ ap (λ (s : List ℕ). ended set units (length bytes - t .used) s shares) (f .is .kept)
     ∙ end-first set units bytes shares z good
 
-pub gives : (set units : ℕ) (rest : Rest) (shares out buf : List ℕ) (r : Bool) → whyBefore (length (members set)) units ≡ 0 → TakesInput (length (members set)) buf rest
-    → Finishes set units rest shares out r → Gives set units shares out r
-gives set units rest shares out buf true z f e =
-    let fed = f (e .whole refl) in
-    record {
-      parts = fed .parts;
-      given = λ g. e .given refl ∙ read-end set units shares buf (rest .sums) (rest .len) z fed;
-      untouched = λ g. absurd (true≢false g);
-    }
-gives set units rest shares out buf false z f e = record { parts = []; given = λ g. absurd (true≢false (sym g)); untouched = e .untouched }
+-- the three ends of `finish`
+module _ (set units : ℕ) (rest : Rest) (shares : List ℕ) where
+  pub finish-declined : (rest .answer ≡ 0 → ⊥) → Finishes set units rest shares shares (record { known = true; answer = rest .answer })
+  finish-declined h = record { declined = λ k. (refl, refl, refl); failed = λ z e. absurd (h z); whole = λ z e. absurd (h z) }
+
+  pub finish-failed : rest .answer ≡ 0 → rest .ended ≡ false → Finishes set units rest shares shares (record { known = false; answer = 0 })
+  finish-failed z e = record { declined = λ k. absurd (k z); failed = λ y d. (refl, refl); whole = λ y d. absurd (true≢false (sym d ∙ e)) }
+
+  pub finish-whole : (out : List ℕ) (answer : ℕ) → rest .answer ≡ 0 → rest .ended ≡ true → _≡_ {A = Answer} (answer, out) (ended set units (rest .len) (rest .sums) shares)
+      → Finishes set units rest shares out (record { known = true; answer = answer })
+  finish-whole out answer z e is = record { declined = λ k. absurd (k z); failed = λ y d. absurd (true≢false (sym e ∙ d)); whole = λ y d. (refl, is) }
+
+-- declined before the run, and nothing read
+pub gives-declined : (set units : ℕ) (shares : List ℕ) (k why : ℕ) → k ≡ length (members set) → why ≡ whyBefore k units → (why ≡ 0 → ⊥)
+    → Gives set units shares shares (record { known = true; answer = why })
+unfolding joined
+gives-declined set units shares k why e w h =
+    record { parts = []; known = λ g. answers-before set units [] shares k why e w h; unknown = λ g. absurd (true≢false g) }
+
+pub gives-none : (set units : ℕ) (shares : List ℕ) → Gives set units shares shares (record { known = false; answer = 0 })
+gives-none set units shares = record { parts = []; known = λ g. absurd (true≢false (sym g)); unknown = λ g. refl }
+
+module _ (set units : ℕ) (rest : Rest) (shares out buf : List ℕ) (r : Outcome) (z : whyBefore (length (members set)) units ≡ 0)
+  (input : TakesInput (length (members set)) buf rest) (end : Finishes set units rest shares out r) where
+  by-record : (rest .answer ≡ 0 → ⊥) → Gives set units shares out r
+  by-record h =
+      let n = length (members set) in
+      let d = input .declined h in
+      let bytes = joined (d .parts) in
+      let same = first-days n (ready-some n units z) bytes in
+      let answer : taken n noDays 0 (daysOf n bytes) .answer ≡ rest .answer = ap (λ (t : Taken). t .answer) (sym same) ∙ d .is in
+      let said : _≡_ {A = Answer} (rest .answer, shares) (expectedUnits set units bytes shares)
+      = answers-bad set units bytes shares n (whyBefore n units) refl refl z (rest .answer) answer h in
+      record {
+        parts = d .parts;
+        known = λ g. ap (λ (a : ℕ). (a, out)) (end .declined h .1) ∙ ap (λ (l : List ℕ). (rest .answer, l)) (end .declined h .2) ∙ said;
+        unknown = λ g. end .declined h .2;
+      }
+
+  by-failure : rest .answer ≡ 0 → rest .ended ≡ false → Gives set units shares out r
+  by-failure y e =
+      let not-known = end .failed y e in
+      record { parts = []; known = λ g. absurd (true≢false (sym g ∙ not-known .0)); unknown = λ g. not-known .1 }
+
+  by-end : rest .answer ≡ 0 → rest .ended ≡ true → Gives set units shares out r
+  by-end y e =
+      let fed = input .fed e in
+      record { parts = fed .parts; known = λ g. end .whole y e .1 ∙ read-end set units shares buf (rest .sums) (rest .len) z fed; unknown = λ g. absurd (true≢false (sym (end .whole y e .0) ∙ g)) }
+
+  pub gives : Gives set units shares out r
+  gives =
+      cases (eqb (rest .answer) 0) _
+      (λ t. cases (rest .ended) _ (by-end (eqb-true (rest .answer) 0 t)) (by-failure (eqb-true (rest .answer) 0 t)))
+      (λ f. by-record (eqb-false (rest .answer) 0 f))
 
 -- before the run
 pub ready : (set units k why : ℕ) → k ≡ length (members set) → why ≡ whyBefore k units → why ≡ 0 → whyBefore (length (members set)) units ≡ 0

@@ -1,6 +1,6 @@
 -- The loop that reads day records: one turn over the bytes that are in the buffer, what is kept after all turns (`Fed`, `feed/specs/Feeds`), and what is given.
 use mathlib.Core.Path.{_≡_}
-use mathlib.Core.Bool.{Bool, true, false}
+use mathlib.Core.Bool.{true, false}
 use mathlib.Core.List.{List}
 use Prim.Native.Nat.{ℕ, _*_, _/_}
 use lib.ListN.{length, drop}
@@ -11,6 +11,7 @@ use Rattle.positions.specs.Days.{size, expectedUnits}
 use Rattle.positions.specs.Keeping.{Kept, noDays, partOf, ended}
 use Rattle.from_records.specs.declared.Turn.{Turn}
 use Rattle.from_records.specs.declared.Rest.{Rest}
+use Rattle.from_records.specs.declared.Outcome.{Outcome}
 
 -- the bytes behind the whole records
 unfoldable pub leftOf : ℕ → List ℕ → List ℕ
@@ -33,18 +34,25 @@ pub record SumsOf (n : ℕ) (sums bytes : List ℕ) : Type 0 where
   pub kept : sums ≡ partOf n noDays bytes .kept .sums
   pub good : partOf n noDays bytes .answer ≡ 0
 
-abbrev pub TakesInput : ℕ → List ℕ → Rest → Type 0
-TakesInput n buf r = r .ended ≡ true → Fed (leftOf n) (SumsOf n (r .sums)) buf (r .len)
-
--- The contract of `finish`: the shares are given only where the input has ended.
-pub record Finishes (set units : ℕ) (rest : Rest) (old new : List ℕ) (r : Bool) : Type 0 where
-  pub whole : r ≡ true → rest .ended ≡ true
-  pub given : r ≡ true → _≡_ {A = Answer} (0, new) (ended set units (rest .len) (rest .sums) old)
-  pub untouched : r ≡ false → new ≡ old
-
--- There are parts, those that were read. Where the shares are given, they are what document 02 says of the parts joined; where they are not, they are as they
--- were.
-pub record Gives (set units : ℕ) (old new : List ℕ) (r : Bool) : Type 0 where
+-- a record of the parts that were read has declined the run
+pub record Declined (n answer : ℕ) : Type 0 where
   pub parts : List (List ℕ)
-  pub given : r ≡ true → _≡_ {A = Answer} (0, new) (expectedUnits set units (joined parts) old)
-  pub untouched : r ≡ false → new ≡ old
+  pub is : partOf n noDays (joined parts) .answer ≡ answer
+
+-- The contract of `take_input`: the reading stops at the input's end, at a record that is declined, or where a read fails.
+pub record TakesInput (n : ℕ) (buf : List ℕ) (r : Rest) : Type 0 where
+  pub fed : r .ended ≡ true → Fed (leftOf n) (SumsOf n (r .sums)) buf (r .len)
+  pub declined : (r .answer ≡ 0 → ⊥) → Declined n (r .answer)
+
+-- The contract of `finish`, by where the reading stopped.
+pub record Finishes (set units : ℕ) (rest : Rest) (old new : List ℕ) (r : Outcome) : Type 0 where
+  pub declined : (rest .answer ≡ 0 → ⊥) → (r .known ≡ true) × (r .answer ≡ rest .answer) × (new ≡ old)
+  pub failed : rest .answer ≡ 0 → rest .ended ≡ false → (r .known ≡ false) × (new ≡ old)
+  pub whole : rest .answer ≡ 0 → rest .ended ≡ true → (r .known ≡ true) × _≡_ {A = Answer} (r .answer, new) (ended set units (rest .len) (rest .sums) old)
+
+-- There are parts, those that were read. Where the answer is known, it and the shares are what document 02 says of the parts joined; bytes behind a record that
+-- is declined would not change it. Where it is not known the shares are as they were.
+pub record Gives (set units : ℕ) (old new : List ℕ) (r : Outcome) : Type 0 where
+  pub parts : List (List ℕ)
+  pub known : r .known ≡ true → _≡_ {A = Answer} (r .answer, new) (expectedUnits set units (joined parts) old)
+  pub unknown : r .known ≡ false → new ≡ old

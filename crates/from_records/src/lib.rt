@@ -25,6 +25,12 @@ struct Rest {
     answer: u8,
 }
 
+// Whether the answer to the run is known, and the answer: it is not known where a read failed.
+pub struct Outcome {
+    pub known: bool,
+    pub answer: u8,
+}
+
 // ---- the loop
 
 // Reads from standard input into the buffer from a place on.
@@ -135,41 +141,59 @@ fn tell_range(days: u64) {
     tell(days, b"declined by 5, a position is above 10000000\n");
 }
 
-fn tell_cut(days: u64) {
-    tell(days, b"declined by 1, the record is cut short\n");
+// Where the end of the run is declined, its record is cut short.
+fn tell_cut(answer: u8, days: u64) {
+    if answer != 0 {
+        tell(days, b"declined by 1, the record is cut short\n");
+    }
 }
 
 // ---- the run
 
-// The end of the run: the shares are given where the input has ended and no byte of a record is left.
-fn finish(set: u32, units: u64, rest: Rest, shares: &mut [u64; 32]) -> bool
+// The end of the run: a record has declined it, or the shares are given where no byte of a record is left.
+fn finish(set: u32, units: u64, rest: Rest, shares: &mut [u64; 32]) -> Outcome
     ensures { λ r. ⌜ Finishes set units rest (now (shares .entry)) (now (shares .exit)) r ⌝ }
 {
     if rest.answer != 0 {
         tell_range(rest.days);
+        return Outcome {
+            known: true,
+            answer: rest.answer,
+        };
     }
     if !rest.ended {
-        return false;
+        return Outcome {
+            known: false,
+            answer: 0,
+        };
     }
     let sums = rest.sums;
     let answer = positions::end(&sums, set, units, rest.len, shares);
-    if answer != 0 {
-        tell_cut(rest.days);
+    tell_cut(answer, rest.days);
+    Outcome {
+        known: true,
+        answer,
     }
-    answer == 0
 }
 
-// Reads day records from standard input to its end and gives each member its share of the units: whether that was done. Where it was not, the shares are
-// untouched; a record that is declined and a read that fails are told on standard error. Nothing is read where the set or the units are declined, or the
-// buffer has less than the 128 bytes of the longest record.
-pub fn run(set: u32, units: u64, buf: &mut [u8], shares: &mut [u64; 32]) -> bool
+// Reads day records from standard input to its end, or to the first that is declined, and answers as document 02 says of the whole run; where the answer is 0 each
+// member is given its share of the units. A record that is declined and a read that fails are told on standard error. Nothing is read where the set or the
+// units are declined, or the buffer has less than the 128 bytes of the longest record.
+pub fn run(set: u32, units: u64, buf: &mut [u8], shares: &mut [u64; 32]) -> Outcome
     ensures { λ r. ⌜ Gives set units (now (shares .entry)) (now (shares .exit)) r ⌝ }
 {
-    if buf.len() < 128 {
-        return false;
+    let why = positions::why_before(positions::count_of(set), units);
+    if why != 0 {
+        return Outcome {
+            known: true,
+            answer: why,
+        };
     }
-    if positions::why_before(positions::count_of(set), units) != 0 {
-        return false;
+    if buf.len() < 128 {
+        return Outcome {
+            known: false,
+            answer: 0,
+        };
     }
     let rest = take_input(set, buf);
     finish(set, units, rest, shares)

@@ -9,7 +9,7 @@ use Rattle.feed.specs.Feeds.{Fed}
 use Rattle.feed.proofs.Turning.{fed-read}
 use Rattle.positions.specs.Keeping.{noDays}
 use Rattle.from_records.specs.Turns.{leftOf, Reached}
-use Rattle.from_records.proofs.Turning.{fed-none, fed-turn, sums-read}
+use Rattle.from_records.proofs.Turning.{fed-none, fed-turn, sums-read, turn-declines}
 use Rattle.from_records.proofs.take_input.Statement.{statement}
 use Rattle.from_records.proofs.take_input.Tie as tie
 
@@ -37,7 +37,7 @@ returns : tie.Need-returns Inv-loop μ-loop
 returns c =
     let l = c .before .before .before .before .before .before .loop in
     let r = c .before .before .before .read-more in
-    λ ends. sums-read _ (l .row) (l .ring) (l .sums) _ (l .len) (fed-read (leftOf _) _ (l .buf) _ (l .len) (l .inv .0) (r .ensures .front) (r .kept .0))
+    record { fed = λ ends. sums-read _ (l .row) (l .ring) (l .sums) _ (l .len) (fed-read (leftOf _) _ (l .buf) _ (l .len) (l .inv .0) (r .ensures .front) (r .kept .0)); declined = λ no. absurd (no refl) }
 
 add-take-turn : tie.Need-add-take-turn Inv-loop μ-loop
 add-take-turn c =
@@ -56,7 +56,11 @@ same-length-2 : tie.Need-same-length-2 Inv-loop μ-loop
 same-length-2 c = search needs
 
 returns-2 : tie.Need-returns-2 Inv-loop μ-loop
-returns-2 c = λ ends. absurd (false≢true ends)
+returns-2 c =
+    let l = c .before .before .before .before .before .before .before .before .before .before .before .before .before .before .before .loop in
+    let r = c .before .before .before .before .before .before .before .before .before .before .before .before .read-more in
+    let t = c .before .before .before .before .before .take-turn in
+    record { fed = λ ends. absurd (false≢true ends); declined = λ no. turn-declines _ (c .before .before .before .before .before .before .before .before .before .before .before .before .before .before .before .before .before .pre) (l .buf) _ _ _ _ (l .len) (r .result .len) (t .result) (l .inv .0) (r .ensures .front) (t .ensures) }
 
 loop-less : tie.Need-loop-less Inv-loop μ-loop
 loop-less c = search needs
@@ -74,7 +78,7 @@ same-length-3 : tie.Need-same-length-3 Inv-loop μ-loop
 same-length-3 c = search needs
 
 returns-3 : tie.Need-returns-3 Inv-loop μ-loop
-returns-3 c = λ ends. absurd (false≢true ends)
+returns-3 c = record { fed = λ ends. absurd (false≢true ends); declined = λ no. absurd (no refl) }
 
 pub take-input-spec : {M : Type 1} → statement M
 take-input-spec =
