@@ -114,6 +114,10 @@ def outputs_that_fail(title, of):
     tell(title + ' > /dev/full', one_line(r, message + b'No space left on device'), r)
     r = run(['sh', '-c', 'exec "$@" >&-', 'sh'] + of.cmd, data)
     tell(title + ' >&-', one_line(r, message + b'Bad file descriptor'), r)
+
+
+def outputs_that_wait(title, of):
+    message, data = of.name + b': standard output: ', b''.join(of.calls)
     # nobody reads for a second: what is written is a front of the text, with nothing behind the hole
     read_end, write_end = pipe_that_does_not_wait(1)
     p = start(of.cmd, stdout=write_end)
@@ -149,7 +153,7 @@ def inputs_that_fail(title, of):
     tell(title + ', input that does not wait', one_line(r, message + b'Resource temporarily unavailable') and r.stdout == of.after(len(of.calls)) + of.nothing, r)
 
 
-def live_use(title, of):
+def whole_inputs(title, of):
     data = b''.join(of.calls)
     r = run(of.cmd, data)
     tell(title, r.returncode == 0 and r.stderr == b'' and r.stdout == of.whole != b'', r)
@@ -160,6 +164,10 @@ def live_use(title, of):
     p.stdin.close()
     out, said = p.stdout.read(), p.stderr.read()
     tell(title + ', one byte at a time', out == of.whole and said == b'' and p.wait() == 0, (out, said))
+
+
+def live_use(title, of):
+    data = b''.join(of.calls)
     # the answer to a call comes before the next is asked
     p = start(of.cmd)
     late = []
@@ -187,7 +195,25 @@ for of in PROGRAMS:
     title = ' '.join(of.cmd)
     outputs_that_fail(title, of)
     inputs_that_fail(title, of)
+    whole_inputs(title, of)
+    outputs_that_wait(title, of)
     live_use(title, of)
+
+# ---- days: nothing is written before the input's end
+
+DAYS = open('crates/expected/stdin', 'rb').read()
+SHARES = open('crates/expected/stdout', 'rb').read()
+EXPECTED = ['bin/expected', 'members', '0,2', 'units', '10']
+for cmd, days in ((EXPECTED, [DAYS[:8], DAYS[8:]]), (EXPECTED + ['--text'], [b'1, 3\r\n', b'# no day\n', b'2,2'])):
+    of = Program(cmd, b'expected', days, SHARES, lambda k: b'', b'', b'')
+    title = ' '.join(of.cmd)
+    outputs_that_fail(title, of)
+    inputs_that_fail(title, of)
+    whole_inputs(title, of)
+for cmd, days, message in ((EXPECTED, DAYS[:15], b'day 2: declined by 1, the record is cut short\n'), (EXPECTED, b'\0\x98\x96\x81' + DAYS, b'day 1: declined by 5, a position is above 10000000\n'),
+                           (EXPECTED + ['--text'], b'1,3\n2;2\n', b'line 2 column 2: expected a comma\n'), (['bin/expected', 'members', '0,2', 'units', '0'], DAYS, b'declined by 5, units are 1 to 1000\n')):
+    r = run(cmd, days)
+    tell('%s: %s' % (' '.join(cmd), message.decode().strip()), r.returncode == 1 and r.stdout == b'' and r.stderr == message, r)
 
 # an input that ends within a field is not taken for a whole case
 r = run(['bin/explain'], WORKED[:-1])
@@ -225,6 +251,15 @@ for script in ('ledger', 'explain', 'fields', 'run'):
     file = 'examples/house.txt' if script in ('fields', 'run') else 'crates/ledger/stdin'
     r, s = run(['bin/' + script, file]), run(['bin/' + script], open(file, 'rb').read())
     tell('bin/%s %s' % (script, file), r.returncode == 0 and r.stderr == b'' and r.stdout != b'' and r.stdout == s.stdout, (r, s))
+r = run(['bin/expected', '--help'])
+tell('bin/expected --help', r.returncode == 0 and r.stdout.startswith(b'usage: bin/expected') and r.stderr == b'', r)
+for words in ([], ['members', '0,2', 'units'], EXPECTED[1:] + ['--unknown'], EXPECTED[1:] + ['one', 'two']):
+    r = run(['bin/expected'] + words, DAYS)
+    tell('bin/expected %s' % ' '.join(words), r.returncode == 2 and r.stdout == b'' and r.stderr.startswith(b'usage: bin/expected'), r)
+r = run(EXPECTED + ['no-such-file'])
+tell('bin/expected, no-such-file', r.returncode == 2 and r.stdout == b'' and b'no-such-file' in r.stderr, r)
+r = run(EXPECTED + ['crates/expected/stdin'])
+tell('bin/expected crates/expected/stdin', r.returncode == 0 and r.stderr == b'' and r.stdout == SHARES, r)
 for words in (['--unknown'], ['--text', '--text'], ['x' * 100]):
     r = run(['target/bin/fields'] + words, HOUSE)
     tell('the program fields %s' % words[0][:9], r.stdout == b'' and r.stderr.startswith(b'usage: '), r)
