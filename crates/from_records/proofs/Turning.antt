@@ -168,7 +168,7 @@ pub gives-none : (set units : ℕ) (shares : List ℕ) → Gives set units share
 gives-none set units shares = record { parts = []; known = λ g. absurd (true≢false (sym g)); unknown = λ g. refl }
 
 module _ (set units : ℕ) (rest : Rest) (shares out buf : List ℕ) (r : Outcome) (z : whyBefore (length (members set)) units ≡ 0)
-  (input : TakesInput (length (members set)) buf rest) (end : Finishes set units rest shares out r) where
+    (input : TakesInput (length (members set)) buf rest) (end : Finishes set units rest shares out r) where
   by-record : (rest .answer ≡ 0 → ⊥) → Gives set units shares out r
   by-record h =
       let n = length (members set) in

@@ -2,17 +2,18 @@
 use mathlib.Core.Path.{_≡_, refl, sym, ap, _∙_}
 use mathlib.Core.Bool.{Bool, true, false, cond, not}
 use mathlib.Core.List.{List, _++_}
-use Prim.Native.Nat.{ℕ, _+_, _-_, _≤_}
+use Prim.Native.Nat.{ℕ, zero, suc, _+_, _-_, _≤_}
 use native.Mathlib.Omega.{arith}
 use lib.Dec.{eqb}
 use lib.ListN.{length, getD, take, drop, replicate, length-replicate}
 use lib.Seq.{sets}
 use borrow.Author.Tests.{eqb-true, eqb-false}
-use Rattle.lists.specs.Lists.{if_then_else_, oneIf, countTo}
+use Rattle.lists.specs.Lists.{if_then_else_, oneIf, sum, sumTo, countTo}
 use Rattle.lists.specs.Tests.{firstOf}
-use Rattle.lists.proofs.Places.{take-zeros, drop-zeros, getD-zeros, tab-ext}
-use Rattle.lists.proofs.Sums.{sumTo-next}
+use Rattle.lists.proofs.Places.{take-zeros, drop-zeros, getD-zeros, tab-ext, sum-tab}
+use Rattle.lists.proofs.Sums.{sumTo-next, sum-places}
 use Rattle.sets.specs.Set.{member, members, ofMembers}
+use Rattle.sets.proofs.Members.{length-members}
 use Rattle.splitting.specs.Split.{split}
 use Rattle.splitting.specs.Limits.{Answer, refusal, splitInto}
 use Rattle.splitting.proofs.Answers.{answered-0, answers-done, answers-untouched}
@@ -99,3 +100,27 @@ module _ (set units left : ℕ) (sums shares : List ℕ) (n : ℕ) (ne : n ≡ l
       let done : out ≡ sets shares 0 (byMember set (split units (take n sums)))
       = o ∙ ap (λ (xs : List ℕ). sets shares 0 (byMember set xs)) (g (split-none z)) ∙ ap (sets shares 0) (byMember-zeros set (32 - n) (split units (take n sums))) in
       rw (← ne) (answers-done (whyEnd n units left sums) (sets shares 0 (byMember set (split units (take n sums)))) shares answer out end-why z done)
+
+-- ---- the shares of all members
+
+-- the places passed hold the numbers of the members passed
+placed-sum : (set m : ℕ) (xs : List ℕ) → sumTo m (placed set xs) ≡ sumTo (countTo m (member set)) (λ k. getD xs k 0)
+unfolding sumTo oneIf
+placed-sum set zero xs = refl
+placed-sum set (suc m) xs = turn (member set m) (placed-sum set m xs)
+  where
+    turn : (b : Bool) → sumTo m (placed set xs) ≡ sumTo (countTo m (member set)) (λ k. getD xs k 0)
+        → sumTo m (placed set xs) + (if b then getD xs (countTo m (member set)) 0 else 0) ≡ sumTo (countTo m (member set) + oneIf b) (λ k. getD xs k 0)
+    turn true h = ap (λ (t : ℕ). t + getD xs (countTo m (member set)) 0) h ∙ sym (sumTo-next (countTo m (member set)) (λ k. getD xs k 0))
+    turn false h =
+        let none : sumTo m (placed set xs) + 0 ≡ sumTo m (placed set xs) = omega arith in
+        let same : countTo m (member set) + 0 ≡ countTo m (member set) = omega arith in
+        rw (none, same) h
+
+pub byMember-sum : (set : ℕ) (xs : List ℕ) → length xs ≡ length (members set) → sum (byMember set xs) ≡ sum xs
+unfolding byMember ofMembers
+byMember-sum set xs e =
+    sum-tab 32 (placed set xs)
+    ∙ placed-sum set 32 xs
+    ∙ ap (λ (k : ℕ). sumTo k (λ j. getD xs j 0)) (sym (length-members set) ∙ sym e)
+    ∙ sym (sum-places xs)

@@ -207,6 +207,16 @@ module _ (n : ℕ) (some : 1 ≤ n) where
   unfolding taken
   after-none answer z = record { answers = z ∙ rw no-days; goes = λ e. rw (no-days, z) }
 
+  -- after parts that are not declined
+  pub after-parts : (parts : List (List ℕ)) → foldl (fed n) (record { kept = noDays; left = []; answer = 0 }) parts .answer ≡ 0
+      → foldl (fed n) (record { kept = noDays; left = []; answer = 0 }) parts .kept ≡ begun (joined parts) .kept
+  after-parts parts z =
+      let a = after-all parts (record { kept = noDays; left = []; answer = 0 }) [] (after-none 0 refl) in
+      ap (λ (f : Fed). f .kept) (a .goes (sym (a .answers) ∙ z))
+
+  pub after-answer : (parts : List (List ℕ)) → foldl (fed n) (record { kept = noDays; left = []; answer = 0 }) parts .answer ≡ 0 → begun (joined parts) .answer ≡ 0
+  after-answer parts z = sym (after-all parts (record { kept = noDays; left = []; answer = 0 }) [] (after-none 0 refl) .answers) ∙ z
+
 -- ---- a run in parts is the whole run
 
 before-stays : (n : ℕ) (parts : List (List ℕ)) (f : Fed) → (f .answer ≡ 0 → ⊥) → foldl (fed n) f parts ≡ f
