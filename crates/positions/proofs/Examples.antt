@@ -65,6 +65,11 @@ pub out-of-range-first : expectedUnits 5 10 (most 129 ++ (0 ∷ 0 ∷ 0 ∷ 3 �
 unfolding computing
 out-of-range-first = refl
 
+-- also where it has left the last 66 days since
+pub left-the-window : expectedUnits 1 10 (most 129 ++ replicate 268 0) before ≡ (5, before)
+unfolding computing
+left-the-window = refl
+
 -- in the record that is cut short it is not looked at
 pub cut-not-looked-at : expectedUnits 5 10 (twoDays ++ most 129 ++ (0 ∷ 0 ∷ 0 ∷ [])) before ≡ (1, before)
 unfolding computing
