@@ -74,12 +74,14 @@ module _ (least most limit : ℕ) where
       by-test Kept (ltb (s .phase) 2) (λ e. first-kept s d at k)
       (λ e. by-test Kept (eqb (s .phase) 2) (λ f. grow-kept s (s .start) (s .value * 10 + d) (k .room (eqb-true (s .phase) 2 f)) k) (λ f. strange-kept s at k))
 
-  comma-kept : (s : Scan) (at : ℕ) → Kept s → Kept (onComma s at)
+  comma-kept : (s : Scan) (at : ℕ) → Kept s → Kept (onComma most s at)
   unfolding onComma
   comma-kept s at k =
       by-test Kept (eqb (s .phase) 3)
-      (λ e.
+      (λ e. by-test Kept (hasRoom most s)
+      (λ f.
       record { few = k .few; room = λ z. absurd (omega arith); small = k .small; each = k .each; long = k .long; none = λ z. absurd (omega arith); whole = λ z. absurd (omega arith) })
+      (λ f. refused-kept s at 4 k))
       (λ e. strange-kept s at k)
 
   -- a comment or the line's end

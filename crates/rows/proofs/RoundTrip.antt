@@ -80,11 +80,11 @@ module _ (least most limit : ℕ) where
   abbrev next : Scan → (value place : ℕ) → Scan
   next s v i = record { phase = 1; start = i; value = v; count = suc (s .count); numbers = set (s .numbers) (s .count) v; reason = s .reason }
 
-  comma-read : (s : Scan) (start v i : ℕ) → s .count < 32 → step least most limit (inNumber s start v) 44 i ≡ next s v i
-  unfolding step byteRead settle onComma
+  comma-read : (s : Scan) (start v i : ℕ) → suc (s .count) < min most 32 → step least most limit (inNumber s start v) 44 i ≡ next s v i
+  unfolding step byteRead settle onComma hasRoom
   comma-read s start v i h =
       let e : min (s .count + 1) 32 ≡ suc (s .count) = omega arith in
-      rw e
+      rw (e, lt-ltb (suc (s .count)) (min most 32) h)
 
   -- the numbers that were read, when the line ends in one
   abbrev done : Scan → List ℕ → Row

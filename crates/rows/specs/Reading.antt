@@ -27,7 +27,7 @@ grow limit s at v = if leb v limit then inNumber s at v else refused s at 3
 unfoldable pub hasRoom : (most : ℕ) → Scan → Bool
 hasRoom most s = ltb (s .count) (min most 32)
 
--- a number begins. Reason 4: "more numbers than most", at "the comma before the one too many", and at 0 where there is none
+-- a number begins; where not even one may stand, reason 4 at the place 0
 unfoldable pub firstDigit : (most limit : ℕ) → Scan → (digit place : ℕ) → Scan
 firstDigit most limit s d at = if hasRoom most s then grow limit s at d else refused s (s .start) 4
 
@@ -37,9 +37,11 @@ onDigit most limit s d at =
     else if eqb (s .phase) 2 then grow limit s (s .start) (s .value * 10 + d)
     else strange s at
 
--- a comma, behind a number that has ended
-unfoldable pub onComma : Scan → (place : ℕ) → Scan
-onComma s at = if eqb (s .phase) 3 then withPhase s 1 at else strange s at
+-- a comma, behind a number that has ended. Reason 4: the comma before the first number that is too many
+unfoldable pub onComma : (most : ℕ) → Scan → (place : ℕ) → Scan
+onComma most s at =
+    if eqb (s .phase) 3 then (if hasRoom most s then withPhase s 1 at else refused s at 4)
+    else strange s at
 
 -- the line's end, or a carriage return. Reason 5: "the line ends where a number is to come, behind a comma, or with fewer than least numbers"
 unfoldable pub ended : (least : ℕ) → Scan → (place : ℕ) → Scan
@@ -54,7 +56,7 @@ unfoldable pub byteRead : (least most limit : ℕ) → Scan → (byte place : �
 byteRead least most limit s b at =
     if between 48 57 b then onDigit most limit s (b - 48) at
     else if eqb b 32 || eqb b 9 then settle s
-    else if eqb b 44 then onComma (settle s) at
+    else if eqb b 44 then onComma most (settle s) at
     else if eqb b 13 then ended least (settle s) at
     else onMark s b at
 

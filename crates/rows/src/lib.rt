@@ -205,11 +205,14 @@ fn on_digit(most: usize, limit: u32, s: Scan, d: u64, at: usize) -> Scan
 }
 
 // A comma at a place, behind a number that has ended.
-fn on_comma(s: Scan, at: usize) -> Scan
-    ensures { λ r. ⌜ r ≡ onComma s at ⌝ }
+fn on_comma(most: usize, s: Scan, at: usize) -> Scan
+    ensures { λ r. ⌜ r ≡ onComma most s at ⌝ }
 {
+    let room = has_room(most, s);
+    let next = to_phase(s, 1, at);
+    let full = refuse(s, at, 4);
+    let yes = pick(room, next, full);
     let no = not_expected(s, at);
-    let yes = to_phase(s, 1, at);
     pick(s.phase == 3, yes, no)
 }
 
@@ -256,7 +259,7 @@ fn on_byte(least: usize, most: usize, limit: u32, s: Scan, b: u8, at: usize) -> 
         return t;
     }
     if b == 44 {
-        return on_comma(t, at);
+        return on_comma(most, t, at);
     }
     if b == 13 {
         return end_at(least, t, at);

@@ -191,13 +191,13 @@ fn set_of(rng: &mut Rng) -> Vec<u32> {
     members
 }
 
-/// The list as it is written; some members twice, spaces behind commas.
+/// The list as it is written; some members twice, spaces behind commas, and no more than 32 numbers.
 fn list_of(rng: &mut Rng, members: &[u32], marks: &mut Vec<&'static str>) -> String {
     let mut named = members.to_vec();
     match rng.below(4) {
         0 => named.sort_unstable(),
-        1 => {
-            for _ in 0..1 + rng.below(3) {
+        1 if members.len() < 32 => {
+            for _ in 0..(1 + rng.below(3)).min(32 - members.len() as u64) {
                 let again = rng.pick(members);
                 let place = rng.below(named.len() as u64 + 1) as usize;
                 named.insert(place, again);
@@ -559,8 +559,9 @@ fn bad_line(rng: &mut Rng, text: &Text, members: usize) -> Bad {
     let mut end: &'static [u8] = if rng.chance(text.carriage) { b"\r\n" } else { b"\n" };
     let number = "expected a whole number".to_string();
     let comma = "expected a comma".to_string();
-    let complete = format!("the day is complete: {members} members, and so {members} positions");
-    let ends = format!("the line ends before the day does: {members} members, and so {members} positions");
+    let wanted = if members == 1 { "1 member, and so 1 position".to_string() } else { format!("{members} members, and so {members} positions") };
+    let complete = format!("the day is complete: {wanted}");
+    let ends = format!("the line ends before the day does: {wanted}");
     let returned = "a carriage return stands only at the line's end".to_string();
     let (name, at, reason) = loop {
         match rng.below(11) {
@@ -660,7 +661,10 @@ fn bad_line(rng: &mut Rng, text: &Text, members: usize) -> Bad {
                     end = b"\r\n";
                 }
                 line.bytes.insert(at, b'\r');
-                break ("bad: a carriage return in a day", at, returned);
+                // Where some positions stand before it and others are missing, the line ends too early there.
+                let before = line.numbers.iter().filter(|number| number.0 < at).count();
+                let reason = if before == 0 || before == members { returned } else { ends };
+                break ("bad: a carriage return in a day", at, reason);
             }
             9 => {
                 line.bytes = if rng.chance(70) { text.comment(rng) } else { b"  \t ".to_vec() };
