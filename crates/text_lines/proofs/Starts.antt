@@ -13,7 +13,7 @@ use Rattle.input.specs.Pieces.{pieces}
 use Rattle.input.proofs.Strings.{bytes-two}
 use Rattle.input.proofs.Fronts.{rest-all}
 use Rattle.input.proofs.Pieces.{front-zero, front-none, front-next, bytes-most, fields-then}
-use Rattle.text_lines.specs.Lines.{lineSize, startOf}
+use Rattle.text_lines.specs.Lines.{lengthTo, lineSize, startOf, lineAt}
 use Rattle.text_lines.proofs.Lines.{size-most}
 
 pub start-first : (text : List ℕ) → 0 ≡ startOf 0 text
@@ -48,3 +48,11 @@ start-next text i at n is e =
     let all : bytesOf (pieces size (i + 1) text) ≡ bytesOf (pieces size i text) + bytesOf (pieces size 1 behind) =
     ap bytesOf (fields-then size (size-most true) i 1 text) ∙ bytes-two (pieces size i text) (pieces size 1 behind) in
     omega arith
+
+-- the line that is lent to be put
+pub line-lent : (text : List ℕ) (k start n : ℕ) → start ≡ startOf k text → n ≡ lengthTo (take (length text - start) (drop start text)) → take (start + n - start) (drop start text) ≡ lineAt k text
+unfolding lineAt
+line-lent text k start n s e =
+    let same : n ≡ lengthTo (drop (startOf k text) text) = e ∙ ap lengthTo (rest-all text start ∙ ap (λ (j : ℕ). drop j text) s) in
+    let back : start + n - start ≡ n = omega arith in
+    ap (λ (j : ℕ). take j (drop start text)) (back ∙ same) ∙ ap (λ (j : ℕ). take (lengthTo (drop (startOf k text) text)) (drop j text)) s

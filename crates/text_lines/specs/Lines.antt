@@ -3,7 +3,7 @@ use mathlib.Core.Bool.{Bool, true, false}
 use mathlib.Core.List.{List, [], _∷_}
 use Prim.Native.Nat.{ℕ, suc, _+_}
 use lib.Dec.{eqb, ltb}
-use lib.ListN.{length, take}
+use lib.ListN.{length, take, drop}
 use Rattle.lists.specs.Lists.{if_then_else_}
 use Rattle.input.specs.Strings.{bytesOf}
 use Rattle.input.specs.Pieces.{pieces, allPieces, leftOf}
@@ -29,6 +29,10 @@ linesOf text = allPieces (lineSize true) text
 -- where a line of a text begins, by its number from 0 on; at the text's end where there is none
 unfoldable pub startOf : ℕ → List ℕ → ℕ
 startOf k text = bytesOf (pieces (lineSize true) k text)
+
+-- a line of a text by its number, without its end
+unfoldable pub lineAt : ℕ → List ℕ → List ℕ
+lineAt k text = take (lengthTo (drop (startOf k text) text)) (drop (startOf k text) text)
 
 -- the bytes of the first line, and 0 where it is refused or not all there
 unfoldable pub goodSize : (refused : List ℕ → Bool) → Bool → List ℕ → ℕ

@@ -1,6 +1,7 @@
 // A text as its lines.
 ghost use mathlib.Core.Path.{_≡_};
-ghost use Rattle.text_lines.specs.Lines.{lengthTo, lineSize, startOf};
+ghost use Rattle.lines.specs.Placed.{Placed, placed};
+ghost use Rattle.text_lines.specs.Lines.{lengthTo, lineSize, startOf, lineAt};
 
 // A line longer than this is refused.
 pub const LONGEST: usize = 65536;
@@ -44,4 +45,14 @@ pub fn start_of(text: &[u8], k: usize) -> usize
         i += 1;
     }
     at
+}
+
+// A line of a text, by its number from 0 on and without its end, at a place of the buffer, and the place behind it. Where it does not fit, the place and the
+// buffer stay as they are.
+pub fn put_line(out: &mut [u8], at: usize, text: &[u8], k: usize) -> usize
+    ensures { λ r. ⌜ _≡_ {A = Placed} (r, now (out .exit)) (placed (lineAt k (now (text .entry))) (now (out .entry)) at) ⌝ }
+{
+    let start = start_of(text, k);
+    let end = start + length_to(&text[start..]);
+    words::put(out, at, &text[start..end])
 }

@@ -1,9 +1,6 @@
 // Why a line is refused, in words: the place, what was expected, and how it is written.
-ghost use Prim.Native.Nat.{_≤_};
-ghost use lib.ListN.{length};
 use crate::more;
-use text_lines::length_to;
-use text_lines::line_size;
+use text_lines::put_line;
 use words::number;
 
 // The numbers of the pieces that the messages are made of.
@@ -46,26 +43,6 @@ const MONEY: usize = 17;
 const PRICE: usize = 18;
 
 const MOST: usize = 18;
-
-// Where a line of some text starts, by its number from 0 on; at the text's end where there is none.
-fn start_of(text: &[u8], k: usize) -> usize
-    ensures { λ r. ⌜ r ≤ length (now (text .entry)) ⌝ }
-{
-    let mut at: usize = 0;
-    let mut i: usize = 0;
-    while i < k {
-        at += line_size(true, &text[at..]);
-        i += 1;
-    }
-    at
-}
-
-// A line of some text put at a place of the buffer, without its end.
-fn put_line(out: &mut [u8], at: usize, text: &[u8], k: usize) -> usize {
-    let start = start_of(text, k);
-    let end = start + length_to(&text[start..]);
-    words::put(out, at, &text[start..end])
-}
 
 // A piece by its number. The last ones are the largest numbers, by kind.
 fn put(out: &mut [u8], at: usize, k: usize) -> usize {
