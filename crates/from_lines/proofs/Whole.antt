@@ -1,6 +1,6 @@
 -- The records of lines that are not refused are whole and in range, so that all of their bytes are taken. Assumes nothing.
 use mathlib.Core.Path.{_≡_, refl, sym, ap, subst, _∙_}
-use mathlib.Core.Bool.{true, false, _&&_}
+use mathlib.Core.Bool.{true, false}
 use mathlib.Core.Logic.{⊎-elim}
 use mathlib.Core.List.{List, [], _∷_, _++_}
 use Prim.Native.Nat.{ℕ, _+_, _*_, _/_, _≤_, _<_}
@@ -15,7 +15,7 @@ use Rattle.machine.specs.Wire.{number}
 use Rattle.rows.specs.Days.{refusedDay, recordOf}
 use Rattle.rows.proofs.Days.{WholeDay, record-whole}
 use Rattle.positions.specs.Days.{Day, mostPosition, size, dayAt, daysOf, inRange}
-use Rattle.positions.specs.Keeping.{Kept, Taken, taken, partOf}
+use Rattle.positions.specs.Keeping.{Kept, Taken, partOf}
 use Rattle.positions.proofs.Days.{ok, day-length, day-get, days-count}
 use Rattle.positions.proofs.Records.{taken-all}
 use Rattle.positions.proofs.Parts.{days-append, no-days}
