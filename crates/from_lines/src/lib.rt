@@ -3,19 +3,20 @@
 mod messages;
 
 ghost use mathlib.Core.Path.{_≡_};
+ghost use mathlib.Core.Bool.{false};
 ghost use Prim.Native.Nat.{_+_, _%_, _^_, _≤_};
 ghost use lib.ListN.{length, take};
 ghost use Rattle.feed.specs.Feeds.{Reads};
+ghost use Rattle.text_lines.specs.Lines.{lineSize};
 ghost use Rattle.rows.specs.Days.{WritesDays};
 ghost use Rattle.positions.specs.Days.{whyBefore};
 ghost use Rattle.positions.specs.Keeping.{noDays};
-ghost use Rattle.text_lines.specs.Lines.{lineSize};
-ghost use mathlib.Core.Bool.{false};
 ghost use Rattle.from_lines.specs.Turns.{count, keeping, TakesAll, TakesTurn, TakesInput, Finishes, Gives};
 use feed::Got;
 use rows::Part;
 
-// What became of a run: whether its text is known, which was read to its end or up to a line that is refused, and whether the shares are given.
+// What became of a run: whether it is known what its text gives, since the input was read to its end, a line is refused, or the set or the units are declined; and
+// whether the shares are given. It is not known where a read failed or a buffer is too small.
 pub struct Outcome {
     pub known: bool,
     pub given: bool,
