@@ -1,74 +1,117 @@
 -- The end of the run: the last line, and the shares. Assumes nothing.
-use mathlib.Core.Path.{_≡_, sym, ap, _∙_}
+use mathlib.Core.Path.{_≡_, refl, sym, ap, _∙_}
 use mathlib.Core.Bool.{Bool, true, false, false≢true}
 use mathlib.Core.List.{List, [], _++_, append-nil}
-use Prim.Native.Nat.{ℕ, _-_, _≤_}
+use Prim.Native.Nat.{ℕ, suc, _+_, _-_, _≤_}
 use native.Mathlib.Omega.{arith}
 use lib.Dec.{eqb}
-use lib.ListN.{length, take, drop}
+use lib.ListN.{length, take, drop, length-take}
 use lib.Seq.{drop-length}
-use borrow.Author.Tests.{eqb-true, eqb-false}
-use Rattle.lists.specs.Lists.{joined}
+use borrow.Author.Tests.{eq-eqb, ne-eqb, eqb-true, eqb-false}
+use Rattle.lists.specs.Lists.{all, any, joined}
+use Rattle.lists.proofs.Bools.{cases}
 use Rattle.splitting.specs.Limits.{Answer}
-use Rattle.splitting.proofs.Answers.{answered-not-0}
 use Rattle.input.specs.Strings.{bytesOf}
-use Rattle.input.specs.Pieces.{pieces, allPieces, leftOf}
-use Rattle.input.proofs.Pieces.{fields-chunk}
+use Rattle.input.specs.Pieces.{pieces, allPieces}
+use Rattle.input.proofs.Pieces.{fields-chunk, front-none, front-next, bytes-most, left-stop}
 use Rattle.forms.proofs.Puts.{joined-map-two}
 use Rattle.translation.proofs.Writing.{put-front}
-use Rattle.text_lines.proofs.Parts.{good-most, lines-all, lines-good}
+use Rattle.text_lines.specs.Lines.{lineSize, linesOf}
+use Rattle.text_lines.proofs.Parts.{good-most, taken-good, each-good, last-size, lines-then, lines-taken, stop-refused, any-then}
 use Rattle.rows.specs.declared.Part.{Part}
 use Rattle.rows.specs.Days.{refusedDay, recordOf, daySize, WritesDays}
-use Rattle.positions.specs.Days.{daysOf, whyBefore, expectedUnits}
-use Rattle.positions.specs.Keeping.{Kept, noDays, Taken, taken, whyEnd, ended}
+use Rattle.positions.specs.Days.{daysOf, inRange, whyBefore, whyRun, expectedUnits}
+use Rattle.positions.specs.Keeping.{Kept, noDays, Taken, taken, partOf, ended}
 use Rattle.positions.proofs.Parts.{first-days}
-use Rattle.positions.proofs.Whole.{ready-some, whole-end}
-use Rattle.from_lines.specs.Turns.{count, records, goodLines, rest, Leads, Holds, FedTo, Finishes, Gives}
-use Rattle.from_lines.proofs.Turning.{holds-then}
+use Rattle.positions.proofs.Records.{taken-bad}
+use Rattle.positions.proofs.Whole.{ready-some, used-is, why-none, whole-end}
+use Rattle.from_lines.specs.Turns.{count, keeping, records, goodLines, rest, Holds, FedTo, anyRefused, Given, nothingOr, linesGive, Finishes, Gives}
+use Rattle.from_lines.proofs.Turning.{leads-whole, holds-some, holds-then}
 
 module _ (set units : ℕ) where
-  -- the end of a run is the answer to the whole run
-  holds-end : (bytes shares : List ℕ) (y : Kept) → whyBefore (count set) units ≡ 0 → Holds (count set) bytes y
-      → ended set units 0 (y .sums) shares ≡ expectedUnits set units bytes shares
-  holds-end bytes shares y ready h =
-      let whole : taken (count set) noDays 0 (daysOf (count set) bytes) ≡ record { kept = y; used = length bytes; answer = 0 }
-      = sym (first-days (count set) (ready-some (count set) units ready) bytes) ∙ h in
-      ap (λ (k : ℕ). ended set units k (y .sums) shares) {x = 0} {y = length bytes - length bytes} (omega arith)
-      ∙ ap (λ (t : Taken). ended set units (length bytes - t .used) (t .kept .sums) shares) (sym whole)
-      ∙ whole-end set units bytes shares ready (ap (λ (t : Taken). t .answer) whole)
+  abbrev n : ℕ
+  n = count set
 
-  -- an end that is declined leaves the shares
-  end-untouched : (left : ℕ) (sums shares shares' : List ℕ) (a : ℕ) → _≡_ {A = Answer} (a, shares') (ended set units left sums shares) → (a ≡ 0 → ⊥) → shares' ≡ shares
-  unfolding ended
-  end-untouched left sums shares shares' a e h =
-      ap (λ (p : Answer). p .1) (e ∙ answered-not-0 (whyEnd (count set) units left sums) _ shares (λ z. h (ap (λ (p : Answer). p .0) e ∙ z)))
+  -- ---- the end of a run is the answer to the whole run, and that is 0
+
+  module _ (bytes shares : List ℕ) (y : Kept) (ready : whyBefore (count set) units ≡ 0) (h : Holds (count set) bytes y) where
+    whole : taken n noDays 0 (daysOf n bytes) ≡ record { kept = y; used = length bytes; answer = 0 }
+    whole = sym (first-days n (ready-some n units ready) bytes) ∙ h
+
+    none-bad : taken n noDays 0 (daysOf n bytes) .answer ≡ 0
+    none-bad = ap (λ (t : Taken). t .answer) whole
+
+    holds-end : ended set units 0 (y .sums) shares ≡ expectedUnits set units bytes shares
+    holds-end =
+        ap (λ (k : ℕ). ended set units k (y .sums) shares) {x = 0} {y = length bytes - length bytes} (omega arith)
+        ∙ ap (λ (t : Taken). ended set units (length bytes - t .used) (t .kept .sums) shares) (sym whole)
+        ∙ whole-end set units bytes shares ready none-bad
+
+    holds-why : whyRun n units bytes ≡ 0
+    holds-why =
+        why-none n (ready-some n units ready) bytes units ready
+        (cases (all inRange (daysOf n bytes)) (all inRange (daysOf n bytes) ≡ true) (λ t. t) (λ f. absurd (omega (arith, none-bad, taken-bad n noDays 0 (daysOf n bytes) f))))
+        (omega (arith, ap (λ (t : Taken). t .used) whole, used-is set units bytes shares ready none-bad))
+
+    holds-given : (a : ℕ) (shares' : List ℕ) → _≡_ {A = Answer} (a, shares') (ended set units 0 (y .sums) shares)
+        → _≡_ {A = Given} (eqb a 0, shares') (true, expectedUnits set units bytes shares .1)
+    unfolding expectedUnits
+    holds-given a shares' e =
+        let is : _≡_ {A = Answer} (a, shares') (expectedUnits set units bytes shares) = e ∙ holds-end in
+        let zero-is : a ≡ 0 = ap (λ (p : Answer). p .0) is ∙ holds-why in
+        ap (λ (b : Bool). (b, shares')) (eq-eqb a 0 zero-is) ∙ ap (λ (l : List ℕ). (true, l)) (ap (λ (p : Answer). p .1) is)
 
   -- ---- the lines that are left
 
-  pub finish-not : (left shares : List ℕ) (x : Kept) → Finishes set units left x shares shares false
-  finish-not left shares x = record { all = λ e. absurd (false≢true e); given = λ e. absurd (false≢true e); untouched = λ e. (cc) }
+  module _ (left out new : List ℕ) (r : Part) (w : WritesDays (count set) true left out new r) where
+    abbrev good : List ℕ → ℕ
+    good = daySize n true
 
-  pub finish-done : (left out new bytes shares shares' : List ℕ) (x y : Kept) (r : Part) (a : ℕ) → whyBefore (count set) units ≡ 0
-      → WritesDays (count set) true left out new r → r .used ≡ length left → bytes ≡ take (r .written) new → Leads (count set) x bytes y
-      → _≡_ {A = Answer} (a, shares') (ended set units 0 (y .sums) shares) → Finishes set units left x shares shares' (eqb a 0)
-  unfolding pieces
-  finish-done left out new bytes shares shares' x y r a ready w used lent leads e =
-      let size = daySize (count set) true in
-      let ps = pieces size (r .count) left in
-      let none-left : drop (bytesOf ps) left ≡ [] = ap (λ (k : ℕ). drop k left) (sym (w .bytes) ∙ used) ∙ drop-length left in
-      let all : allPieces size left ≡ ps =
-      fields-chunk size (good-most (refusedDay (count set)) true) (r .count) left ∙ ap (λ (l : List ℕ). ps ++ allPieces size l) none-left ∙ append-nil ps in
-      let is : bytes ≡ records (count set) (allPieces size left) =
-      lent ∙ put-front (records (count set) ps) out new (r .written) (w .put) ∙ ap (records (count set)) (sym all) in
-      record {
-        all = λ t. ap (λ (qs : List (List ℕ)). drop (bytesOf qs) left) all ∙ none-left;
-        given = λ t run h.
-            ap (λ (k : ℕ). (k, shares')) (sym (eqb-true a 0 t))
-            ∙ e
-            ∙ holds-end (run ++ bytes) shares y ready (holds-then (count set) run bytes x y h leads)
-            ∙ ap (λ (s : List ℕ). expectedUnits set units (run ++ s) shares) is;
-        untouched = λ t. end-untouched 0 (y .sums) shares shares' a e (eqb-false a 0 t);
-      }
+    abbrev ps : List (List ℕ)
+    ps = pieces good (r .count) left
+
+    -- where no line is all there, a last line that is good is taken as a whole
+    last-taken : lineSize false left ≡ 0 → 128 ≤ length out → (good left ≡ 0 → ⊥) → r .used ≡ length left
+    unfolding bytesOf
+    last-taken unended room some =
+        let all-of-it : good left ≡ length left = taken-good (refusedDay n) true left some .0 ∙ last-size (refusedDay n) left unended in
+        let counted : r .count ≡ 0 → ⊥ = λ z. some (w .some room z) in
+        let there : r .count ≡ suc (r .count - 1) = omega arith in
+        let first : bytesOf ps ≡ length (take (good left) left) + bytesOf (pieces good (r .count - 1) (drop (good left) left)) =
+        ap (λ (k : ℕ). bytesOf (pieces good k left)) there ∙ ap bytesOf (front-next good (good-most (refusedDay n) true) (r .count - 1) left some) in
+        omega (arith, w .bytes, first, all-of-it, length-take (good left) left, bytes-most good (good-most (refusedDay n) true) (r .count) left)
+
+    -- the line is refused
+    pub finish-not : (shares : List ℕ) (x : Kept) → lineSize false left ≡ 0 → 128 ≤ length out → (r .used ≡ length left → ⊥) → Finishes set units left x shares shares false
+    unfolding bytesOf
+    finish-not shares x unended room not-all run h =
+        let none-good : good left ≡ 0 =
+        cases (eqb (good left) 0) (good left ≡ 0) (eqb-true (good left) 0) (λ e. absurd (not-all (last-taken unended room (eqb-false (good left) 0 e)))) in
+        let none-used : r .used ≡ 0 = w .bytes ∙ ap bytesOf (front-none good (good-most (refusedDay n) true) (r .count) left none-good) in
+        let bad : anyRefused n left ≡ true =
+        stop-refused (refusedDay n) true left none-good (λ z. not-all (none-used ∙ sym (sym (last-size (refusedDay n) left unended) ∙ z))) in
+        ap (λ (b : Bool). nothingOr b set units (run ++ records n (linesOf left)) shares) (sym bad)
+
+    -- it is taken
+    pub finish-done : (bytes ring sums shares shares' : List ℕ) (x : Kept) (row used answer a : ℕ) → whyBefore (count set) units ≡ 0 → r .used ≡ length left
+        → bytes ≡ take (r .written) new → record { kept = keeping row ring sums; used = used; answer = answer } ≡ partOf (count set) x bytes
+        → _≡_ {A = Answer} (a, shares') (ended set units 0 sums shares) → Finishes set units left x shares shares' (eqb a 0)
+    unfolding pieces any
+    finish-done bytes ring sums shares shares' x row used answer a ready all-used lent took e run h =
+        let y = keeping row ring sums in
+        let none-left : drop (bytesOf ps) left ≡ [] = ap (λ (k : ℕ). drop k left) (sym (w .bytes) ∙ all-used) ∙ drop-length left in
+        let same : allPieces good left ≡ ps =
+        fields-chunk good (good-most (refusedDay n) true) (r .count) left ∙ ap (λ (l : List ℕ). ps ++ allPieces good l) none-left ∙ append-nil ps in
+        let lines : linesOf left ≡ ps =
+        lines-taken (refusedDay n) left (ap (λ (qs : List (List ℕ)). drop (bytesOf qs) left) same ∙ none-left) ∙ same in
+        let is : bytes ≡ records n ps = lent ∙ put-front (records n ps) out new (r .written) (w .put) in
+        let none-bad : anyRefused n left ≡ false =
+        any-then (refusedDay n) true left
+        ∙ ap (λ (l : List ℕ). anyRefused n l) (ap (λ (qs : List (List ℕ)). drop (bytesOf qs) left) same ∙ none-left) in
+        let leads = leads-whole n row used answer x bytes ring sums ps is (each-good (refusedDay n) true (r .count) left) took (holds-some n run x h) in
+        holds-given (run ++ bytes) shares y ready (holds-then n run bytes x y h leads) a shares' e
+        ∙ ap (λ (s : List ℕ). (true, expectedUnits set units (run ++ s) shares .1)) (is ∙ ap (records n) (sym lines))
+        ∙ ap (λ (b : Bool). nothingOr b set units (run ++ records n (linesOf left)) shares) (sym none-bad)
 
   -- ---- the end
 
@@ -78,33 +121,57 @@ module _ (set units : ℕ) where
       let e : whyBefore (count set) units ≡ 0 = ap (λ (j : ℕ). whyBefore j units) (sym ke) ∙ sym be ∙ z in
       (e, ready-some (count set) units e)
 
-  pub gives-not : (shares : List ℕ) → Gives set units shares shares false
-  unfolding joined
-  gives-not shares =
+  -- one that is
+  pub gives-declined : (shares : List ℕ) (k before : ℕ) → k ≡ count set → before ≡ whyBefore k units → (before ≡ 0 → ⊥)
+      → Gives set units shares shares (record { known = true; given = false })
+  unfolding joined linesGive
+  gives-declined shares k before ke be not-ready =
       record {
         parts = [];
         bytes = tt;
-        good = λ e. absurd (false≢true e);
-        given = λ e. absurd (false≢true e);
-        untouched = λ e. (cc);
+        known = λ _. rw (ne-eqb (whyBefore n units) 0 (λ z. not-ready (be ∙ ap (λ (j : ℕ). whyBefore j units) ke ∙ z))) refl;
+        unknown = λ e. absurd (false≢true (sym e));
       }
 
-  pub gives : (buf kept shares shares' : List ℕ) (x : Kept) (lines len : ℕ) (r : Bool) → FedTo (count set) buf lines x len → kept ≡ take len buf
-      → Finishes set units kept x shares shares' r → Gives set units shares shares' r
-  gives buf kept shares shares' x lines len r f lends end =
-      let n = count set in
-      let text = joined (f .parts) in
-      let size = daySize n true in
-      let is : kept ≡ rest n text = lends ∙ f .kept in
-      let all : r ≡ true → leftOf size (rest n text) ≡ [] = λ e. ap (leftOf size) (sym is) ∙ end .all e in
-      record {
-        parts = f .parts;
-        bytes = f .bytes;
-        good = λ e. lines-good (refusedDay n) text (all e);
-        given = λ e.
-            end .given e (records n (goodLines n text)) (f .is .holds)
-            ∙ ap (λ (s : List ℕ). expectedUnits set units (records n (goodLines n text) ++ records n (allPieces size s)) shares) is
-            ∙ ap (λ (s : List ℕ). expectedUnits set units s shares)
-            (sym (joined-map-two (recordOf n) (goodLines n text) (allPieces size (rest n text))) ∙ ap (records n) (sym (lines-all (refusedDay n) text (all e))));
-        untouched = end .untouched;
-      }
+  pub gives-unknown : (shares : List ℕ) → Gives set units shares shares (record { known = false; given = false })
+  unfolding joined
+  gives-unknown shares = record { parts = []; bytes = tt; known = λ e. absurd (false≢true e); unknown = λ _. (refl, refl) }
+
+  module _ (ready : whyBefore (count set) units ≡ 0) where
+    -- what is left behind the lines that were taken decides
+    lines-left : (text shares : List ℕ) → nothingOr (anyRefused n (rest n text)) set units (records n (goodLines n text) ++ records n (linesOf (rest n text))) shares ≡ linesGive set units text shares
+    unfolding linesGive
+    lines-left text shares =
+        ap (λ (b : Bool). nothingOr b set units (records n (goodLines n text) ++ records n (linesOf (rest n text))) shares) (sym (any-then (refusedDay n) false text))
+        ∙ ap (λ (s : List ℕ). nothingOr (anyRefused n text) set units s shares)
+        (sym (joined-map-two (recordOf n) (goodLines n text) (linesOf (rest n text))) ∙ ap (records n) (sym (lines-then (refusedDay n) false text)))
+        ∙ rw (eq-eqb (whyBefore n units) 0 ready) refl
+
+    pub gives-refused : (buf shares : List ℕ) (x : Kept) (lines len : ℕ) (refused : Bool) → FedTo (count set) buf lines x refused len → refused ≡ true
+        → Gives set units shares shares (record { known = true; given = false })
+    gives-refused buf shares x lines len refused f stopped =
+        let text = joined (f .parts) in
+        let there : lineSize false (rest n text) ≡ 0 → ⊥ = λ z. false≢true (sym (sym stopped ∙ f .is .stops ∙ rw z refl)) in
+        let bad : anyRefused n (rest n text) ≡ true =
+        stop-refused (refusedDay n) false (rest n text) (left-stop (daySize n false) (good-most (refusedDay n) false) text) there in
+        record {
+          parts = f .parts;
+          bytes = f .bytes;
+          known = λ _.
+              ap (λ (b : Bool). nothingOr b set units (records n (goodLines n text) ++ records n (linesOf (rest n text))) shares) (sym bad) ∙ lines-left text shares;
+          unknown = λ e. absurd (false≢true (sym e));
+        }
+
+    pub gives-end : (buf kept shares shares' : List ℕ) (x : Kept) (lines len : ℕ) (refused r : Bool) → FedTo (count set) buf lines x refused len → kept ≡ take len buf
+        → Finishes set units kept x shares shares' r → Gives set units shares shares' (record { known = true; given = r })
+    gives-end buf kept shares shares' x lines len refused r f lends end =
+        let text = joined (f .parts) in
+        record {
+          parts = f .parts;
+          bytes = f .bytes;
+          known = λ _.
+              end (records n (goodLines n text)) (f .is .holds)
+              ∙ ap (λ (s : List ℕ). nothingOr (anyRefused n s) set units (records n (goodLines n text) ++ records n (linesOf s)) shares) (lends ∙ f .kept)
+              ∙ lines-left text shares;
+          unknown = λ e. absurd (false≢true (sym e));
+        }

@@ -3,48 +3,49 @@
 mod messages;
 
 ghost use mathlib.Core.Path.{_≡_};
+ghost use mathlib.Core.Bool.{false};
 ghost use Prim.Native.Nat.{_+_, _%_, _^_, _≤_};
 ghost use lib.ListN.{length, take};
 ghost use Rattle.feed.specs.Feeds.{Reads};
+ghost use Rattle.text_lines.specs.Lines.{lineSize};
 ghost use Rattle.rows.specs.Days.{WritesDays};
 ghost use Rattle.positions.specs.Days.{whyBefore};
 ghost use Rattle.positions.specs.Keeping.{noDays};
-ghost use Rattle.from_lines.specs.Turns.{count, keeping, TakesRecords, TakesAll, TakesTurn, TakesInput, Finishes, Gives};
+ghost use Rattle.from_lines.specs.Turns.{count, keeping, TakesAll, TakesTurn, TakesInput, Finishes, Gives};
 use feed::Got;
 use rows::Part;
 
-// The row of the ring that the next day takes, and whether all bytes were records that were taken.
-struct Step {
-    row: usize,
-    whole: bool,
+// What became of a run: whether it is known what its text gives, since the input was read to its end, a line is refused, or the set or the units are declined; and
+// whether the shares are given. It is not known where a read failed or a buffer is too small.
+pub struct Outcome {
+    pub known: bool,
+    pub given: bool,
 }
 
-// The bytes of the lines that were taken, the number of lines up to then, the row of the ring that the next day takes, whether the run is broken, and whether the
-// next line is refused.
+// The bytes of the lines that were taken, the number of lines up to then, the row of the ring that the next day takes, and whether the next line is refused.
 struct Took {
     used: usize,
     lines: u64,
     row: usize,
-    broken: bool,
     refused: bool,
 }
 
-// How many bytes are kept at the buffer's front after a turn, the number of lines, the row that the next day takes, whether the run is broken, and whether the next
-// line is refused.
+// How many bytes are kept at the buffer's front after a turn, the number of lines, the row that the next day takes, and whether the next line is refused.
 struct Turn {
     len: usize,
     lines: u64,
     row: usize,
-    broken: bool,
     refused: bool,
 }
 
-// How many bytes are kept at the buffer's front when the reading stops, the number of lines, the row that the next day takes, and whether the input ended.
+// How many bytes are kept at the buffer's front when the reading stops, the number of lines, the row that the next day takes, whether the input ended or a line is
+// refused, and whether it is that.
 struct Rest {
     len: usize,
     lines: u64,
     row: usize,
-    ended: bool,
+    known: bool,
+    refused: bool,
 }
 
 // ---- lines
@@ -55,23 +56,6 @@ fn take_some(last: bool, set: u32, input: &[u8], out: &mut [u8]) -> Part
 {
     let n = positions::count_of(set);
     rows::take_lines(last, input, n, out)
-}
-
-// Records taken. The lines that are read have whole records in range, so that all bytes are taken; the test spares a law that says so.
-fn take_records(
-    set: u32,
-    row: usize,
-    bytes: &[u8],
-    ring: &mut [u32; 2112],
-    sums: &mut [u64; 32],
-) -> Step
-    ensures { λ r. ⌜ TakesRecords (count set) (now (bytes .entry)) (keeping row (now (ring .entry)) (now (sums .entry))) (now (ring .exit)) (now (sums .exit)) r ⌝ }
-{
-    let part = positions::take_days(ring, sums, row, set, bytes);
-    Step {
-        row: part.row,
-        whole: lists::both(part.answer == 0, part.used == bytes.len()),
-    }
 }
 
 // ---- the loop
@@ -115,24 +99,14 @@ fn take_all(
                 used,
                 lines,
                 row,
-                broken: false,
                 refused: next != 0,
             };
         }
         used += part.used;
         lines = counted(lines, count);
         let n = part.written;
-        let step = take_records(set, row, &out[0..n], ring, sums);
-        row = step.row;
-        if !step.whole {
-            return Took {
-                used,
-                lines,
-                row,
-                broken: true,
-                refused: false,
-            };
-        }
+        let days = positions::take_days(ring, sums, row, set, &out[0..n]);
+        row = days.row;
     }
 }
 
@@ -156,7 +130,6 @@ fn take_turn(
         len: feed::slide(buf, used, end),
         lines: took.lines,
         row: took.row,
-        broken: took.broken,
         refused: took.refused,
     }
 }
@@ -185,20 +158,21 @@ fn take_input(
                 len,
                 lines,
                 row,
-                ended: got.ended,
+                known: got.ended,
+                refused: false,
             };
         }
         let turn = take_turn(set, lines, row, buf, len + more, out, ring, sums);
         len = turn.len;
         lines = turn.lines;
         row = turn.row;
-        let stops = lists::either(turn.broken, turn.refused);
-        if stops {
+        if turn.refused {
             return Rest {
                 len,
                 lines,
                 row,
-                ended: false,
+                known: true,
+                refused: true,
             };
         }
     }
@@ -206,7 +180,8 @@ fn take_input(
         len,
         lines,
         row,
-        ended: false,
+        known: false,
+        refused: false,
     }
 }
 
@@ -234,7 +209,7 @@ fn finish(
     sums: &mut [u64; 32],
     shares: &mut [u64; 32],
 ) -> bool
-    requires { ⌜ whyBefore (count set) units ≡ 0 ⌝ }
+    requires { ⌜ (whyBefore (count set) units ≡ 0) × (128 ≤ length (now out)) × (lineSize false (now rest) ≡ 0) ⌝ }
     ensures { λ r. ⌜ Finishes set units (now (rest .entry)) (keeping row (now (ring .entry)) (now (sums .entry))) (now (shares .entry)) (now (shares .exit)) r ⌝ }
 {
     let part = take_some(true, set, rest, out);
@@ -243,15 +218,18 @@ fn finish(
         return false;
     }
     let end = part.written;
-    let step = take_records(set, row, &out[0..end], ring, sums);
-    if !step.whole {
-        return false;
-    }
+    positions::take_days(ring, sums, row, set, &out[0..end]);
     positions::end(sums, set, units, 0, shares) == 0
 }
 
 // The run for a set with members and units within their limits.
-fn run_to_end(set: u32, units: u64, buf: &mut [u8], out: &mut [u8], shares: &mut [u64; 32]) -> bool
+fn run_to_end(
+    set: u32,
+    units: u64,
+    buf: &mut [u8],
+    out: &mut [u8],
+    shares: &mut [u64; 32],
+) -> Outcome
     requires { ⌜ (whyBefore (count set) units ≡ 0) × (1 ≤ count set) × (128 ≤ length (now out)) ⌝ }
     ensures { λ r. ⌜ Gives set units (now (shares .entry)) (now (shares .exit)) r ⌝ }
 {
@@ -259,11 +237,20 @@ fn run_to_end(set: u32, units: u64, buf: &mut [u8], out: &mut [u8], shares: &mut
     let mut sums = [0u64; 32];
     let rest = take_input(set, buf, out, &mut ring, &mut sums);
     let len = rest.len;
-    if !rest.ended {
-        tell_refused(false, set, rest.lines, &buf[0..len]);
-        return false;
+    if !rest.known {
+        return Outcome {
+            known: false,
+            given: false,
+        };
     }
-    finish(
+    if rest.refused {
+        tell_refused(false, set, rest.lines, &buf[0..len]);
+        return Outcome {
+            known: true,
+            given: false,
+        };
+    }
+    let given = finish(
         set,
         units,
         rest.lines,
@@ -273,25 +260,34 @@ fn run_to_end(set: u32, units: u64, buf: &mut [u8], out: &mut [u8], shares: &mut
         &mut ring,
         &mut sums,
         shares,
-    )
+    );
+    Outcome { known: true, given }
 }
 
-// Reads lines of positions from standard input to its end and gives each member its share of the units: whether that was done. Where it was not, that is told on
-// standard error and the shares are untouched. Nothing is read where the first buffer has less than the 65,537 bytes that tell a line that is too long, or
-// the second less than the 128 bytes that a record can have.
-pub fn run(set: u32, units: u64, buf: &mut [u8], out: &mut [u8], shares: &mut [u64; 32]) -> bool
+// Reads lines of positions from standard input to its end and gives each member its share of the units. Where a line is refused, that is told on standard error and
+// the shares are untouched; so they are where a read failed, which is told too. Nothing is read where the set or the units are declined, where the first buffer has
+// less than the 65,537 bytes that tell a line that is too long, or the second less than the 128 bytes that a record can have; none of these is told.
+pub fn run(set: u32, units: u64, buf: &mut [u8], out: &mut [u8], shares: &mut [u64; 32]) -> Outcome
     ensures { λ r. ⌜ Gives set units (now (shares .entry)) (now (shares .exit)) r ⌝ }
 {
     let n = positions::count_of(set);
     if positions::why_before(n, units) != 0 {
-        messages::tell_before(n);
-        return false;
+        return Outcome {
+            known: true,
+            given: false,
+        };
     }
     if buf.len() < 65537 {
-        return false;
+        return Outcome {
+            known: false,
+            given: false,
+        };
     }
     if out.len() < 128 {
-        return false;
+        return Outcome {
+            known: false,
+            given: false,
+        };
     }
     run_to_end(set, units, buf, out, shares)
 }

@@ -1,4 +1,4 @@
-// Why a line is refused, in words, and why a run is declined before its first line.
+// Why a line is refused, in words.
 ghost use Prim.Native.Nat.{_≤_};
 use crate::counted;
 use libc::STDERR_FILENO;
@@ -23,10 +23,6 @@ const MEMBERS: usize = 12;
 
 const POSITIONS: usize = 13;
 
-const EMPTY: usize = 14;
-
-const UNITS: usize = 15;
-
 // A line of some text put at a place of the buffer, without its end.
 fn put_line(out: &mut [u8], at: usize, text: &[u8], k: usize) -> usize {
     let start = start_of(text, k);
@@ -49,9 +45,7 @@ fn put(out: &mut [u8], at: usize, k: usize) -> usize {
         \x20member, and so \n\
         \x20position\n\
         \x20members, and so \n\
-        \x20positions\n\
-        declined by 5: the set of members is empty\n\
-        declined by 5: units are 1 to 1000\n";
+        \x20positions\n";
     put_line(out, at, pieces, k)
 }
 
@@ -110,13 +104,5 @@ pub fn tell_line(line: u64, place: usize, reason: u8, n: usize) {
     let mut note = [0u8; 256];
     let at = put_place(&mut note, line, place);
     let end = put_reason(&mut note, at, reason, n);
-    tell(note, end);
-}
-
-// A run that is declined before its first line: it has no members, or its units are out of range.
-pub fn tell_before(n: usize) {
-    let mut note = [0u8; 256];
-    let piece = if n == 0 { EMPTY } else { UNITS };
-    let end = put(&mut note, 0, piece);
     tell(note, end);
 }

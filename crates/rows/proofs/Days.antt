@@ -3,15 +3,17 @@ use mathlib.Core.Path.{_≡_, refl, sym, ap, ap₂, _∙_}
 use mathlib.Core.Bool.{Bool, false, not, false≢true}
 use mathlib.Core.Logic.{_⊎_, inl, inr, ⊎-elim}
 use mathlib.Core.List.{List, [], _∷_, _++_}
-use Prim.Native.Nat.{ℕ, suc, _+_, _-_, _*_, _≤_, _<_}
+use Prim.Native.Nat.{ℕ, zero, suc, _+_, _-_, _*_, _/_, _%_, _^_, _≤_, _<_}
 use native.Mathlib.Numerals.{add-one}
 use native.Mathlib.Omega.{arith}
 use lib.Dec.{eqb, ltb}
 use lib.ListN.{length, getD, take, drop, length-take}
-use lib.Seq.{drop-cons, drop-length, getD-take, length-take-le}
+use lib.Seq.{drop-cons, drop-length, drop-drop, getD-take, length-take-le}
 use borrow.Author.Tests.{lt-ltb, le-ltb, eq-eqb, ne-eqb, eqb-true, not-false}
-use Rattle.lists.specs.Lists.{if_then_else_}
+use Rattle.lists.specs.Lists.{if_then_else_, Each}
 use Rattle.lists.proofs.Bools.{cases, either, by-test}
+use Rattle.lists.proofs.Each.{each-take}
+use Rattle.machine.specs.Wire.{number}
 use Rattle.forms.specs.Encode.{bytesOf}
 use Rattle.forms.specs.Put.{Put}
 use Rattle.forms.proofs.Puts.{put-as}
@@ -125,19 +127,55 @@ unfolding fourEach bytesOf
 four-size [] = omega arith
 four-size (n ∷ ns) = omega (arith, four-size ns)
 
--- a line that is not refused is nothing, or has four bytes for each of n numbers
-pub record-size : (n : ℕ) (line : List ℕ) → refusedDay n line ≡ false → (recordOf n line ≡ []) ⊎ (length (recordOf n line) ≡ 4 * n)
+-- ---- the numbers of a record, read back
+
+back : (n : ℕ) → n < 2 ^ 32 → (((0 * 256 + n / 256 / 256 / 256 % 256) * 256 + n / 256 / 256 % 256) * 256 + n / 256 % 256) * 256 + n % 256 ≡ n
+back n h = omega arith
+
+-- the first of them
+read-first : (n : ℕ) (ns : List ℕ) → n < 2 ^ 32 → number 0 4 (fourEach (n ∷ ns)) ≡ n
+unfolding computing
+read-first n ns h = back n h
+
+-- those behind it
+read-behind : (n m : ℕ) (ns : List ℕ) → number (4 + 4 * m) 4 (fourEach (n ∷ ns)) ≡ number (4 * m) 4 (fourEach ns)
+unfolding number fourEach bytesOf
+read-behind n m ns = rw (← drop-drop (4 * m) 4 (fourEach (n ∷ ns)))
+
+read-small : (ns : List ℕ) → Each (λ n. n ≤ 10000000) ns → (m : ℕ) → m < length ns → number (4 * m) 4 (fourEach ns) ≤ 10000000
+read-small [] h m l = absurd (omega arith)
+read-small (n ∷ ns) h zero l = omega (arith, read-first n ns (omega (arith, h .0)), h .0)
+read-small (n ∷ ns) h (suc m) l =
+    omega (
+      arith,
+      ap (λ (k : ℕ). number k 4 (fourEach (n ∷ ns))) {x = 4 * suc m} {y = 4 + 4 * m} (omega arith),
+      read-behind n m ns,
+      read-small ns (h .1) m (omega arith),
+    )
+
+-- so many numbers, each in four bytes and at most 10,000,000
+abbrev pub WholeDay : ℕ → List ℕ → Type 0
+WholeDay n bytes = (length bytes ≡ 4 * n) × ((m : ℕ) → m < n → number (4 * m) 4 bytes ≤ 10000000)
+
+-- a line that is not refused is nothing, or has n numbers
+pub record-whole : (n : ℕ) (line : List ℕ) → refusedDay n line ≡ false → (recordOf n line ≡ []) ⊎ WholeDay n (recordOf n line)
 unfolding recordOf refusedDay dayOf
-record-size n line =
-    by-test (λ (r : Row). not (eqb (r .reason) 0) ≡ false → (fourEach (take (r .count) (r .numbers)) ≡ []) ⊎ (length (fourEach (take (r .count) (r .numbers))) ≡ 4 * n))
+record-whole n line =
+    by-test (λ (r : Row). not (eqb (r .reason) 0) ≡ false → (fourEach (take (r .count) (r .numbers)) ≡ []) ⊎ WholeDay n (fourEach (take (r .count) (r .numbers))))
     (ltb 65536 (lengthTo line))
     (λ _ e. absurd (false≢true (sym e)))
     (λ _ e.
     let row = rowOf n n 10000000 (take (lengthTo line) line) in
     let w = row-within n n 10000000 (take (lengthTo line) line) in
+    let ns = take (row .count) (row .numbers) in
     ⊎-elim
     (λ z. inl (ap (λ (k : ℕ). fourEach (take k (row .numbers))) z ∙ no-bytes))
-    (λ l. inr (four-size (take (row .count) (row .numbers)) ∙ omega (arith, length-take (row .count) (row .numbers), w .few, w .long)))
+    (λ l.
+    let all : length ns ≡ n = omega (arith, length-take (row .count) (row .numbers), w .few, w .long) in
+    inr (
+      four-size ns ∙ ap (λ (k : ℕ). 4 * k) all,
+      λ m h. read-small ns (each-take (λ k. k ≤ 10000000) (row .count) (row .numbers) (w .each)) m (omega arith),
+    ))
     (w .whole (eqb-true (row .reason) 0 (not-false (eqb (row .reason) 0) e))))
 
 -- ---- lines taken one by one

@@ -1,7 +1,7 @@
 -- A text that comes in parts: a line that is whole stays what it is when bytes come behind it, and so the lines of parts joined are those of the text. Assumes
 -- nothing.
 use mathlib.Core.Path.{_≡_, refl, sym, ap, subst, _∙_}
-use mathlib.Core.Bool.{Bool, true, false}
+use mathlib.Core.Bool.{Bool, true, false, _||_}
 use mathlib.Core.Logic.{⊎-elim}
 use mathlib.Core.List.{List, [], _∷_, _++_, append-nil}
 use Prim.Native.Nat.{ℕ, zero, suc, _+_, _≤_, _<_}
@@ -10,14 +10,14 @@ use lib.Dec.{eqb}
 use lib.ListN.{length, take, drop, length-append, length-take, length-drop}
 use lib.Seq.{take-append-le, drop-drop}
 use borrow.Author.Tests.{eqb-true, eqb-false}
-use Rattle.lists.specs.Lists.{if_then_else_, Each}
+use Rattle.lists.specs.Lists.{if_then_else_, any, Each}
 use Rattle.lists.proofs.Bools.{cases, either, lt-or-le}
 use Rattle.lists.proofs.Each.{each-append}
 use Rattle.input.specs.Strings.{bytesOf}
 use Rattle.input.specs.Pieces.{pieces, allPieces, leftOf}
 use Rattle.input.proofs.Pieces.{front-zero, front-none, front-next, all-next, all-none, apart, left-then}
 use Rattle.text_lines.specs.Lines.{lengthTo, lineSize, linesOf, goodSize, goodLines, rest}
-use Rattle.text_lines.proofs.Lines.{to-here, to-behind, no-end, size-long, size-ended, size-none, size-most}
+use Rattle.text_lines.proofs.Lines.{to-here, to-behind, no-end, to-most, size-long, size-ended, size-last, size-none, size-most}
 
 -- ---- bytes behind bytes
 
@@ -159,8 +159,32 @@ module _ (refused : List ℕ → Bool) where
 
   -- ---- the whole text
 
+  -- a line that is there is the same where the text ends behind it
+  size-whole : (last : Bool) (s : List ℕ) → (lineSize last s ≡ 0 → ⊥) → lineSize true s ≡ lineSize last s
+  size-whole true s some = refl
+  size-whole false s some = size-ends s some
+
+  -- where no line is all there, the last line is all that is left
+  pub last-size : (s : List ℕ) → lineSize false s ≡ 0 → lineSize true s ≡ length s
+  last-size s none-there =
+      let n = lengthTo s in
+      ⊎-elim
+      (λ long. absurd (omega (arith, none-there, size-long false s n refl long)))
+      (λ short.
+      ⊎-elim
+      (λ ended. absurd (omega (arith, none-there, size-ended false s n refl short ended)))
+      (λ left. omega (arith, left, to-most s, size-last true s n refl short left refl))
+      (lt-or-le n (length s)))
+      (lt-or-le 65536 n)
+
+  -- the lines of a text are those that are taken and those of what is left behind them
+  pub lines-then : (last : Bool) (s : List ℕ) → linesOf s ≡ allPieces (goodSize refused last) s ++ linesOf (leftOf (goodSize refused last) s)
+  lines-then last =
+      all-then (goodSize refused last) (lineSize true) (good-most last) (size-most true)
+      (λ s some. let g = taken-good last s some in size-whole last s (λ z. some (g .0 ∙ z)) ∙ sym (g .0))
+
   -- the lines that are taken are not refused
-  each-good : (last : Bool) (n : ℕ) (s : List ℕ) → Each (λ line. refused line ≡ false) (pieces (goodSize refused last) n s)
+  pub each-good : (last : Bool) (n : ℕ) (s : List ℕ) → Each (λ line. refused line ≡ false) (pieces (goodSize refused last) n s)
   each-good last zero s = subst (Each (λ line. refused line ≡ false)) (sym (front-zero (goodSize refused last) (good-most last) s)) tt
   each-good last (suc n) s =
       let k = goodSize refused last s in
@@ -170,18 +194,39 @@ module _ (refused : List ℕ → Bool) where
       let some = eqb-false k 0 e in
       subst (Each (λ line. refused line ≡ false)) (sym (front-next (goodSize refused last) (good-most last) n s some)) (taken-good last s some .1, each-good last n (drop k s)))
 
-  -- where all lines that are left are taken, the lines of the text are those that were taken
+  -- a line that is there and not taken is refused
+  pub stop-refused : (last : Bool) (s : List ℕ) → goodSize refused last s ≡ 0 → (lineSize last s ≡ 0 → ⊥) → any refused (linesOf s) ≡ true
+  unfolding any
+  stop-refused last s stop some =
+      let k = lineSize last s in
+      let bad : refused (take k s) ≡ true =
+      cases (refused (take k s)) (refused (take k s) ≡ true) (λ e. e) (λ e. absurd (some (sym (size-good last s e) ∙ stop))) in
+      ap (any refused) (all-next (lineSize true) (size-most true) s k (sym (size-whole last s some)) some)
+      ∙ ap (λ (b : Bool). b || any refused (linesOf (drop k s))) bad
+
+  any-behind : (ps qs : List (List ℕ)) → Each (λ line. refused line ≡ false) ps → any refused (ps ++ qs) ≡ any refused qs
+  unfolding any
+  any-behind [] qs h = refl
+  any-behind (p ∷ ps) qs h = rw (h .0) (any-behind ps qs (h .1))
+
+  -- whether a line is refused is told behind those that are taken
+  pub any-then : (last : Bool) (s : List ℕ) → any refused (linesOf s) ≡ any refused (linesOf (leftOf (goodSize refused last) s))
+  any-then last s =
+      ap (any refused) (lines-then last s)
+      ∙ any-behind (allPieces (goodSize refused last) s) (linesOf (leftOf (goodSize refused last) s)) (each-good last (length s) s)
+
+  -- where nothing is left, the lines are those that are taken
+  pub lines-taken : (s : List ℕ) → leftOf (goodSize refused true) s ≡ [] → linesOf s ≡ allPieces (goodSize refused true) s
+  lines-taken s all =
+      let taken = allPieces (goodSize refused true) s in
+      lines-then true s
+      ∙ ap (λ (l : List ℕ). taken ++ linesOf l) all
+      ∙ ap (λ (ls : List (List ℕ)). taken ++ ls) no-lines
+      ∙ append-nil taken
+
   module _ (text : List ℕ) (all : leftOf (goodSize refused true) (rest refused text) ≡ []) where
     pub lines-all : linesOf text ≡ goodLines refused text ++ allPieces (goodSize refused true) (rest refused text)
-    lines-all =
-        let left = allPieces (goodSize refused true) (rest refused text) in
-        all-then (goodSize refused false) (lineSize true) (good-most false) (size-most true)
-        (λ s some. let g = taken-good false s some in size-ends s (λ z. some (g .0 ∙ z)) ∙ sym (g .0)) text
-        ∙ ap (λ (ls : List (List ℕ)). goodLines refused text ++ ls)
-        (all-then (goodSize refused true) (lineSize true) (good-most true) (size-most true) (λ s some. sym (taken-good true s some .0)) (rest refused text)
-        ∙ ap (λ (l : List ℕ). left ++ linesOf l) all
-        ∙ ap (λ (ls : List (List ℕ)). left ++ ls) no-lines
-        ∙ append-nil left)
+    lines-all = lines-then false text ∙ ap (λ (ls : List (List ℕ)). goodLines refused text ++ ls) (lines-taken (rest refused text) all)
 
     pub lines-good : Each (λ line. refused line ≡ false) (linesOf text)
     lines-good =

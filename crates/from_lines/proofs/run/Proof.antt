@@ -1,5 +1,5 @@
 -- `from_lines::run` meets its contract. Assumes nothing.
-use Rattle.from_lines.proofs.Ends.{ready, gives-not}
+use Rattle.from_lines.proofs.Ends.{ready, gives-declined, gives-unknown}
 use borrow.Author.Needs.{needs}
 use Rattle.from_lines.proofs.run.Statement.{statement}
 use Rattle.from_lines.proofs.run.Tie as tie
@@ -10,17 +10,14 @@ count-of-requires c κs = search needs
 why-before-requires : tie.Need-why-before-requires
 why-before-requires c κs = search needs
 
-tell-before-requires : tie.Need-tell-before-requires
-tell-before-requires c κs = search needs
-
 returns : tie.Need-returns
-returns c = gives-not _ _ _
+returns c = gives-declined _ _ _ _ _ (c .before .before .count-of .ensures .0) (c .before .why-before .ensures) (c .if1 .taken)
 
 returns-2 : tie.Need-returns-2
-returns-2 c = gives-not _ _ _
+returns-2 c = gives-unknown _ _ _
 
 returns-3 : tie.Need-returns-3
-returns-3 c = gives-not _ _ _
+returns-3 c = gives-unknown _ _ _
 
 run-to-end-requires : tie.Need-run-to-end-requires
 run-to-end-requires c κs =
@@ -42,7 +39,6 @@ run-spec =
     (tie.spec
     count-of-requires
     why-before-requires
-    tell-before-requires
     returns
     returns-2
     returns-3

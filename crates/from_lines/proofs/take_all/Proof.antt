@@ -3,11 +3,10 @@ use mathlib.Core.Path.{_≡_, refl, _∙_}
 use Prim.Native.Nat.{_-_}
 use native.Mathlib.Omega.{arith}
 use lib.ListN.{length}
-use borrow.Author.Tests.{not-false}
 use Rattle.input.proofs.Fronts.{rest-all}
 use Rattle.feed.proofs.Turning.{lent}
 use Rattle.from_lines.specs.Turns.{count, keeping}
-use Rattle.from_lines.proofs.Turning.{Passed, passed-none, passed-within, passed-some, passed-goes, passed-all, passed-not}
+use Rattle.from_lines.proofs.Turning.{Passed, passed-none, passed-within, passed-some, passed-goes, passed-all}
 use borrow.Author.Needs.{needs}
 use Rattle.from_lines.proofs.take_all.Statement.{statement}
 use Rattle.from_lines.proofs.take_all.Tie as tie
@@ -64,38 +63,29 @@ add-used c =
 counted-requires : tie.Need-counted-requires Inv-loop μ-loop
 counted-requires c κs = search needs
 
-sub-take-records : tie.Need-sub-take-records Inv-loop μ-loop
-sub-take-records c = search needs
+sub-take-days : tie.Need-sub-take-days Inv-loop μ-loop
+sub-take-days c = search needs
 
-part-take-records-start : tie.Need-part-take-records-start Inv-loop μ-loop
-part-take-records-start c = search needs
+part-take-days-start : tie.Need-part-take-days-start Inv-loop μ-loop
+part-take-days-start c = search needs
 
-part-take-records-end : tie.Need-part-take-records-end Inv-loop μ-loop
-part-take-records-end c = let p = c .before .before .before .before .before .before .take-some .ensures .put in omega (arith, p .behind, p .short, p .same)
+part-take-days-end : tie.Need-part-take-days-end Inv-loop μ-loop
+part-take-days-end c = let p = c .before .before .before .before .before .before .before .before .take-some .ensures .put in omega (arith, p .behind, p .short, p .same)
 
-take-records-requires : tie.Need-take-records-requires Inv-loop μ-loop
-take-records-requires c κs = search needs
-
-same-length-2 : tie.Need-same-length-2 Inv-loop μ-loop
-same-length-2 c = c .before .before .before .before .before .before .before .before .before .before .before .before .take-some .kept .1 .1 .1 .0 ∙ c .before .before .before .before .before .before .before .before .before .before .before .before .before .before .before .loop .inv .1
-
-returns-2 : tie.Need-returns-2 Inv-loop μ-loop
-returns-2 c =
-    let l = c .before .before .before .before .before .before .before .before .before .before .before .before .before .before .before .loop in
-    let t = c .before .before .before .before .before .before .before .before .before .before .before .before .take-some in
-    passed-not _ _ _ _ _ _ _ _ _ (passed-within _ _ _ _ _ _ _ _ _ _ (t .result) (l .inv .0) (rest-all _ (l .used)) (t .ensures))
+take-days-requires : tie.Need-take-days-requires Inv-loop μ-loop
+take-days-requires c κs = search needs
 
 loop-less : tie.Need-loop-less Inv-loop μ-loop
 loop-less c =
-    let l = c .before .before .before .before .before .before .before .before .before .before .before .before .before .before .before .loop in
-    let t = c .before .before .before .before .before .before .before .before .before .before .before .before .take-some in
-    omega (arith, passed-within _ _ _ _ _ _ _ _ _ _ (t .result) (l .inv .0) (rest-all _ (l .used)) (t .ensures), passed-some _ _ _ _ _ _ _ _ _ _ (t .result) (l .inv .0) (rest-all _ (l .used)) (t .ensures), c .before .before .before .before .before .before .before .before .before .if1 .left)
+    let l = c .before .before .before .before .before .before .before .before .before .before .before .before .before .loop in
+    let t = c .before .before .before .before .before .before .before .before .before .before .take-some in
+    omega (arith, passed-within _ _ _ _ _ _ _ _ _ _ (t .result) (l .inv .0) (rest-all _ (l .used)) (t .ensures), passed-some _ _ _ _ _ _ _ _ _ _ (t .result) (l .inv .0) (rest-all _ (l .used)) (t .ensures), c .before .before .before .before .before .before .before .if1 .left)
 
 loop-again : tie.Need-loop-again Inv-loop μ-loop
 loop-again c =
-    let l = c .before .before .before .before .before .before .before .before .before .before .before .before .before .before .before .loop in
-    let t = c .before .before .before .before .before .before .before .before .before .before .before .before .take-some in
-    (passed-goes _ _ _ _ _ _ _ _ _ _ (t .result) (l .inv .0) (rest-all _ (l .used)) (t .ensures) _ _ _ (c .before .before .before .before .before .before .before .counted .ensures) (lent (t .result .written) _) (c .before .before .take-records .ensures (not-false _ (c .if2 .left))), t .kept .1 .1 .1 .0 ∙ l .inv .1)
+    let l = c .before .before .before .before .before .before .before .before .before .before .before .before .before .loop in
+    let t = c .before .before .before .before .before .before .before .before .before .before .take-some in
+    (passed-goes _ _ _ _ _ _ _ _ _ _ (t .result) (l .inv .0) (rest-all _ (l .used)) (t .ensures) _ _ _ _ _ _ _ (c .before .before .before .before .before .counted .ensures) (lent (t .result .written) _) (c .take-days .ensures), t .kept .1 .1 .1 .0 ∙ l .inv .1)
 
 pub take-all-spec : {M : Type 1} → statement M
 take-all-spec =
@@ -116,11 +106,9 @@ take-all-spec =
     returns
     add-used
     counted-requires
-    sub-take-records
-    part-take-records-start
-    part-take-records-end
-    take-records-requires
-    same-length-2
-    returns-2
+    sub-take-days
+    part-take-days-start
+    part-take-days-end
+    take-days-requires
     loop-less
     loop-again)
