@@ -258,7 +258,8 @@ fn take_records(set: u32, units: u64, shares: &mut [u64; 32]) -> bool {
 fn take_lines(set: u32, units: u64, shares: &mut [u64; 32]) -> bool {
     let mut buf = [0u8; 131072];
     let mut out = [0u8; 65536];
-    from_lines::run(set, units, &mut buf, &mut out, shares)
+    let run = from_lines::run(set, units, &mut buf, &mut out, shares);
+    run.given
 }
 
 // The shares from the days on standard input: whether they are given.

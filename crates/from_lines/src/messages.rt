@@ -2,8 +2,7 @@
 ghost use Prim.Native.Nat.{_≤_};
 use crate::counted;
 use libc::STDERR_FILENO;
-use text_lines::length_to;
-use text_lines::start_of;
+use text_lines::put_line;
 use words::number;
 
 // The numbers of the pieces that the messages are made of. Those of the reasons stand behind one another, and reasons are 1 to 7.
@@ -22,13 +21,6 @@ const POSITION: usize = 11;
 const MEMBERS: usize = 12;
 
 const POSITIONS: usize = 13;
-
-// A line of some text put at a place of the buffer, without its end.
-fn put_line(out: &mut [u8], at: usize, text: &[u8], k: usize) -> usize {
-    let start = start_of(text, k);
-    let end = start + length_to(&text[start..]);
-    words::put(out, at, &text[start..end])
-}
 
 // A piece by its number.
 fn put(out: &mut [u8], at: usize, k: usize) -> usize {
