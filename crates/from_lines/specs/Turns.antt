@@ -118,8 +118,9 @@ Finishes set units left x shares shares' r =
     let n = count set in
     (run : List ℕ) → Holds n run x → _≡_ {A = Given} (r, shares') (nothingOr (anyRefused n left) set units (run ++ records n (linesOf left)) shares)
 
--- The contract of `run`. There are parts, those that were read. Where their text is known, to its end or up to a line that is refused, the shares are given or not,
--- and are, as the text says; else they are not given and untouched.
+-- The contract of `run`. There are parts, those that were read. Where it is known what their text gives, the shares are given or not, and are, as `linesGive` says;
+-- else they are not given and untouched. No contract says which bytes a read brings, so that the parts are only known to exist; the contracts of `take_turn` and
+-- `finish` speak of bytes that are lent.
 pub record Gives (set units : ℕ) (shares shares' : List ℕ) (r : Outcome) : Type 0 where
   pub parts : List (List ℕ)
   pub bytes : Bytes (joined parts)

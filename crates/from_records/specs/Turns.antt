@@ -51,7 +51,8 @@ pub record Finishes (set units : ℕ) (rest : Rest) (old new : List ℕ) (r : Ou
   pub whole : rest .answer ≡ 0 → rest .ended ≡ true → (r .known ≡ true) × _≡_ {A = Answer} (r .answer, new) (ended set units (rest .len) (rest .sums) old)
 
 -- There are parts, those that were read. Where the answer is known, it and the shares are what document 02 says of the parts joined; bytes behind a record that
--- is declined would not change it. Where it is not known the shares are as they were.
+-- is declined would not change it. Where it is not known the shares are as they were. No contract says which bytes a read brings, so that the parts are only
+-- known to exist; the contracts of `take_turn` and `finish` speak of bytes that are lent.
 pub record Gives (set units : ℕ) (old new : List ℕ) (r : Outcome) : Type 0 where
   pub parts : List (List ℕ)
   pub known : r .known ≡ true → _≡_ {A = Answer} (r .answer, new) (expectedUnits set units (joined parts) old)
