@@ -21,11 +21,11 @@ use Rattle.text_lines.proofs.Parts.{good-most, taken-good, each-good, last-size
 use Rattle.rows.specs.declared.Part.{Part}
 use Rattle.rows.specs.Days.{refusedDay, recordOf, daySize, WritesDays}
 use Rattle.positions.specs.Days.{daysOf, inRange, whyBefore, whyRun, expectedUnits}
-use Rattle.positions.specs.Keeping.{Kept, noDays, Taken, taken, partOf, ended}
+use Rattle.positions.specs.Keeping.{Kept, noDays, Taken, taken, partOf, ended, keeping}
 use Rattle.positions.proofs.Parts.{first-days}
 use Rattle.positions.proofs.Records.{taken-bad}
 use Rattle.positions.proofs.Whole.{ready-some, used-is, why-none, whole-end}
-use Rattle.from_lines.specs.Turns.{count, keeping, records, goodLines, rest, Holds, FedTo, anyRefused, Given, nothingOr, linesGive, Finishes, Gives}
+use Rattle.from_lines.specs.Turns.{count, records, goodLines, rest, Holds, FedTo, anyRefused, Given, nothingOr, linesGive, Finishes, Gives}
 use Rattle.from_lines.proofs.Turning.{leads-whole, holds-some, holds-then}
 
 module _ (set units : ℕ) where

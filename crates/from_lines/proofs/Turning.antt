@@ -22,11 +22,11 @@ use Rattle.text_lines.specs.Lines.{lengthTo, lineSize}
 use Rattle.text_lines.proofs.Parts.{good-most, each-good, lines-apart, rest-then, rest-short}
 use Rattle.rows.specs.declared.Part.{Part}
 use Rattle.rows.specs.Days.{refusedDay, recordOf, daySize, WritesDays}
-use Rattle.positions.specs.Keeping.{Kept, noDays, Taken, taken, partOf}
+use Rattle.positions.specs.Keeping.{Kept, noDays, Taken, taken, partOf, keeping}
 use Rattle.positions.proofs.Parts.{first-days, first-then, no-days}
 use Rattle.from_lines.specs.declared.Took.{Took}
 use Rattle.from_lines.specs.declared.Turn.{Turn}
-use Rattle.from_lines.specs.Turns.{records, goodLines, rest, stopsAt, Counts, Leads, Holds, Adds, keeping, TakesAll, TakesTurn, After, FedTo}
+use Rattle.from_lines.specs.Turns.{records, goodLines, rest, stopsAt, Counts, Leads, Holds, Adds, TakesAll, TakesTurn, After, FedTo}
 use Rattle.from_lines.proofs.Whole.{lines-whole}
 
 -- ---- numbers

@@ -13,7 +13,7 @@ use Rattle.text_lines.specs.Lines as Lines
 use Rattle.text_lines.specs.Lines.{lineSize, linesOf}
 use Rattle.rows.specs.Days.{refusedDay, recordOf, daySize}
 use Rattle.positions.specs.Days.{whyBefore, expectedUnits}
-use Rattle.positions.specs.Keeping.{Kept, noDays, partOf}
+use Rattle.positions.specs.Keeping.{Kept, keeping, noDays, partOf}
 use Rattle.from_lines.specs.declared.Took.{Took}
 use Rattle.from_lines.specs.declared.Turn.{Turn}
 use Rattle.from_lines.specs.declared.Rest.{Rest}
@@ -54,10 +54,6 @@ Holds n bytes x = Leads n noDays bytes x
 -- this is kept where the records of some lines more are taken, whatever run stands before them
 abbrev pub Adds : ℕ → Kept → List (List ℕ) → Kept → Type 0
 Adds n x lines y = (run : List ℕ) → Holds n run x → Holds n (run ++ records n lines) y
-
--- what is kept, as its parts are lent
-abbrev pub keeping : ℕ → List ℕ → List ℕ → Kept
-keeping row ring sums = record { row = row; ring = ring; sums = sums }
 
 -- the contract of `take_all`: all lines are taken, up to the first that is refused or not all there, and counted
 pub record TakesAll (n first : ℕ) (input : List ℕ) (x : Kept) (ring sums : List ℕ) (r : Took) : Type 0 where

@@ -10,8 +10,8 @@ ghost use Rattle.feed.specs.Feeds.{Reads};
 ghost use Rattle.text_lines.specs.Lines.{lineSize};
 ghost use Rattle.rows.specs.Days.{WritesDays};
 ghost use Rattle.positions.specs.Days.{whyBefore};
-ghost use Rattle.positions.specs.Keeping.{noDays};
-ghost use Rattle.from_lines.specs.Turns.{count, keeping, TakesAll, TakesTurn, TakesInput, Finishes, Gives};
+ghost use Rattle.positions.specs.Keeping.{noDays, keeping};
+ghost use Rattle.from_lines.specs.Turns.{count, TakesAll, TakesTurn, TakesInput, Finishes, Gives};
 use feed::Got;
 use rows::Part;
 

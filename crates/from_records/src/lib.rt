@@ -4,6 +4,7 @@ ghost use Prim.Native.Nat.{_≤_};
 ghost use lib.ListN.{length, take};
 ghost use Rattle.sets.specs.Set.{members};
 ghost use Rattle.feed.specs.Feeds.{Reads};
+ghost use Rattle.positions.specs.Keeping.{keeping};
 ghost use Rattle.from_records.specs.Turns.{TakesTurn, TakesInput, Finishes, Gives};
 use feed::Got;
 use libc::STDERR_FILENO;
@@ -64,7 +65,7 @@ fn take_turn(
     end: usize,
 ) -> Turn
     requires { ⌜ end ≤ length (now buf) ⌝ }
-    ensures { λ r. ⌜ TakesTurn (length (members set)) (record { row = row; ring = now (ring .entry); sums = now (sums .entry) }) (take end (now (buf .entry))) (now (buf .entry)) (now (buf .exit)) (record { row = r .row; ring = now (ring .exit); sums = now (sums .exit) }) r ⌝ }
+    ensures { λ r. ⌜ TakesTurn (length (members set)) (keeping row (now (ring .entry)) (now (sums .entry))) (take end (now (buf .entry))) (now (buf .entry)) (now (buf .exit)) (keeping (r .row) (now (ring .exit)) (now (sums .exit))) r ⌝ }
 {
     let part = positions::take_days(ring, sums, row, set, &buf[0..end]);
     let used = part.used;

@@ -13,7 +13,7 @@ use Rattle.lists.proofs.Stores.{get-before, get-behind, get-within}
 use Rattle.lists.proofs.Each.{each-append}
 use Rattle.lists.proofs.Joined.{foldl-more}
 use Rattle.positions.specs.Days.{Day, DayOf, lastDays, sumAt, sumsOf}
-use Rattle.positions.specs.Keeping.{Kept, noDays, rowOf, rolled, rolledAt, dayKept, keptAfter, TakesDay}
+use Rattle.positions.specs.Keeping.{Kept, keeping, noDays, rowOf, rolled, rolledAt, dayKept, keptAfter, TakesDay}
 use Rattle.positions.proofs.Days.{Fits, range-fits}
 use Rattle.positions.proofs.Rows.{row-on, row-back}
 use Rattle.positions.proofs.Window.{window-grows, window-rolls, window-small}
@@ -211,3 +211,9 @@ takes-day n few day old new e =
           let same : new ≡ keptAfter n (days ++ (day ∷ [])) = e ∙ ap (λ (x : Kept). dayKept n x day) reached ∙ sym (foldl-more (dayKept n) noDays days day) in
           ap (λ (x : Kept). take n (x .sums)) same ∙ sums-afresh n few (days ++ (day ∷ [])) fit;
     }
+
+-- the same, as the code has it
+pub takes-row : (n : ℕ) → n ≤ 32 → (day : Day) (row k : ℕ) (ring sums ring' sums' : List ℕ) → k ≡ rowOf row → ring' ≡ sets ring (32 * k) day
+    → sums' ≡ sets sums 0 (tab n (rolledAt sums ring k day)) → TakesDay n day (keeping row ring sums) (keeping (k + 1) ring' sums')
+unfolding dayKept
+takes-row n few day row k ring sums ring' sums' e r s = takes-day n few day (keeping row ring sums) (keeping (k + 1) ring' sums') (cc (e, r, s))

@@ -5,6 +5,7 @@ use mathlib.Core.List.{List, [], foldl}
 use Prim.Native.Nat.{ℕ, _<_}
 use lib.Dec.{ltb}
 use lib.ListN.{length, take}
+use lib.Seq.{sets}
 use Rattle.lists.specs.Lists.{if_then_else_, sum, all, joined}
 use Rattle.sets.specs.Set.{members}
 use Rattle.splitting.specs.Split.{split}
@@ -37,8 +38,13 @@ AddsUp =
     (set units : ℕ) (sums : List ℕ) → length sums ≡ length (members set)
     → sum (byMember set (split units sums)) ≡ (if ltb 0 (sum sums) then units else 0)
 
+-- the lent shares have 32 places, and all of them are written
+abbrev pub WritesAll : Type 0
+WritesAll = (set : ℕ) (xs shares : List ℕ) → length shares ≡ 32 → sets shares 0 (byMember set xs) ≡ byMember set xs
+
 pub record Claim : Type 0 where
   pub every-day : EveryDay
   pub every-part : EveryPart
   pub cut-anywhere : CutAnywhere
   pub adds-up : AddsUp
+  pub writes-all : WritesAll

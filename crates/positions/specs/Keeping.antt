@@ -19,6 +19,10 @@ pub record Kept : Type 0 where
   pub ring : List ℕ
   pub sums : List ℕ
 
+-- what is kept, as its parts are lent
+abbrev pub keeping : ℕ → List ℕ → List ℕ → Kept
+keeping row ring sums = record { row = row; ring = ring; sums = sums }
+
 -- no day yet
 unfoldable pub noDays : Kept
 noDays = record { row = 0; ring = replicate 2112 0; sums = replicate 32 0 }
@@ -62,6 +66,9 @@ pub record Taken : Type 0 where
   pub kept : Kept
   pub used : ℕ
   pub answer : ℕ
+
+abbrev pub took : (row : ℕ) (ring sums : List ℕ) (used answer : ℕ) → Taken
+took row ring sums used answer = record { kept = keeping row ring sums; used = used; answer = answer }
 
 -- the days of a part behind `used` bytes of it: all of them, or those before the first that is out of range
 unfoldable pub taken : ℕ → Kept → ℕ → List Day → Taken

@@ -11,7 +11,7 @@ ghost use Rattle.sets.specs.Set.{members};
 ghost use Rattle.splitting.specs.Split.{split};
 ghost use Rattle.splitting.specs.Limits.{Answer, refusal};
 ghost use Rattle.positions.specs.Days.{size, dayAt, daysOf, inRange, whyBefore, byMember, expectedUnits};
-ghost use Rattle.positions.specs.Keeping.{noDays, rowOf, rolled, rolledAt, TakesDay, taken, partOf, ended};
+ghost use Rattle.positions.specs.Keeping.{keeping, noDays, rowOf, rolled, rolledAt, TakesDay, took, taken, partOf, ended};
 
 // Where a part of a run led to: the row of the ring that the next day takes, how many bytes of the part were records that were taken, and why the next one is
 // declined, or 0. The bytes that were not used go before the next part.
@@ -109,7 +109,7 @@ fn next_day(
     n: usize,
 ) -> usize
     requires { ⌜ (n ≤ 32) × (at + 4 * n ≤ length (now bytes)) ⌝ }
-    ensures { λ r. ⌜ TakesDay n (dayAt n (now (bytes .entry)) at) (record { row = row; ring = now (ring .entry); sums = now (sums .entry) }) (record { row = r; ring = now (ring .exit); sums = now (sums .exit) }) ⌝ }
+    ensures { λ r. ⌜ TakesDay n (dayAt n (now (bytes .entry)) at) (keeping row (now (ring .entry)) (now (sums .entry))) (keeping r (now (ring .exit)) (now (sums .exit))) ⌝ }
 {
     let k = row_of(row);
     take_day(ring, sums, k, bytes, at, n);
@@ -127,7 +127,7 @@ fn take_records(
     n: usize,
 ) -> Part
     requires { ⌜ (1 ≤ n) × (n ≤ 32) ⌝ }
-    ensures { λ r. ⌜ record { kept = record { row = r .row; ring = now (ring .exit); sums = now (sums .exit) }; used = r .used; answer = r .answer } ≡ taken n (record { row = row; ring = now (ring .entry); sums = now (sums .entry) }) 0 (daysOf n (now (bytes .entry))) ⌝ }
+    ensures { λ r. ⌜ took (r .row) (now (ring .exit)) (now (sums .exit)) (r .used) (r .answer) ≡ taken n (keeping row (now (ring .entry)) (now (sums .entry))) 0 (daysOf n (now (bytes .entry))) ⌝ }
 {
     let size = 4 * n;
     let records = bytes.len() / size;
@@ -176,7 +176,7 @@ pub fn take_days(
     set: u32,
     bytes: &[u8],
 ) -> Part
-    ensures { λ r. ⌜ record { kept = record { row = r .row; ring = now (ring .exit); sums = now (sums .exit) }; used = r .used; answer = r .answer } ≡ partOf (length (members set)) (record { row = row; ring = now (ring .entry); sums = now (sums .entry) }) (now (bytes .entry)) ⌝ }
+    ensures { λ r. ⌜ took (r .row) (now (ring .exit)) (now (sums .exit)) (r .used) (r .answer) ≡ partOf (length (members set)) (keeping row (now (ring .entry)) (now (sums .entry))) (now (bytes .entry)) ⌝ }
 {
     let n = count_of(set);
     if n == 0 {
@@ -284,7 +284,7 @@ pub extern "C" fn ledger_take_days(
     set: u32,
     days: &[u8],
 ) -> Part
-    ensures { λ r. ⌜ record { kept = record { row = r .row; ring = now (ring .exit); sums = now (sums .exit) }; used = r .used; answer = r .answer } ≡ partOf (length (members set)) (record { row = row; ring = now (ring .entry); sums = now (sums .entry) }) (now (days .entry)) ⌝ }
+    ensures { λ r. ⌜ took (r .row) (now (ring .exit)) (now (sums .exit)) (r .used) (r .answer) ≡ partOf (length (members set)) (keeping row (now (ring .entry)) (now (sums .entry))) (now (days .entry)) ⌝ }
 {
     take_days(ring, sums, row, set, days)
 }

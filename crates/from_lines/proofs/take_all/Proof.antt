@@ -5,7 +5,8 @@ use native.Mathlib.Omega.{arith}
 use lib.ListN.{length}
 use Rattle.input.proofs.Fronts.{rest-all}
 use Rattle.feed.proofs.Turning.{lent}
-use Rattle.from_lines.specs.Turns.{count, keeping}
+use Rattle.positions.specs.Keeping.{keeping}
+use Rattle.from_lines.specs.Turns.{count}
 use Rattle.from_lines.proofs.Turning.{Passed, passed-none, passed-within, passed-some, passed-goes, passed-all}
 use borrow.Author.Needs.{needs}
 use Rattle.from_lines.proofs.take_all.Statement.{statement}

@@ -4,7 +4,8 @@ use mathlib.Core.Path.{_≡_, refl, sym, _∙_}
 use mathlib.Core.Bool.{true, false, false≢true}
 use lib.ListN.{length}
 use Rattle.feed.proofs.Turning.{fed-read}
-use Rattle.from_lines.specs.Turns.{count, keeping, rest, FedTo}
+use Rattle.positions.specs.Keeping.{keeping}
+use Rattle.from_lines.specs.Turns.{count, rest, FedTo}
 use Rattle.from_lines.proofs.Turning.{fed-none, fed-turn, fed-room}
 use borrow.Author.Needs.{needs}
 use Rattle.from_lines.proofs.take_input.Statement.{statement}

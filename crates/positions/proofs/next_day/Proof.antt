@@ -1,7 +1,6 @@
 -- `positions::next_day` meets its contract. Assumes nothing.
 use borrow.Author.Needs.{needs}
-use Rattle.positions.specs.Keeping.{dayKept}
-use Rattle.positions.proofs.Reached.{takes-day}
+use Rattle.positions.proofs.Reached.{takes-row}
 use Rattle.positions.proofs.next_day.Statement.{statement}
 use Rattle.positions.proofs.next_day.Tie as tie
 
@@ -15,10 +14,9 @@ add-result : tie.Need-add-result
 add-result c = search needs
 
 returns : tie.Need-returns
-unfolding dayKept
 returns c =
-    let a = c .before .before .before .before .before .args in
-    takes-day (a .n) (c .before .before .before .before .before .pre .0) _ _ _ (cc (c .before .before .before .row-of .ensures .0, c .take-day .ensures .0, c .take-day .ensures .1))
+    let s = c .before .before .before .before .before in
+    takes-row (s .args .n) (s .pre .0) _ (s .args .row) _ (s .args .ring .now) (s .args .sums .now) _ _ (c .before .before .before .row-of .ensures .0) (c .take-day .ensures .0) (c .take-day .ensures .1)
 
 pub next-day-spec : {M : Type 1} → statement M
 next-day-spec = tie.close (tie.spec row-of-requires take-day-requires add-result returns)
