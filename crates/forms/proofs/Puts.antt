@@ -49,6 +49,15 @@ into-put {out} {new} {at} {r} room text h p =
     rw (le-leb (at + room) (length out) h)
     (ap (λ (k : ℕ). (k, new)) (p .behind) ∙ ap (λ (o : List ℕ). (at + length text, o)) (p .stored))
 
+-- and back: a text that is put where there is room
+pub put-into : {out new : List ℕ} {at r : ℕ} (room : ℕ) (text : List ℕ) → length text ≤ room → at + room ≤ length out → _≡_ {A = Written} (r, new) (putInto room text out at)
+    → Put out at text room r new
+unfolding putInto
+put-into {out} {at = at} room text short h is =
+    let e : _≡_ {A = Written} _ (at + length text, sets out at text) = is ∙ rw (le-leb (at + room) (length out) h) in
+    let stored = ap (λ (p : Written). p .1) e in
+    record { behind = ap (λ (p : Written). p .0) e; stored = stored; short = short; same = ap length stored ∙ length-sets out at text }
+
 -- a text that is placed where it fits
 pub put-placed : {old new : List ℕ} {at r : ℕ} (n : ℕ) (t : List ℕ) → length t ≤ n → at + length t ≤ length old → _≡_ {A = Placed} (r, new) (placed t old at)
     → Put old at t n r new

@@ -6,7 +6,7 @@ ghost use lib.ListN.{length, take};
 ghost use Rattle.wire.specs.Asked.{asked};
 ghost use Rattle.forms.specs.Forms.{kindOf, flatOf, flatRound, flattened};
 ghost use Rattle.forms.specs.Encode.{tagged, bytesOf, rawOf, fieldBytes, valueFrom, encodedInto};
-ghost use Rattle.forms.specs.Put.{Put, Written};
+ghost use Rattle.forms.specs.Put.{Put, Written, putInto};
 use wire::Call;
 
 // A call's tag, and its first `count` of eight numbers. Tag 0 is no call.
@@ -195,8 +195,7 @@ fn put_two(out: &mut [u8], at: usize, n: u32) -> usize
     put(out, a, low(n))
 }
 
-// A number in four bytes, from a place on.
-pub fn put_four(out: &mut [u8], at: usize, n: u32) -> usize
+fn put_four(out: &mut [u8], at: usize, n: u32) -> usize
     requires { ⌜ at + 4 ≤ length (now out) ⌝ }
     ensures { λ r. ⌜ Put (now (out .entry)) at (bytesOf 4 n) 4 r (now (out .exit)) ⌝ }
 {
@@ -275,4 +274,17 @@ pub fn write_call(call: Call, out: &mut [u8], at: usize) -> usize
         return at;
     }
     put_form(out, at, tag, count, numbers)
+}
+
+// A number in four bytes, from a place on, and the place behind it. Where there is no room, the place and the buffer stay as they are.
+pub fn write_four(out: &mut [u8], at: usize, n: u32) -> usize
+    ensures { λ r. ⌜ _≡_ {A = Written} (r, now (out .exit)) (putInto 4 (bytesOf 4 n) (now (out .entry)) at) ⌝ }
+{
+    if out.len() < 4 {
+        return at;
+    }
+    if out.len() - 4 < at {
+        return at;
+    }
+    put_four(out, at, n)
 }

@@ -8,6 +8,7 @@ ghost use lib.ListN.{length, getD, take, set, replicate};
 ghost use lib.Seq.{sets};
 ghost use Rattle.lists.specs.Lists.{tab};
 ghost use Rattle.sets.specs.Set.{members};
+ghost use Rattle.machine.specs.Wire.{number};
 ghost use Rattle.splitting.specs.Split.{split};
 ghost use Rattle.splitting.specs.Limits.{Answer, refusal};
 ghost use Rattle.positions.specs.Days.{size, dayAt, daysOf, inRange, whyBefore, byMember, expectedUnits};
@@ -53,6 +54,21 @@ fn rolled(sum: u64, comes: u32, leaves: u32) -> u64
     std::num::wrapping_sub_u64(std::num::wrapping_add_u64(sum, comes as u64), leaves as u64)
 }
 
+// A byte as a wider number.
+fn wide(b: u8) -> u32
+    ensures { λ r. ⌜ (r ≡ b) × (r < 256) ⌝ }
+{
+    b as u32
+}
+
+// The position in the four bytes at a place, big-endian.
+fn position(s: &[u8], at: usize) -> u32
+    requires { ⌜ at + 4 ≤ length (now s) ⌝ }
+    ensures { λ r. ⌜ r ≡ number at 4 (now (s .entry)) ⌝ }
+{
+    ((wide(s[at]) * 256 + wide(s[at + 1])) * 256 + wide(s[at + 2])) * 256 + wide(s[at + 3])
+}
+
 // Whether every position of the record that begins at a place is within its limit.
 fn in_range(bytes: &[u8], at: usize, n: usize) -> bool
     requires { ⌜ (n ≤ 32) × (at + 4 * n ≤ length (now bytes)) ⌝ }
@@ -60,7 +76,7 @@ fn in_range(bytes: &[u8], at: usize, n: usize) -> bool
 {
     let mut m: usize = 0;
     while m < n {
-        if MOST_POSITION < wire::four(bytes, at + 4 * m) {
+        if MOST_POSITION < position(bytes, at + 4 * m) {
             return false;
         }
         m += 1;
@@ -93,7 +109,7 @@ fn take_day(
 {
     let mut m: usize = 0;
     while m < n {
-        let comes = wire::four(bytes, at + 4 * m);
+        let comes = position(bytes, at + 4 * m);
         roll(ring, sums, 32 * row + m, m, comes);
         m += 1;
     }

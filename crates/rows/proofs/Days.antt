@@ -223,3 +223,8 @@ module _ (n : ℕ) (last : Bool) (input old out : List ℕ) (count used to : ℕ
 
   pub days-end : day .size ≡ 0 → WritesDays n last input old out (record { count = count; used = used; written = to })
   days-end stop = taking-ends (daySize n last) most (recordOf n) 128 input old out count used to g (day .size) (d .size) stop
+
+-- a number has four bytes
+pub four-long : (n : ℕ) → length (bytesOf 4 n) ≤ 4
+unfolding bytesOf
+four-long n = omega arith

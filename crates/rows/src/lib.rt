@@ -410,7 +410,7 @@ fn put_numbers(out: &mut [u8], at: usize, count: usize, numbers: [u32; 32]) -> u
     let mut to = at;
     let mut i: usize = 0;
     while i < count {
-        to = forms::put_four(out, to, numbers[i]);
+        to = forms::write_four(out, to, numbers[i]);
         i += 1;
     }
     to

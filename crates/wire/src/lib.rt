@@ -149,7 +149,7 @@ fn two(s: &[u8], at: usize) -> u16
 }
 
 // The number in four bytes, big-endian.
-pub fn four(s: &[u8], at: usize) -> u32
+fn four(s: &[u8], at: usize) -> u32
     requires { ⌜ at + 4 ≤ length (now s) ⌝ }
     ensures { λ r. ⌜ r ≡ number at 4 (now (s .entry)) ⌝ }
 {

@@ -23,20 +23,20 @@ loop-holds : tie.Need-loop-holds Inv-loop μ-loop
 unfolding inRange
 loop-holds c = (search needs, refl)
 
-mul-four : tie.Need-mul-four Inv-loop μ-loop
-mul-four c = search needs
+mul-position : tie.Need-mul-position Inv-loop μ-loop
+mul-position c = search needs
 
-add-four : tie.Need-add-four Inv-loop μ-loop
-add-four c = search needs
+add-position : tie.Need-add-position Inv-loop μ-loop
+add-position c = search needs
 
-four-requires : tie.Need-four-requires Inv-loop μ-loop
-four-requires c κs = search needs
+position-requires : tie.Need-position-requires Inv-loop μ-loop
+position-requires c κs = search needs
 
 returns : tie.Need-returns Inv-loop μ-loop
 returns c =
     let s = c .before .before .before .before .before in
     let at = c .before .before .before .loop in
-    let bad : ok (number (s .args .at + 4 * at .m) 4 (s .args .bytes .now)) ≡ false = rw (sym (c .before .four .ensures)) (lt-leb _ _ (c .if1 .taken)) in
+    let bad : ok (number (s .args .at + 4 * at .m) 4 (s .args .bytes .now)) ≡ false = rw (sym (c .before .position .ensures)) (lt-leb _ _ (c .if1 .taken)) in
     sym (at .inv .1 ∙ range-turn (s .args .n) (s .args .bytes .now) (s .args .at) (at .m) (omega arith) ∙ rw bad)
 
 add-m : tie.Need-add-m Inv-loop μ-loop
@@ -49,7 +49,7 @@ loop-again : tie.Need-loop-again Inv-loop μ-loop
 loop-again c =
     let s = c .before .before .before .before .before in
     let at = c .before .before .before .loop in
-    let good : ok (number (s .args .at + 4 * at .m) 4 (s .args .bytes .now)) ≡ true = rw (sym (c .before .four .ensures)) (le-leb _ _ (c .if1 .left)) in
+    let good : ok (number (s .args .at + 4 * at .m) 4 (s .args .bytes .now)) ≡ true = rw (sym (c .before .position .ensures)) (le-leb _ _ (c .if1 .left)) in
     (omega arith, at .inv .1 ∙ range-turn (s .args .n) (s .args .bytes .now) (s .args .at) (at .m) (omega arith) ∙ rw good)
 
 returns-2 : tie.Need-returns-2 Inv-loop μ-loop
@@ -65,9 +65,9 @@ in-range-spec =
     Inv-loop
     μ-loop
     loop-holds
-    mul-four
-    add-four
-    four-requires
+    mul-position
+    add-position
+    position-requires
     returns
     add-m
     loop-less

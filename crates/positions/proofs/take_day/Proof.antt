@@ -24,14 +24,14 @@ abbrev μ-loop : tie.MeasureT-loop
 loop-holds : tie.Need-loop-holds Inv-loop μ-loop
 loop-holds c = (search needs, sym (begin _ _ _), sym (begin _ _ _))
 
-mul-four : tie.Need-mul-four Inv-loop μ-loop
-mul-four c = search needs
+mul-position : tie.Need-mul-position Inv-loop μ-loop
+mul-position c = search needs
 
-add-four : tie.Need-add-four Inv-loop μ-loop
-add-four c = search needs
+add-position : tie.Need-add-position Inv-loop μ-loop
+add-position c = search needs
 
-four-requires : tie.Need-four-requires Inv-loop μ-loop
-four-requires c κs = search needs
+position-requires : tie.Need-position-requires Inv-loop μ-loop
+position-requires c κs = search needs
 
 mul-roll : tie.Need-mul-roll Inv-loop μ-loop
 mul-roll c = search needs
@@ -52,7 +52,7 @@ loop-again : tie.Need-loop-again Inv-loop μ-loop
 loop-again c =
     let a = c .before .before .before .before .before .before .before .args in
     let at = c .before .before .before .before .before .loop in
-    let comes = c .before .before .before .four .ensures in (
+    let comes = c .before .before .before .position .ensures in (
       omega arith,
       c .roll .ensures .0 ∙ ring-turn _ _ (a .row) (a .bytes .now) (a .at) (a .n) (at .m) (at .ring) (at .sums) _ (at .inv .1) (at .inv .2) comes,
       c .roll .ensures .1 ∙ sums-turn _ _ (a .row) (a .bytes .now) (a .at) (a .n) (at .m) (at .ring) (at .sums) _ (at .inv .1) (at .inv .2) comes (omega arith),
@@ -72,9 +72,9 @@ take-day-spec =
     Inv-loop
     μ-loop
     loop-holds
-    mul-four
-    add-four
-    four-requires
+    mul-position
+    add-position
+    position-requires
     mul-roll
     add-roll
     roll-requires

@@ -1,10 +1,11 @@
 -- `rows::put_numbers` meets its contract. The invariant: what is put and what is left make up the record. Assumes nothing.
 use Prim.Native.Nat.{_+_, _*_, _-_, _≤_}
 use native.Mathlib.Omega.{arith}
-use lib.ListN.{length, take, drop}
-use Rattle.forms.proofs.Puts.{Putting, putting-start, putting-turn, putting-end, putting-most}
+use lib.ListN.{length, getD, take, drop}
+use Rattle.forms.specs.Encode.{bytesOf}
+use Rattle.forms.proofs.Puts.{Putting, put-into, putting-start, putting-turn, putting-end, putting-most}
 use Rattle.rows.specs.Days.{fourEach}
-use Rattle.rows.proofs.Days.{four-next, four-none}
+use Rattle.rows.proofs.Days.{four-next, four-none, four-long}
 use borrow.Author.Needs.{needs}
 use Rattle.rows.proofs.put_numbers.Statement.{statement}
 use Rattle.rows.proofs.put_numbers.Tie as tie
@@ -19,16 +20,14 @@ abbrev μ-loop : tie.MeasureT-loop
 loop-holds : tie.Need-loop-holds Inv-loop μ-loop
 loop-holds c = (putting-start _ _ _, search needs, c .before .pre .0, c .before .pre .1)
 
-mul-put-four : tie.Need-mul-put-four Inv-loop μ-loop
-mul-put-four c = search needs
+mul-write-four : tie.Need-mul-write-four Inv-loop μ-loop
+mul-write-four c = search needs
 
-array-read-put-four : tie.Need-array-read-put-four Inv-loop μ-loop
-array-read-put-four c = search needs
+array-read-write-four : tie.Need-array-read-write-four Inv-loop μ-loop
+array-read-write-four c = search needs
 
-put-four-requires : tie.Need-put-four-requires Inv-loop μ-loop
-put-four-requires c κs =
-    let l = c .before .before .loop .inv in
-    omega (arith, l .0 .put .behind, l .0 .put .short, l .0 .put .same, l .1, l .2, l .3)
+write-four-requires : tie.Need-write-four-requires Inv-loop μ-loop
+write-four-requires c κs = search needs
 
 add-i : tie.Need-add-i Inv-loop μ-loop
 add-i c = search needs
@@ -41,7 +40,9 @@ loop-again c =
     let l = c .before .before .before .before .before .loop in
     let a = c .before .before .before .before .before .before .before .args in
     let e = four-next (a .count) (a .t4) (search needs) (l .i) (search needs) in
-    (putting-most ((l .i + 1) * 4) (omega arith) (putting-turn _ _ (l .inv .0) e (c .before .before .put-four .ensures)), search needs, l .inv .2, l .inv .3)
+    let done = l .inv .0 .put in
+    let put = put-into 4 (bytesOf 4 (getD (a .t4) (l .i) 0)) (four-long _) (omega (arith, done .behind, done .short, done .same, l .inv .1, l .inv .2, l .inv .3)) (c .before .before .write-four .ensures) in
+    (putting-most ((l .i + 1) * 4) (omega arith) (putting-turn _ _ (l .inv .0) e put), search needs, l .inv .2, l .inv .3)
 
 same-length : tie.Need-same-length Inv-loop μ-loop
 same-length c = c .before .loop .inv .0 .put .same
@@ -59,9 +60,9 @@ put-numbers-spec =
     Inv-loop
     μ-loop
     loop-holds
-    mul-put-four
-    array-read-put-four
-    put-four-requires
+    mul-write-four
+    array-read-write-four
+    write-four-requires
     add-i
     loop-less
     loop-again
