@@ -7,19 +7,17 @@ use Prim.Native.Nat.{ℕ, _+_, _-_, _*_, _/_, _≤_, _<_}
 use native.Mathlib.Omega.{arith}
 use native.Mathlib.Nat.{zero-div, div-mul-le-self, mul-comm, mul-add, mul-add-div}
 use lib.Dec.{eqb}
-use lib.ListN.{length, take, drop, length-append, length-drop}
-use lib.Seq.{sets, take-append-le, drop-append-le, drop-drop}
+use lib.ListN.{length, drop, length-append, length-drop}
+use lib.Seq.{take-append-le, drop-append-le, drop-drop}
 use borrow.Author.Tests.{eq-eqb, ne-eqb, eqb-true, eqb-false}
 use Rattle.lists.specs.Lists.{if_then_else_, tab, joined}
 use Rattle.lists.proofs.Bools.{cases, lt-or-le}
 use Rattle.lists.proofs.Places.{tab-ext, tab-append}
 use Rattle.sets.specs.Set.{members}
 use Rattle.machine.specs.Wire.{number}
-use Rattle.splitting.specs.Split.{split}
-use Rattle.splitting.specs.Limits.{Answer}
-use Rattle.splitting.proofs.Answers.{answered-0, answered-not-0}
-use Rattle.positions.specs.Days.{size, dayAt, daysOf, whyBefore, whyRun, byMember, expectedUnits}
-use Rattle.positions.specs.Keeping.{Kept, noDays, Taken, taken, partOf, whyEnd, ended, Fed, fed, inParts}
+use Rattle.splitting.proofs.Answers.{answered-not-0}
+use Rattle.positions.specs.Days.{size, dayAt, daysOf, whyBefore, whyRun, expectedUnits}
+use Rattle.positions.specs.Keeping.{Kept, noDays, Taken, taken, partOf, ended, Fed, fed, inParts}
 use Rattle.positions.proofs.Days.{days-count, record-fits}
 use Rattle.positions.proofs.Records.{taken-used, taken-then, taken-stops, taken-shift}
 use Rattle.positions.proofs.Whole.{ready-some, whole-before, whole-bad, whole-end}
@@ -291,11 +289,3 @@ end-first set units bytes shares z h =
     let same = first-days n (ready-some n units z) bytes in
     ap (λ (t : Taken). ended set units (length bytes - t .used) (t .kept .sums) shares) same
     ∙ whole-end set units bytes shares z (ap (λ (t : Taken). t .answer) (sym same) ∙ h)
-
--- a run that is declined at its end leaves the shares as they were
-pub end-untouched : (set units left : ℕ) (sums shares : List ℕ) (a : ℕ) (out : List ℕ) → _≡_ {A = Answer} (a, out) (ended set units left sums shares) → (a ≡ 0 → ⊥) → out ≡ shares
-unfolding ended
-end-untouched set units left sums shares a out e h =
-    let why = whyEnd (length (members set)) units left sums in
-    let done = sets shares 0 (byMember set (split units (take (length (members set)) sums))) in
-    ap (λ (x : Answer). x .1) (e ∙ answered-not-0 why done shares (λ z. h (ap (λ (x : Answer). x .0) (e ∙ answered-0 why done shares z))))
