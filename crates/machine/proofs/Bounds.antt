@@ -10,7 +10,7 @@ use native.Mathlib.Omega.{arith}
 use lib.Dec.{eqb}
 use lib.ListN.{length, getD, replicate, length-append, length-replicate, List·getD-eq-default}
 use borrow.Author.Tests.{eq-eqb, ne-eqb}
-use Rattle.lists.specs.Lists.{if_then_else_, oneIf, sum, count, keep, least, tab}
+use Rattle.lists.specs.Lists.{if_then_else_, oneIf, sum, count, keep, least, mapFrom, tab}
 use Rattle.lists.proofs.Bools.{cases, either, and-right, lt-or-le}
 use Rattle.lists.proofs.Sums.{sum-bound, sumTo-bound, sum-scaled, least-each}
 use Rattle.lists.proofs.Keep.{sum-keep-le, keep-all, keep-few, sum-keys}
@@ -20,7 +20,7 @@ use Rattle.sets.specs.Set.{member, members}
 use Rattle.sets.proofs.Bits.{member-high}
 use Rattle.sets.proofs.Members.{sum-members}
 use Rattle.auction.specs.Price.{priceLimit}
-use Rattle.machine.specs.Roll.{UnitState, Open, Sold, Allocated, Moved, Torn, Entry, Bid, noBid, kind, isOpen, openUnits, priceOf, prices}
+use Rattle.machine.specs.Roll.{UnitState, Open, Sold, Allocated, Moved, Torn, Agreed, Entry, Bid, noBid, kind, isOpen, openUnits, priceOf, prices, soldByAgreement}
 use Rattle.machine.specs.State.{Pool, Round, Case, noPool, noMember, noRound, inSet, memberAt}
 use Rattle.machine.specs.Requirement.{requirement, contributionOf, contributions, prefunded}
 use Rattle.machine.specs.Calls.{reserve, wonByMember}
@@ -84,6 +84,13 @@ unfolding sum
 units-bound [] h = omega arith
 units-bound (x ∷ xs) h = omega (arith, units-bound xs (h .1), h .0 .1)
 
+-- what is left of a list where some entries count for nothing
+some-left : (out : ℕ → Bool) (i : ℕ) (xs : List ℕ) → sum (mapFrom i (λ pool n. if out pool then 0 else n) xs) ≤ sum xs
+unfolding mapFrom sum
+some-left out i [] = omega arith
+some-left out i (x ∷ xs) =
+    omega (arith, some-left out (suc i) xs, either (λ (n : ℕ). n ≤ x) (out i) {x = 0} {y = x} (omega arith) (omega arith))
+
 -- each entry is of one of the five kinds
 five-kinds : (b : Bool) (s : UnitState) → sum (tab 5 (λ k. oneIf (b && eqb (kind s) k))) ≡ oneIf b
 unfolding sum tab kind oneIf
@@ -92,6 +99,7 @@ five-kinds true (Sold bid) = refl
 five-kinds true (Allocated m price) = refl
 five-kinds true (Moved m) = refl
 five-kinds true (Torn price) = refl
+five-kinds true (Agreed m price) = refl
 five-kinds false s = refl
 
 pub five-add : (pool : ℕ) (roll : List Entry) → sum (fiveCounts roll pool) ≡ count (λ e. eqb (e .pool) pool) roll
@@ -244,7 +252,8 @@ module _ (c : Case) (ok : CaseOk c) where
     unfolding standing
     expected-small =
         let o = member-ok m in
-        omega (arith, sum-bound 1000 (memberAt (c .members) m .expected) (o .expected-most), o .expected4)
+        let xs = memberAt (c .members) m .expected in
+        omega (arith, some-left (soldByAgreement (c .roll)) 0 xs, sum-bound 1000 xs (o .expected-most), o .expected4)
 
   -- every price in the roll is in range
   pub prices-ok : Each (λ e. priceOf (c .bids) (e .state) ≤ priceLimit) (c .roll)
@@ -257,6 +266,7 @@ module _ (c : Case) (ok : CaseOk c) where
       one pool (Allocated m price) o = o .1
       one pool (Moved m) o = omega arith
       one pool (Torn price) o = o
+      one pool (Agreed m price) o = o .1
 
   pub prices-few : length (prices (c .bids) (c .roll)) ≤ 4000
   unfolding prices

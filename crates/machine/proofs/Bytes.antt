@@ -11,9 +11,9 @@ use lib.ListN.{length, take, drop}
 use Rattle.lists.specs.Lists.{between}
 use Rattle.lists.proofs.Bools.{either}
 use Rattle.lists.proofs.Each.{Each, each-drop}
-use Rattle.machine.specs.Wire.{Call, HEAD, POOL, MEMBER, ROUND, BID, CLOSE, ALLOCATE, TEAR, CALL, PAY, MOVE, MISS, FINISH, bigEndian, number, rightLength, callOf, decode}
+use Rattle.machine.specs.Wire.{Call, HEAD, POOL, MEMBER, ROUND, BID, CLOSE, ALLOCATE, TEAR, CALL, PAY, MOVE, MISS, FINISH, SALE, bigEndian, number, rightLength, callOf, decode}
 use Rattle.machine.specs.State.{Case, State, theCase}
-use Rattle.machine.specs.Calls.{accepted, afterPool, afterMember, afterRound, afterBid, afterClose, afterAllocate, afterTear, afterCall, afterPay, afterMove, afterMiss}
+use Rattle.machine.specs.Calls.{accepted, afterPool, afterMember, afterRound, afterBid, afterClose, afterAllocate, afterTear, afterCall, afterPay, afterMove, afterMiss, afterSale}
 use Rattle.machine.specs.Machine.{step}
 use Rattle.machine.specs.Run.{runFrom}
 use Rattle.machine.proofs.Answers.{step-cases}
@@ -47,6 +47,7 @@ Small (PAY m amount) = Unit {0}
 Small (MOVE m) = Unit {0}
 Small (MISS m price) = Unit {0}
 Small FINISH = Unit {0}
+Small (SALE pool m price) = Unit {0}
 
 call-small : (tag : ℕ) (v : List ℕ) → Each Byte v → Small (callOf tag v)
 unfolding callOf number
@@ -62,7 +63,8 @@ call-small tag v h =
     (either Small (eqb tag 9) tt
     (either Small (eqb tag 10) tt
     (either Small (eqb tag 11) tt
-    (either Small (eqb tag 12) tt tt)))))))))))
+    (either Small (eqb tag 12) tt
+    (either Small (eqb tag 13) tt tt))))))))))))
 
 abbrev AllSmall : Option Call → Type 0
 AllSmall none = Unit {0}
@@ -74,7 +76,7 @@ decoded-small [] h = tt
 decoded-small (tag ∷ []) h = tt
 decoded-small (tag ∷ high ∷ []) h = tt
 decoded-small (tag ∷ high ∷ low ∷ v) h =
-    either AllSmall (between 1 13 tag && eqb (high * 256 + low) (length v) && rightLength tag (length v)) {x = some (callOf tag v)} {y = none}
+    either AllSmall (between 1 14 tag && eqb (high * 256 + low) (length v) && rightLength tag (length v)) {x = some (callOf tag v)} {y = none}
     (call-small tag v (h .1 .1 .1)) tt
 
 abbrev SetOk : State → Type 0
@@ -83,7 +85,7 @@ SetOk (some c) = c .head .set < 2 ^ 32
 
 -- only HEAD sets the member set
 set-call : (c : Case) (call : Call) → Small call → c .head .set < 2 ^ 32 → accepted c call .head .set < 2 ^ 32
-unfolding accepted afterPool afterMember afterRound afterBid afterClose afterAllocate afterTear afterCall afterPay afterMove afterMiss
+unfolding accepted afterPool afterMember afterRound afterBid afterClose afterAllocate afterTear afterCall afterPay afterMove afterMiss afterSale
 set-call c (HEAD h) s o = s
 set-call c (POOL pool units mark) s o = o
 set-call c (MEMBER m contribution expected) s o = o
@@ -97,6 +99,7 @@ set-call c (PAY m amount) s o = o
 set-call c (MOVE m) s o = o
 set-call c (MISS m price) s o = o
 set-call c FINISH s o = o
+set-call c (SALE pool m price) s o = o
 
 the-set : (s : State) → SetOk s → theCase s .head .set < 2 ^ 32
 the-set none o = omega arith

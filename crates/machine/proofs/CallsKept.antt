@@ -1,7 +1,7 @@
 -- Each accepted call keeps what holds of the case: one lemma for each call. Assumes nothing.
 use mathlib.Core.Path.{_≡_, refl, sym, ap, _∙_}
-use mathlib.Core.Bool.{Bool, true, false, _&&_, not, false≢true}
-use mathlib.Core.Logic.{⊎-elim}
+use mathlib.Core.Bool.{Bool, true, false, _&&_, _||_, not, false≢true}
+use mathlib.Core.Logic.{inl, ⊎-elim}
 use mathlib.Core.List.{List, [], _∷_, _++_, append-nil, append-assoc}
 use mathlib.Core.Option.{some}
 use Prim.Native.Nat.{ℕ, zero, suc, _+_, _-_, _≤_, _<_}
@@ -17,25 +17,25 @@ use Rattle.lists.proofs.Places.{length-tab, getD-tab, getD-same}
 use Rattle.lists.proofs.Sums.{entry-le}
 use Rattle.lists.proofs.Keep.{sum-keep-cons}
 use Rattle.lists.proofs.Counts.{count-append, count-replicate-out, each-all, each-any}
-use Rattle.lists.proofs.Each.{Each, set-cases, each-at, each-append, each-replicate, each-more, each-both, each-keep, each-mapFrom, each-mapFrom-at, each-kept-at, each-get, same-mapFrom, length-mapFrom, map-append, map-replicate}
+use Rattle.lists.proofs.Each.{Each, set-cases, each-at, each-map, each-append, each-replicate, each-more, each-both, each-keep, each-mapFrom, each-mapFrom-at, each-kept-at, each-get, same-mapFrom, length-mapFrom, map-append, map-replicate}
 use Rattle.lists.proofs.Pairs.{Pairs, pairs-mapFrom, pairs-at}
 use Rattle.lists.specs.Tests.{Passed}
 use Rattle.auction.specs.Price.{priceOk, priceLimit}
 use Rattle.sets.specs.Set.{members}
-use Rattle.machine.specs.Wire.{Head, POOL, MEMBER, ROUND, BID, CLOSE, ALLOCATE, TEAR, CALL, PAY, MOVE, MISS, FINISH}
-use Rattle.machine.specs.Roll.{UnitState, Open, Sold, Allocated, Moved, Torn, Entry, Bid, noBid, kind, openIn, openUnits, putUp, passedTo}
-use Rattle.machine.specs.State.{Stage, CallsOut, Finished, Pool, Member, Round, Case, newCase, noMember, noRound, letter, letterOf, roundOf, withStage, withMembers, withAllocated, withMoved, withCalled, inSet, memberList, memberAt}
+use Rattle.machine.specs.Wire.{Head, POOL, MEMBER, ROUND, BID, CLOSE, ALLOCATE, TEAR, CALL, PAY, MOVE, MISS, FINISH, SALE}
+use Rattle.machine.specs.Roll.{UnitState, Open, Sold, Allocated, Moved, Torn, Agreed, Entry, Bid, noBid, withState, kind, isOpen, isAgreed, openIn, changedIf, openUnits, anyOpen, putUp, passedTo}
+use Rattle.machine.specs.State.{Stage, CallsOut, Finished, Pool, Member, Round, Case, newCase, noMember, noRound, letter, letterOf, roundOf, withStage, withMembers, withRoll, withAllocated, withMoved, withCalled, inSet, memberList, memberAt}
 use Rattle.machine.specs.Requirement.{owes}
 use Rattle.machine.specs.Move.{moveAll}
-use Rattle.machine.specs.Calls.{newMember, newRound, newBid, reserve, inAuction, wonIn, wonGiven, bidsAfter, sell, afterPool, afterMember, afterRound, afterBid, afterClose, shortfall, allocation, alsoAllocated, afterAllocate, calls, afterTear, afterCall, afterPay, afterMove, afterMiss}
+use Rattle.machine.specs.Calls.{newMember, newRound, newBid, reserve, inAuction, wonIn, wonGiven, bidsAfter, sell, afterPool, afterMember, afterRound, afterBid, afterClose, shortfall, allocation, alsoAllocated, afterAllocate, calls, afterTear, afterCall, afterPay, afterMove, afterMiss, sold, afterSale}
 use Rattle.machine.specs.Refusals.{tests, headOk, poolOk, memberOk, bidOk, paymentOk, notInCase, notInSet, notGiven}
-use Rattle.machine.proofs.RollChanges.{takenIn, taken, soldIs, soldTo, changes-torn, changes-shares, changes-move, changes-sell, same-pools, changed-each}
+use Rattle.machine.proofs.RollChanges.{takenIn, taken, soldIs, soldTo, changes-changed, changes-torn, changes-shares, changes-move, changes-sell, same-pools, changed-each}
 use Rattle.machine.proofs.Giving.{wonWhere, wonThen, sell-open, sell-taken, sell-sold}
 use Rattle.machine.proofs.Invariant.{HeadOk, PoolOk, MemberOk, Uncalled, MembersOk, RoundOk, BidOk, laid, EntryOk, RollOk, ofPool, ReserveOk, CaseOk}
 use Rattle.machine.proofs.Closing.{won-at, won-sum, wins-at, given-same, given-won, given-le, won-grows}
-use Rattle.machine.proofs.Stages.{letter-some, letter-is, letter-AC, letter-round, round-stage, bidding-stage, some-rounds}
+use Rattle.machine.proofs.Stages.{letter-some, letter-is, letter-AC, letter-round, round-stage, bidding-stage, few-rounds}
 use Rattle.machine.proofs.Shares.{allocation-le, call-le}
-use Rattle.machine.proofs.Setters.{Allowed, noMember-ok, none-open, with-roll, with-members, with-member, with-stage, the-member}
+use Rattle.machine.proofs.Setters.{Allowed, noMember-ok, none-open, all-shut, with-roll, with-members, with-member, with-stage, with-after, the-member}
 
 -- ---- HEAD
 
@@ -74,7 +74,7 @@ head-ok h fit =
       bids = record { few = omega arith; each = tt };
       roll = record { order = refl; each = tt };
       won = record { total = λ pool. omega arith; reserves = tt; unsold = λ e. tt; sold = λ b. omega arith };
-      units = record { opened = λ e. absurd (omega arith); none = λ l. absurd (omega arith) };
+      units = record { opened = λ e. absurd (omega arith); none = λ l. absurd (omega arith); setup = λ e. tt; sold-out = λ a. absurd (omega arith) };
     }
 
 -- ---- POOL
@@ -120,6 +120,7 @@ entry-wider h old new w pool (Sold b) o = (omega (arith, w .many, o .0), w .same
 entry-wider h old new w pool (Allocated m price) o = o
 entry-wider h old new w pool (Moved m) o = o
 entry-wider h old new w pool (Torn price) o = o
+entry-wider h old new w pool (Agreed m price) o = o
 
 bids-keep : (h : Head) (pools : List Pool) (old new : List Bid) (roll : List Entry) → Wider old new → RollOk h pools old roll → RollOk h pools new roll
 bids-keep h pools old new roll w ok =
@@ -148,6 +149,16 @@ unfolding alsoAllocated
 also-none pool n x e =
     let same : getD (x .allocated) pool 0 + n ≡ getD (x .allocated) pool 0 = omega arith in
     ap (λ (k : ℕ). withAllocated x (set (x .allocated) pool k)) same ∙ ap (withAllocated x) (set-getD (x .allocated) pool 0)
+
+-- the units put up are open
+put-open : (pool n : ℕ) (roll : List Entry) → Each (λ e. (isOpen e || isAgreed (e .state)) ≡ true) roll
+    → Each (λ e. (isOpen e || isAgreed (e .state)) ≡ true) (putUp pool n roll)
+unfolding putUp isOpen kind
+put-open pool n roll h = each-append _ roll (replicate n (record { pool = pool; state = Open })) h (each-replicate _ n (record { pool = pool; state = Open }) refl)
+
+or-true : (b : Bool) → (b || true) ≡ true
+or-true true = refl
+or-true false = refl
 
 module _ (c : Case) (ok : CaseOk c) where
   pub pool-ok : (pool units mark : ℕ) → Passed (tests (some c) c (POOL pool units mark)) → CaseOk (afterPool c pool units mark)
@@ -184,7 +195,7 @@ module _ (c : Case) (ok : CaseOk c) where
           unsold = ok .won .unsold;
           sold = λ b. omega (arith, ok .won .sold b, counts .1 b);
         };
-        units = record { opened = λ e. absurd (omega arith); none = λ l. absurd (omega arith) };
+        units = record { opened = λ e. absurd (omega arith); none = λ l. absurd (omega arith); setup = λ e. put-open pool units (c .roll) (ok .units .setup e); sold-out = λ a. absurd (omega arith) };
       }
 
   -- ---- MEMBER
@@ -243,7 +254,9 @@ module _ (c : Case) (ok : CaseOk c) where
       let n = c .head .pools in
       let next = newRound n (c .roll) reserves in
       let more = length-append (c .rounds) (next ∷ []) in
-      let from = round-stage (c .stage) (length (c .rounds)) (ok .stage) (letter-round (c .stage) (t .1 .0)) in
+      let from = round-stage (c .stage) (length (c .rounds)) (ok .stage) (λ a z. absurd (
+      false≢true (sym (rw (a, all-shut (c .roll) (ok .units .sold-out a z)) at (t .1 .1 .1 .0)))
+      )) (letter-round (c .stage) (t .1 .0)) in
       let complete = round-complete (t .1 .1 .1 .1 .0) in
       record {
         head = ok .head;
@@ -291,6 +304,8 @@ module _ (c : Case) (ok : CaseOk c) where
           opened = λ e. ap (λ (r : Round). r .opened)
               (getD-at (c .rounds) next [] noRound (suc (roundOf (c .stage)) - 1) (omega (arith, from .0)));
           none = λ l. absurd (omega arith);
+          setup = λ e. absurd (omega arith);
+          sold-out = λ a. absurd (omega arith);
         };
       }
 
@@ -441,7 +456,7 @@ module _ (c : Case) (ok : CaseOk c) where
       let old = ok .members in
       record {
         head = ok .head;
-        stage = at;
+        stage = (inl (at .0), at .1, at .2);
         pools = record { few = ok .pools .few; each = ok .pools .each; complete = λ l. ok .pools .complete (omega arith) };
         members = record {
           all32 = old .all32;
@@ -469,7 +484,7 @@ module _ (c : Case) (ok : CaseOk c) where
             pairs-at _ (c .bids) (bids bidding) b noBid (omega (arith, same-choice {A = ℕ} (eqb 0 (round bidding)) 0)) (close-won bidding),
           );
         };
-        units = record { opened = λ e. absurd (omega arith); none = λ l. absurd (omega arith) };
+        units = record { opened = λ e. absurd (omega arith); none = λ l. absurd (omega arith); setup = λ e. absurd (omega arith); sold-out = λ a z. absurd (omega (arith, at .0, at .1)) };
       }
 
   -- ---- ALLOCATE and CALL change every member by its place
@@ -525,7 +540,7 @@ module _ (c : Case) (ok : CaseOk c) where
       _
       (changes-shares (Allowed (c .head) (c .bids)) pool price shares (memberList (c .head)) (c .roll)
       (each-more _ _ (λ m i. record { fits = (i, fit); closed = refl; unsold = λ b. refl }) (memberList (c .head)) (each-keep (inSet (c .head)) (places 32))))
-      (λ e. omega arith)
+      (λ e. omega arith) (λ e. absurd (omega arith))
 
   -- ---- TEAR and MISS
 
@@ -537,13 +552,13 @@ module _ (c : Case) (ok : CaseOk c) where
   unfolding tests afterTear letterOf
   tear-ok pool price t =
       let after = letter-is (c .stage) 3 (t .0) in
-      with-roll c ok _ (changes-torn _ (openIn pool) price (c .roll) (torn-allowed price (not-false _ (t .1 .1 .0)))) (λ e. omega arith)
+      with-roll c ok _ (changes-torn _ (openIn pool) price (c .roll) (torn-allowed price (not-false _ (t .1 .1 .0)))) (λ e. omega arith) (λ e. absurd (omega arith))
 
   pub miss-ok : (m price : ℕ) → Passed (tests (some c) c (MISS m price)) → CaseOk (afterMiss c m price)
   unfolding tests afterMiss letterOf
   miss-ok m price t =
       let after = letter-AC (c .stage) (t .0) in
-      with-roll c ok _ (changes-torn _ (λ e. passedTo m (e .state)) price (c .roll) (torn-allowed price (not-false _ (t .1 .1 .0)))) (λ e. omega arith)
+      with-roll c ok _ (changes-torn _ (λ e. passedTo m (e .state)) price (c .roll) (torn-allowed price (not-false _ (t .1 .1 .0)))) (λ e. omega arith) (λ e. absurd (omega arith))
 
   -- ---- CALL and FINISH
 
@@ -556,7 +571,7 @@ module _ (c : Case) (ok : CaseOk c) where
       let old = ok .members in
       record {
         head = ok .head;
-        stage = some-rounds (c .stage) (length (c .rounds)) (ok .stage) (omega arith);
+        stage = few-rounds (c .stage) (length (c .rounds)) (ok .stage);
         pools = record { few = ok .pools .few; each = ok .pools .each; complete = λ l. ok .pools .complete (omega arith) };
         members = mapped-members CallsOut called (omega arith)
             (λ m l.
@@ -581,14 +596,14 @@ module _ (c : Case) (ok : CaseOk c) where
         bids = ok .bids;
         roll = ok .roll;
         won = record { total = ok .won .total; reserves = ok .won .reserves; unsold = λ e. absurd (omega arith); sold = ok .won .sold };
-        units = record { opened = λ e. absurd (omega arith); none = λ l. none-open (c .roll) (t .1 .0) };
+        units = record { opened = λ e. absurd (omega arith); none = λ l. none-open (c .roll) (t .1 .0); setup = λ e. absurd (omega arith); sold-out = λ a. absurd (omega arith) };
       }
 
   pub finish-ok : Passed (tests (some c) c FINISH) → CaseOk (withStage c Finished)
   unfolding tests letterOf letter
   finish-ok t =
       let after = letter-AC (c .stage) (t .0) in
-      with-stage c ok Finished (some-rounds (c .stage) (length (c .rounds)) (ok .stage) (omega arith)) (omega arith) (omega arith)
+      with-stage c ok Finished (few-rounds (c .stage) (length (c .rounds)) (ok .stage)) (omega arith) (omega arith)
       (none-open (c .roll) (t .1 .0))
 
   -- ---- PAY and MOVE
@@ -652,4 +667,23 @@ module _ (c : Case) (ok : CaseOk c) where
       _
       (changes-move (Allowed (c .head) (c .bids)) (c .bids) m (λ pool. record { fits = here; closed = refl; unsold = λ b. refl })
       (length (c .roll)) (owes (c .members) m) (c .roll))
+      (λ e. omega arith) (λ e. absurd (omega arith))
+
+  -- ---- SALE
+
+  pub sale-ok : (pool m price : ℕ) → Passed (tests (some c) c (SALE pool m price)) → CaseOk (afterSale c pool m price)
+  unfolding tests afterSale sold letterOf notInSet kind soldIs isAgreed
+  sale-ok pool m price t =
+      let setup = letter-is (c .stage) 1 (t .0) in
+      let here = not-false _ (t .1 .1 .0) in
+      let fit = leb-true price priceLimit (not-false _ (t .1 .1 .1 .0)) in
+      let complete = round-complete (t .1 .1 .1 .1 .1 .0) in
+      let roll = sold pool m price (c .roll) in
+      let kept = with-roll c ok roll
+      (changes-changed (Allowed (c .head) (c .bids)) (openIn pool) (Agreed m price) (c .roll) (λ k. record { fits = (here, fit); closed = refl; unsold = λ b. refl }))
       (λ e. omega arith)
+      (λ e. each-map _ _ (changedIf (openIn pool) (Agreed m price))
+      (λ x o. either (λ (y : Entry). (isOpen y || isAgreed (y .state)) ≡ true) (openIn pool x) {x = withState x (Agreed m price)} {y = x} (or-true (isOpen (withState x (Agreed m price)))) o) (c .roll) (ok .units .setup e)) in
+      by-test (λ (s : Stage). CaseOk (withStage (withRoll c roll) s)) (anyOpen roll)
+      (λ e. kept)
+      (λ e. with-after (withRoll c roll) kept setup (complete .0) (complete .1) (none-open roll e))

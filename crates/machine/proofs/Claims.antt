@@ -4,7 +4,7 @@ use mathlib.Core.Bool.{true, false, _&&_}
 use mathlib.Core.List.{List, _++_, map, map-map}
 use mathlib.Core.Option.{none, some}
 use Prim.Native.Nat.{ℕ, _+_, _-_, _≤_, _<_, min}
-use lib.Dec.{eqb}
+use lib.Dec.{eqb, ltb}
 use lib.IntN.{pos, negsuc, _-ℤ_}
 use lib.ListN.{length, getD}
 use lib.Signed.{leZ}
@@ -13,11 +13,11 @@ use Rattle.lists.proofs.Each.{Each, each-at}
 use Rattle.lists.specs.Tests.{Passed, First}
 use Rattle.auction.specs.Price.{priceLimit, priceOk, cents, atLeast0}
 use Rattle.machine.specs.Wire.{Call, ALLOCATE, FINISH, number, price, signed, decode}
-use Rattle.machine.specs.Roll.{Entry, Sold, Allocated, Moved, noBid, openUnits, priceOf}
+use Rattle.machine.specs.Roll.{Entry, Sold, Allocated, Moved, Agreed, noBid, isAgreed, openUnits, priceOf, prices, agreedPrices}
 use Rattle.machine.specs.State.{Finished, Case, State, theCase, letter, letterOf, roundOf, withStage, noPool, noMember, noRound, inSet, memberList, memberAt}
 use Rattle.machine.specs.Requirement.{requirement, contributions, prefunded}
-use Rattle.machine.specs.Calls.{reserve, inAuction, bidsAfter, wonByMember, shortfall, totalShortfall, allocation, calls, afterClose, afterAllocate, accepted}
-use Rattle.machine.specs.Refusals.{tests}
+use Rattle.machine.specs.Calls.{reserve, inAuction, bidsAfter, wonByMember, shortfall, totalShortfall, allocation, calls, afterClose, afterAllocate, afterSale, accepted}
+use Rattle.machine.specs.Refusals.{saleTooDear, tests}
 use Rattle.machine.specs.Machine.{step}
 use Rattle.machine.specs.Table.{ByTable}
 use Rattle.machine.specs.Result.{worstReserve, standing, rank, payments, limits, charge, spent, onContribution, onPayments}
@@ -25,11 +25,13 @@ use Rattle.machine.specs.Run.{Result, MemberResult, runFrom, fiveCounts,
 use Rattle.machine.proofs.Answers as A
 use Rattle.machine.proofs.Tables as T
 use Rattle.machine.proofs.Invariant.{CaseOk}
-use Rattle.machine.proofs.RollChanges.{soldTo}
+use Rattle.machine.proofs.RollChanges.{noEntry, soldTo}
 use Rattle.machine.proofs.CallsKept as K
 use Rattle.machine.proofs.Shares as H
 use Rattle.machine.proofs.Reached as R
 use Rattle.machine.proofs.RollSteps as S
+use Rattle.machine.proofs.AgreedStay as G
+use Rattle.machine.proofs.Selling as E
 use Rattle.machine.proofs.Bounds as B
 use Rattle.machine.proofs.Bytes as Y
 use Rattle.machine.proofs.Prices as P
@@ -87,6 +89,11 @@ module _ (s : State) (bytes : List ℕ) where
   -- the open units of a pool never grow but by POOL
   pub open-units-fall : (pool : ℕ) → openUnits (S.rollOf (step s bytes .state)) pool ≤ openUnits (S.rollOf s) pool + count (λ p. eqb p pool) (S.added s bytes)
   open-units-fall = S.step-open s bytes
+
+  -- document 02, C-12: a unit sold by agreement stays so, to its member and at its price
+  pub agreed-stay : (i : ℕ) → i < length (S.rollOf s) → isAgreed (getD (S.rollOf s) i noEntry .state) ≡ true
+      → getD (S.rollOf (step s bytes .state)) i noEntry ≡ getD (S.rollOf s) i noEntry
+  agreed-stay = G.agreed-stay s bytes
 
 -- "ALLOCATE is accepted at most once in a pool": after one, no later one is
 pub allocate-once : (calls more : List (List ℕ)) (one two : List ℕ) (pool price later : ℕ)
@@ -193,13 +200,16 @@ module _ (calls : List (List ℕ)) (c : Case) (here : runFrom none calls ≡ som
   pub sold-at-most-won : (b : ℕ) → count (soldTo b) (c .roll) ≤ getD (c .bids) b noBid .won
   sold-at-most-won = in-order .won .sold
 
-  -- entries: a sold one names a bid of its pool, an allocated or moved one a member of the set; every price is in range
+  -- entries: a sold one names a bid of its pool, one allocated, moved or sold by agreement a member of the set; every price is in range
   module _ (i : ℕ) (d : Entry) (l : i < length (c .roll)) where
     pub sold-names-bid : (b : ℕ) → getD (c .roll) i d .state ≡ Sold b → (b < length (c .bids)) × (getD (c .bids) b noBid .pool ≡ getD (c .roll) i d .pool)
     sold-names-bid b e = rw e at (B.entry-ok c in-order i d l)
 
     pub allocated-names-member : (m price : ℕ) → getD (c .roll) i d .state ≡ Allocated m price → inSet (c .head) m ≡ true
     allocated-names-member m price e = (rw e at (B.entry-ok c in-order i d l)) .0
+
+    pub agreed-names-member : (m price : ℕ) → getD (c .roll) i d .state ≡ Agreed m price → inSet (c .head) m ≡ true
+    agreed-names-member m price e = (rw e at (B.entry-ok c in-order i d l)) .0
 
     pub moved-names-member : (m : ℕ) → getD (c .roll) i d .state ≡ Moved m → inSet (c .head) m ≡ true
     moved-names-member m e = rw e at (B.entry-ok c in-order i d l)
@@ -218,6 +228,14 @@ module _ (calls : List (List ℕ)) (c : Case) (here : runFrom none calls ≡ som
       → openUnits (afterClose c .roll) pool + sum (map (λ b. b .won) (keep (inAuction (roundOf (c .stage)) pool) (afterClose c .bids))) ≡ openUnits (c .roll) pool
   unfolding afterClose bidsAfter
   close-gives bidding = K.close-gives c in-order bidding
+
+  -- document 02, C-12: in S the units that have left are those sold by agreement, and 17 says that the requirement after the sale passes margin and fund
+  pub setup-prices : letter (c .stage) ≡ 1 → prices (c .bids) (c .roll) ≡ agreedPrices (c .bids) (c .roll)
+  setup-prices = E.setup-prices c in-order
+
+  pub sale-by-requirement : letter (c .stage) ≡ 1 → (pool m price : ℕ)
+      → saleTooDear c pool m price ≡ ltb (c .head .margin + c .head .fund) (requirement (afterSale c pool m price))
+  sale-by-requirement = E.sale-by-requirement c in-order
 
   -- the largest sums of money
   pub requirement-small : requirement c ≤ 8_000_000_000

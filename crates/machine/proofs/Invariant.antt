@@ -1,7 +1,8 @@
 -- What holds of the case after every list of calls (`Reached.reached`), by the part of the case that it is about. Each group is a claim about the parts that
 -- it names and nothing else, so that a call that leaves these alone keeps it as it stands.
 use mathlib.Core.Path.{_≡_}
-use mathlib.Core.Bool.{Bool, true, false}
+use mathlib.Core.Bool.{Bool, true, false, _||_}
+use mathlib.Core.Logic.{_⊎_}
 use mathlib.Core.List.{List, [], _∷_, _++_, map}
 use Prim.Native.Nat.{ℕ, suc, _-_, _≤_, _<_}
 use lib.Dec.{eqb, ltb}
@@ -10,7 +11,7 @@ use Rattle.lists.specs.Lists.{count, tab}
 use Rattle.lists.proofs.Each.{Each}
 use Rattle.auction.specs.Price.{priceLimit}
 use Rattle.machine.specs.Wire.{Head}
-use Rattle.machine.specs.Roll.{UnitState, Open, Sold, Allocated, Moved, Torn, Entry, Bid, noBid, openUnits}
+use Rattle.machine.specs.Roll.{UnitState, Open, Sold, Allocated, Moved, Torn, Agreed, Entry, Bid, noBid, isOpen, isAgreed, openUnits}
 use Rattle.machine.specs.State.{Stage, Setup, Bidding, After, CallsOut, Finished, Pool, Member, Round, Case, noMember, noRound, inSet, memberAt, letter, roundOf}
 use Rattle.machine.specs.Calls.{reserve}
 use Rattle.machine.proofs.RollChanges.{taken, soldTo}
@@ -30,13 +31,13 @@ pub record HeadOk (h : Head) : Type 0 where
   pub fund : h .fund ≤ 500_000_000
   pub house : h .house ≤ 4_000_000_000
 
--- the stage and the number of rounds so far, at most two
+-- the stage and the number of rounds so far, at most two. Where the last open pool is sold by agreement, A1 has none (document 02, C-12)
 abbrev pub StageOk : Stage → ℕ → Type 0
 StageOk Setup n = n ≡ 0
 StageOk (Bidding r) n = (n ≡ r) × (1 ≤ r) × (r ≤ 2)
-StageOk (After r) n = (n ≡ r) × (1 ≤ r) × (r ≤ 2)
-StageOk CallsOut n = (1 ≤ n) × (n ≤ 2)
-StageOk Finished n = (1 ≤ n) × (n ≤ 2)
+StageOk (After r) n = ((n ≡ r) ⊎ ((n ≡ 0) × (r ≡ 1))) × (1 ≤ r) × (r ≤ 2)
+StageOk CallsOut n = n ≤ 2
+StageOk Finished n = n ≤ 2
 
 -- ---- pools and members
 
@@ -110,6 +111,7 @@ EntryOk h bids pool (Sold b) = (b < length bids) × (getD bids b noBid .pool ≡
 EntryOk h bids pool (Allocated m price) = (inSet h m ≡ true) × (price ≤ priceLimit)
 EntryOk h bids pool (Moved m) = inSet h m ≡ true
 EntryOk h bids pool (Torn price) = price ≤ priceLimit
+EntryOk h bids pool (Agreed m price) = (inSet h m ≡ true) × (price ≤ priceLimit)
 
 pub record RollOk (h : Head) (pools : List Pool) (bids : List Bid) (roll : List Entry) : Type 0 where
   pub order : map (λ e. e .pool) roll ≡ laid 0 pools
@@ -142,6 +144,10 @@ pub record OpenOk (s : Stage) (h : Head) (rounds : List Round) (roll : List Entr
   pub opened : letter s ≡ 2 → getD rounds (roundOf s - 1) noRound .opened ≡ tab (h .pools) (λ pool. ltb 0 (openUnits roll pool))
   -- none is open once calls are out or the case is finished
   pub none : 4 ≤ letter s → (pool : ℕ) → openUnits roll pool ≡ 0
+  -- in S every unit is open or sold by agreement (document 02, C-12)
+  pub setup : letter s ≡ 1 → Each (λ e. (isOpen e || isAgreed (e .state)) ≡ true) roll
+  -- none is open in A without a round, after the last SALE
+  pub sold-out : letter s ≡ 3 → length rounds ≡ 0 → (pool : ℕ) → openUnits roll pool ≡ 0
 
 -- ---- the case
 

@@ -16,8 +16,10 @@ pub mod Stages
 pub mod Setters
 pub mod CallsKept
 pub mod Reached
+pub mod Selling
 pub mod Bounds
 pub mod RollSteps
+pub mod AgreedStay
 pub mod Later
 pub mod Bytes
 pub mod Prices

@@ -11,7 +11,7 @@ use Rattle.lists.specs.Lists.{between}
 use Rattle.lists.proofs.Bools.{either}
 use Rattle.lists.proofs.Places.{length-tab}
 use Rattle.lists.specs.Tests.{Passed}
-use Rattle.machine.specs.Wire.{Head, Call, HEAD, POOL, MEMBER, ROUND, BID, CLOSE, ALLOCATE, TEAR, CALL, PAY, MOVE, MISS, FINISH, number, rightLength, callOf, decode}
+use Rattle.machine.specs.Wire.{Head, Call, HEAD, POOL, MEMBER, ROUND, BID, CLOSE, ALLOCATE, TEAR, CALL, PAY, MOVE, MISS, FINISH, SALE, number, rightLength, callOf, decode}
 use Rattle.machine.specs.State.{Case, State, theCase, letterOf}
 use Rattle.machine.specs.Calls.{accepted}
 use Rattle.machine.specs.Refusals.{tests}
@@ -19,7 +19,7 @@ use Rattle.machine.specs.Machine.{step}
 use Rattle.machine.specs.Run.{runFrom}
 use Rattle.machine.proofs.Answers.{step-cases}
 use Rattle.machine.proofs.Invariant.{CaseOk}
-use Rattle.machine.proofs.CallsKept.{head-ok, pool-ok, member-ok, round-ok, bid-ok, close-ok, allocate-ok, tear-ok, call-ok, pay-ok, move-ok, miss-ok, finish-ok}
+use Rattle.machine.proofs.CallsKept.{head-ok, pool-ok, member-ok, round-ok, bid-ok, close-ok, allocate-ok, tear-ok, call-ok, pay-ok, move-ok, miss-ok, finish-ok, sale-ok}
 
 -- ---- what the bytes' length says of a call: MEMBER expects units in four pools
 
@@ -37,6 +37,7 @@ Fits (PAY m amount) = Unit {0}
 Fits (MOVE m) = Unit {0}
 Fits (MISS m price) = Unit {0}
 Fits FINISH = Unit {0}
+Fits (SALE pool m price) = Unit {0}
 
 call-fits : (tag : ℕ) (v : List ℕ) → Fits (callOf tag v)
 unfolding callOf
@@ -52,7 +53,8 @@ call-fits tag v =
     (either Fits (eqb tag 9) tt
     (either Fits (eqb tag 10) tt
     (either Fits (eqb tag 11) tt
-    (either Fits (eqb tag 12) tt tt)))))))))))
+    (either Fits (eqb tag 12) tt
+    (either Fits (eqb tag 13) tt tt))))))))))))
 
 -- every call that bytes are fits
 abbrev AllFit : Option Call → Type 0
@@ -65,7 +67,7 @@ decoded-fits [] = tt
 decoded-fits (tag ∷ []) = tt
 decoded-fits (tag ∷ high ∷ []) = tt
 decoded-fits (tag ∷ high ∷ low ∷ v) =
-    either AllFit (between 1 13 tag && eqb (high * 256 + low) (length v) && rightLength tag (length v)) {x = some (callOf tag v)} {y = none} (call-fits tag v) tt
+    either AllFit (between 1 14 tag && eqb (high * 256 + low) (length v) && rightLength tag (length v)) {x = some (callOf tag v)} {y = none} (call-fits tag v) tt
 
 pub decode-fits : (bytes : List ℕ) (call : Call) → decode bytes ≡ some call → Fits call
 decode-fits bytes call e = rw e at (decoded-fits bytes)
@@ -92,6 +94,7 @@ next-ok c ok (PAY m amount) f t = pay-ok c ok m amount t
 next-ok c ok (MOVE m) f t = move-ok c ok m t
 next-ok c ok (MISS m price) f t = miss-ok c ok m price t
 next-ok c ok FINISH f t = finish-ok c ok t
+next-ok c ok (SALE pool m price) f t = sale-ok c ok pool m price t
 
 -- where there is no case, only HEAD is accepted
 pub first-call : (P : Call → Type 0) → ((h : Head) → P (HEAD h)) → (call : Call) → Passed (tests none (theCase none) call) → P call
@@ -109,6 +112,7 @@ first-call P head (PAY m amount) t = absurd (false≢true (sym (t .0)))
 first-call P head (MOVE m) t = absurd (false≢true (sym (t .0)))
 first-call P head (MISS m price) t = absurd (false≢true (sym (t .0)))
 first-call P head FINISH t = absurd (false≢true (sym (t .0)))
+first-call P head (SALE pool m price) t = absurd (false≢true (sym (t .0)))
 
 accepted-ok : (s : State) → StateOk s → (call : Call) → Fits call → Passed (tests s (theCase s) call) → CaseOk (accepted (theCase s) call)
 unfolding accepted tests

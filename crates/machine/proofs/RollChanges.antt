@@ -14,7 +14,7 @@ use Rattle.lists.proofs.Bools.{either, and-left, and-right}
 use Rattle.lists.proofs.Each.{Each, drop-step}
 use Rattle.lists.proofs.Pairs.{Pairs, pairs-same, pairs-trans, pairs-map, pairs-changeFirst, pairs-set, pairs-each, pairs-field, pairs-count, pairs-count-falls}
 use Rattle.auction.specs.Price.{zeroPrice}
-use Rattle.machine.specs.Roll.{UnitState, Open, Sold, Allocated, Moved, Torn, Entry, Bid, noBid, withState, kind, isOpen, openIn, giveLowest, tornIf, openUnits, priceOf}
+use Rattle.machine.specs.Roll.{UnitState, Open, Sold, Allocated, Moved, Torn, Agreed, Entry, Bid, noBid, withState, kind, isOpen, openIn, giveLowest, changedIf, tornIf, openUnits, priceOf}
 use Rattle.machine.specs.Calls.{giveShares, sell}
 use Rattle.machine.specs.Move.{Found, mayMove, turn, later, better, nextFrom, moveUnits}
 
@@ -34,6 +34,7 @@ soldIs b (Sold bid) = eqb bid b
 soldIs b (Allocated m price) = false
 soldIs b (Moved m) = false
 soldIs b (Torn price) = false
+soldIs b (Agreed m price) = false
 
 abbrev pub soldTo : ℕ → Entry → Bool
 soldTo b e = soldIs b (e .state)
@@ -47,7 +48,7 @@ Becomes New e f = (f ≡ e) ⊎ ((s : UnitState) × New (e .pool) s × (f ≡ wi
 abbrev pub Changes : (ℕ → UnitState → Type 0) → List Entry → List Entry → Type 0
 Changes New = Pairs (Becomes New)
 
-abbrev noEntry : Entry
+abbrev pub noEntry : Entry
 noEntry = record { pool = 0; state = Open }
 
 module _ (New : ℕ → UnitState → Type 0) where
@@ -78,10 +79,14 @@ module _ (New : ℕ → UnitState → Type 0) where
       pairs-changeFirst (Becomes New) stays (openIn pool) (λ e. withState e s)
       (λ e o. inr (s, rw (eqb-true (e .pool) pool (and-right (isOpen e) _ o)) new, refl)) n roll
 
+  -- every entry that passes a test: SALE
+  pub changes-changed : (p : Entry → Bool) (s : UnitState) (roll : List Entry) → ((pool : ℕ) → New pool s) → Changes New roll (map (changedIf p s) roll)
+  changes-changed p s roll new =
+      pairs-map (Becomes New) (changedIf p s) (λ e. either (Becomes New e) (p e) (inr (s, new (e .pool), refl)) (inl refl)) roll
+
   -- TEAR and MISS
   pub changes-torn : (p : Entry → Bool) (price : ℕ) (roll : List Entry) → ((pool : ℕ) → New pool (Torn price)) → Changes New roll (map (tornIf p price) roll)
-  changes-torn p price roll new =
-      pairs-map (Becomes New) (tornIf p price) (λ e. either (Becomes New e) (p e) (inr (Torn price, new (e .pool), refl)) (inl refl)) roll
+  changes-torn p price = changes-changed p (Torn price)
 
   -- ALLOCATE
   pub changes-shares : (pool price : ℕ) (shares ms : List ℕ) (roll : List Entry) → Each (λ m. New pool (Allocated m price)) ms

@@ -12,16 +12,16 @@ use Rattle.lists.specs.Lists.{if_then_else_, count}
 use Rattle.lists.proofs.Counts.{count-append, count-of-map}
 use Rattle.lists.proofs.Each.{each-always, map-append, map-replicate}
 use Rattle.lists.specs.Tests.{Passed}
-use Rattle.machine.specs.Wire.{Call, HEAD, POOL, MEMBER, ROUND, BID, CLOSE, ALLOCATE, TEAR, CALL, PAY, MOVE, MISS, FINISH, decode}
-use Rattle.machine.specs.Roll.{UnitState, Open, Entry, kind, isOpen, openIn, openUnits, putUp, passedTo}
+use Rattle.machine.specs.Wire.{Call, HEAD, POOL, MEMBER, ROUND, BID, CLOSE, ALLOCATE, TEAR, CALL, PAY, MOVE, MISS, FINISH, SALE, decode}
+use Rattle.machine.specs.Roll.{UnitState, Open, Agreed, Entry, kind, isOpen, openIn, openUnits, putUp, passedTo}
 use Rattle.machine.specs.State.{State, theCase, letterOf, memberList, roundOf}
 use Rattle.machine.specs.Requirement.{owes}
 use Rattle.machine.specs.Move.{moveAll}
-use Rattle.machine.specs.Calls.{accepted, afterPool, afterMember, afterRound, afterBid, bidsAfter, afterClose, allocation, afterAllocate, afterTear, afterCall, afterPay, afterMove, afterMiss}
+use Rattle.machine.specs.Calls.{accepted, afterPool, afterMember, afterRound, afterBid, bidsAfter, afterClose, allocation, afterAllocate, afterTear, afterCall, afterPay, afterMove, afterMiss, sold, afterSale}
 use Rattle.machine.specs.Refusals.{tests}
 use Rattle.machine.specs.Machine.{step}
 use Rattle.machine.proofs.Answers.{step-cases}
-use Rattle.machine.proofs.RollChanges.{Closed, Changes, changes-none, changes-torn, changes-shares, changes-move, changes-sell, same-pools, open-falls}
+use Rattle.machine.proofs.RollChanges.{Closed, Changes, changes-none, changes-changed, changes-torn, changes-shares, changes-move, changes-sell, same-pools, open-falls}
 use Rattle.machine.proofs.Stages.{letter-some}
 
 -- the pools of the units that a call puts up
@@ -39,12 +39,13 @@ putUpBy (PAY m amount) = []
 putUpBy (MOVE m) = []
 putUpBy (MISS m price) = []
 putUpBy FINISH = []
+putUpBy (SALE pool m price) = []
 
-abbrev openEntry : ℕ → Entry
+abbrev pub openEntry : ℕ → Entry
 openEntry pool = record { pool = pool; state = Open }
 
 -- the roll with the units put up
-abbrev putUpAll : List ℕ → List Entry → List Entry
+abbrev pub putUpAll : List ℕ → List Entry → List Entry
 putUpAll added roll = roll ++ map openEntry added
 
 abbrev Shut : ℕ → UnitState → Type 0
@@ -58,7 +59,7 @@ rollOf s = theCase s .roll
 
 -- an accepted call, in any state: HEAD is accepted only where there is no roll yet
 roll-step : (s : State) (call : Call) → Passed (tests s (theCase s) call) → Changes Shut (putUpAll (putUpBy call) (rollOf s)) (accepted (theCase s) call .roll)
-unfolding accepted afterPool afterMember afterRound afterBid afterClose afterAllocate afterTear afterCall afterPay afterMove afterMiss putUp moveAll kind tests letterOf
+unfolding accepted afterPool afterMember afterRound afterBid afterClose afterAllocate afterTear afterCall afterPay afterMove afterMiss sold afterSale putUp moveAll kind tests letterOf
 roll-step none (HEAD h) t = tt
 roll-step (some c) (HEAD h) t = absurd (false≢true (sym (letter-some (c .stage)) ∙ not-false _ (t .0)))
 roll-step s (POOL pool units mark) t = rw (map-replicate openEntry units pool) (changes-none Shut (putUp pool units (rollOf s)))
@@ -80,6 +81,7 @@ roll-step s (MOVE m) t =
     none-added (c .roll) _ (changes-move Shut (c .bids) m (λ k. refl) (length (c .roll)) (owes (c .members) m) (c .roll))
 roll-step s (MISS m price) t = none-added (rollOf s) _ (changes-torn Shut (λ e. passedTo m (e .state)) price (rollOf s) (λ k. refl))
 roll-step s FINISH t = none-added (rollOf s) (rollOf s) (changes-none Shut (rollOf s))
+roll-step s (SALE pool m price) t = none-added (rollOf s) _ (changes-changed Shut (openIn pool) (Agreed m price) (rollOf s) (λ k. refl))
 
 module _ (s : State) (call : Call) (t : Passed (tests s (theCase s) call)) where
   -- the entries keep their pools, and those put up follow

@@ -32,13 +32,28 @@ module _ (s : Stage) where
 
 -- ---- the stage that follows
 
-pub round-stage : (s : Stage) (n : ℕ) → StageOk s n → (letter s ≡ 1) ⊎ ((letter s ≡ 3) × (roundOf s ≡ 1)) → (n ≡ roundOf s) × (roundOf s ≤ 1) × (letter s < 4)
+-- ROUND: not where A has no round
+pub round-stage : (s : Stage) (n : ℕ) → StageOk s n → (letter s ≡ 3 → n ≡ 0 → ⊥) → (letter s ≡ 1) ⊎ ((letter s ≡ 3) × (roundOf s ≡ 1))
+    → (n ≡ roundOf s) × (roundOf s ≤ 1) × (letter s < 4)
 unfolding letter roundOf
-round-stage Setup n o t = (omega arith, omega arith, omega arith)
-round-stage (Bidding r) n o t = absurd (⊎-elim (λ e. omega arith) (λ e. omega arith) t)
-round-stage (After r) n o t = ⊎-elim (λ e. absurd (omega arith)) (λ e. (omega arith, omega arith, omega arith)) t
-round-stage CallsOut n o t = absurd (⊎-elim (λ e. omega arith) (λ e. omega arith) t)
-round-stage Finished n o t = absurd (⊎-elim (λ e. omega arith) (λ e. omega arith) t)
+round-stage Setup n o some t = (omega arith, omega arith, omega arith)
+round-stage (Bidding r) n o some t = absurd (⊎-elim (λ e. omega arith) (λ e. omega arith) t)
+round-stage (After r) n o some t =
+    ⊎-elim
+    (λ e. absurd (omega arith))
+    (λ e. ⊎-elim (λ same. (omega arith, omega arith, omega arith)) (λ none. absurd (some refl (none .0))) (o .0))
+    t
+round-stage CallsOut n o some t = absurd (⊎-elim (λ e. omega arith) (λ e. omega arith) t)
+round-stage Finished n o some t = absurd (⊎-elim (λ e. omega arith) (λ e. omega arith) t)
+
+-- no round in S
+pub setup-stage : (s : Stage) (n : ℕ) → StageOk s n → letter s ≡ 1 → n ≡ 0
+unfolding letter
+setup-stage Setup n o t = o
+setup-stage (Bidding r) n o t = absurd (omega arith)
+setup-stage (After r) n o t = absurd (omega arith)
+setup-stage CallsOut n o t = absurd (omega arith)
+setup-stage Finished n o t = absurd (omega arith)
 
 pub bidding-stage : (s : Stage) (n : ℕ) → StageOk s n → letter s ≡ 2 → (n ≡ roundOf s) × (1 ≤ roundOf s) × (roundOf s ≤ 2)
 unfolding letter roundOf
@@ -48,22 +63,13 @@ bidding-stage (After r) n o t = absurd (omega arith)
 bidding-stage CallsOut n o t = absurd (omega arith)
 bidding-stage Finished n o t = absurd (omega arith)
 
--- one or two rounds once the first has begun
-pub some-rounds : (s : Stage) (n : ℕ) → StageOk s n → 2 ≤ letter s → (1 ≤ n) × (n ≤ 2)
-unfolding letter
-some-rounds Setup n o t = absurd (omega arith)
-some-rounds (Bidding r) n o t = (omega arith, omega arith)
-some-rounds (After r) n o t = (omega arith, omega arith)
-some-rounds CallsOut n o t = o
-some-rounds Finished n o t = o
-
--- at most two in any case
+-- at most two rounds in any case
 pub few-rounds : (s : Stage) (n : ℕ) → StageOk s n → n ≤ 2
 few-rounds Setup n o = omega arith
 few-rounds (Bidding r) n o = omega arith
-few-rounds (After r) n o = omega arith
-few-rounds CallsOut n o = omega arith
-few-rounds Finished n o = omega arith
+few-rounds (After r) n o = ⊎-elim (λ same. omega arith) (λ none. omega arith) (o .0)
+few-rounds CallsOut n o = o
+few-rounds Finished n o = o
 
 -- no letter is 0, which stands for no case
 pub letter-some : (s : Stage) → eqb (letter s) 0 ≡ false

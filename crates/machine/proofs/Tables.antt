@@ -13,12 +13,13 @@ use Rattle.lists.specs.Lists.{if_then_else_}
 use Rattle.lists.specs.Tests.{Test, firstOf}
 use Rattle.lists.proofs.Passed.{ascending, ascending-above}
 use Rattle.lists.proofs.Each.{Each}
-use Rattle.machine.specs.Wire.{Head, Call, HEAD, POOL, MEMBER, ROUND, BID, CLOSE, ALLOCATE, TEAR, CALL, PAY, MOVE, MISS, FINISH, decode}
+use Rattle.machine.specs.Wire.{Head, Call, HEAD, POOL, MEMBER, ROUND, BID, CLOSE, ALLOCATE, TEAR, CALL, PAY, MOVE, MISS, FINISH, SALE, decode}
+use Rattle.machine.specs.Roll.{anyOpen}
 use Rattle.machine.specs.State.{Stage, Setup, Bidding, After, CallsOut, Finished, Case, State, letter, letterOf, roundOf, theCase}
-use Rattle.machine.specs.Calls.{accepted, afterPool, afterMember, afterRound, afterBid, afterClose, afterAllocate, afterTear, afterCall, afterPay, afterMove, afterMiss}
+use Rattle.machine.specs.Calls.{accepted, afterPool, afterMember, afterRound, afterBid, afterClose, afterAllocate, afterTear, afterCall, afterPay, afterMove, afterMiss, sold, afterSale}
 use Rattle.machine.specs.Refusals.{tests, refusal}
 use Rattle.machine.specs.Machine.{step, answered}
-use Rattle.machine.specs.Table.{Letter, N, S, B1, B2, A1, A2, C, F, ofRound, letterOfStage, letterIn, Cell, x, to, row, stageTable, wrongReserves, wrongLength, declined, earlyAnswer, firstTwo, ByTable}
+use Rattle.machine.specs.Table.{Letter, N, S, B1, B2, A1, A2, C, F, ofRound, letterOfStage, letterIn, Cell, x, to, whileOpen, row, stageTable, wrongReserves, wrongLength, declined, meant, earlyAnswer, firstTwo, ByTable}
 use Rattle.machine.proofs.Answers.{call-accepted, call-answer}
 use Rattle.machine.proofs.Stages.{letter-some}
 
@@ -89,6 +90,7 @@ early-none (PAY m amount) = refl
 early-none (MOVE m) = refl
 early-none (MISS m price) = refl
 early-none FINISH = refl
+early-none (SALE pool m price) = refl
 
 module _ (c : Case) where
   -- a call whose first test is that of the stage
@@ -123,6 +125,7 @@ module _ (c : Case) where
   early-some (MOVE m) = by-row (MOVE m) (λ k one. not (eqb k 4)) _ refl refl refl refl refl refl refl refl
   early-some (MISS m price) = by-row (MISS m price) (λ k one. not (eqb k 3 || eqb k 4)) _ refl refl refl refl refl refl refl refl
   early-some FINISH = by-row FINISH (λ k one. not (eqb k 3 || eqb k 4)) _ refl refl refl refl refl refl refl refl
+  early-some (SALE pool m price) = by-row (SALE pool m price) (λ k one. not (eqb k 1)) _ refl refl refl refl refl refl refl refl
 
 early : (s : State) (call : Call) → firstTwo (refusal s call) ≡ earlyAnswer s (some call)
 early none call = early-none call
@@ -135,63 +138,63 @@ abbrev own : Bool → Letter → Cell
 own true l = to l
 own false l = x
 
-own-allowed : (b : Bool) (l : Letter) → declined (own b l) ≡ 0 → to l ≡ own b l
-unfolding declined
-own-allowed true l e = refl
-own-allowed false l e = absurd (omega arith)
+own-allowed : (next : State) (b : Bool) (l : Letter) → declined (own b l) ≡ 0 → to l ≡ meant next (own b l)
+unfolding declined meant
+own-allowed next true l e = refl
+own-allowed next false l e = absurd (omega arith)
 
-module _ (n s b1 b2 a1 a2 k f : Bool) where
+module _ (next : State) (n s b1 b2 a1 a2 k f : Bool) where
   -- a row of calls that leave the stage as it is
   left : (l : Letter) → declined (row (own n N) (own s S) (own b1 B1) (own b2 B2) (own a1 A1) (own a2 A2) (own k C) (own f F) l) ≡ 0
-      → to l ≡ row (own n N) (own s S) (own b1 B1) (own b2 B2) (own a1 A1) (own a2 A2) (own k C) (own f F) l
+      → to l ≡ meant next (row (own n N) (own s S) (own b1 B1) (own b2 B2) (own a1 A1) (own a2 A2) (own k C) (own f F) l)
   unfolding row
-  left N = own-allowed n N
-  left S = own-allowed s S
-  left B1 = own-allowed b1 B1
-  left B2 = own-allowed b2 B2
-  left A1 = own-allowed a1 A1
-  left A2 = own-allowed a2 A2
-  left C = own-allowed k C
-  left F = own-allowed f F
+  left N = own-allowed next n N
+  left S = own-allowed next s S
+  left B1 = own-allowed next b1 B1
+  left B2 = own-allowed next b2 B2
+  left A1 = own-allowed next a1 A1
+  left A2 = own-allowed next a2 A2
+  left C = own-allowed next k C
+  left F = own-allowed next f F
 
   -- a row of calls that make one stage
   made : (m l : Letter) → declined (row (own n m) (own s m) (own b1 m) (own b2 m) (own a1 m) (own a2 m) (own k m) (own f m) l) ≡ 0
-      → to m ≡ row (own n m) (own s m) (own b1 m) (own b2 m) (own a1 m) (own a2 m) (own k m) (own f m) l
+      → to m ≡ meant next (row (own n m) (own s m) (own b1 m) (own b2 m) (own a1 m) (own a2 m) (own k m) (own f m) l)
   unfolding row
-  made m N = own-allowed n m
-  made m S = own-allowed s m
-  made m B1 = own-allowed b1 m
-  made m B2 = own-allowed b2 m
-  made m A1 = own-allowed a1 m
-  made m A2 = own-allowed a2 m
-  made m C = own-allowed k m
-  made m F = own-allowed f m
+  made m N = own-allowed next n m
+  made m S = own-allowed next s m
+  made m B1 = own-allowed next b1 m
+  made m B2 = own-allowed next b2 m
+  made m A1 = own-allowed next a1 m
+  made m A2 = own-allowed next a2 m
+  made m C = own-allowed next k m
+  made m F = own-allowed next f m
 
 -- ROUND makes B of the next round
-round-makes : (s : Stage) → declined (row x (to B1) x x (to B2) x x x (letterOfStage s)) ≡ 0
-    → to (letterOfStage (Bidding (suc (roundOf s)))) ≡ row x (to B1) x x (to B2) x x x (letterOfStage s)
-unfolding row declined letterOfStage roundOf
-round-makes Setup e = refl
-round-makes (Bidding r) e = absurd (never (eqb r 1) e)
+round-makes : (next : State) (s : Stage) → declined (row x (to B1) x x (to B2) x x x (letterOfStage s)) ≡ 0
+    → to (letterOfStage (Bidding (suc (roundOf s)))) ≡ meant next (row x (to B1) x x (to B2) x x x (letterOfStage s))
+unfolding row declined meant letterOfStage roundOf
+round-makes next Setup e = refl
+round-makes next (Bidding r) e = absurd (never (eqb r 1) e)
   where
     never : (one : Bool) → declined (row x (to B1) x x (to B2) x x x (if one then B1 else B2)) ≡ 0 → ⊥
     never true e = omega arith
     never false e = omega arith
-round-makes (After r) e = after (eqb r 1) refl e
+round-makes next (After r) e = after (eqb r 1) refl e
   where
     after : (one : Bool) → eqb r 1 ≡ one → declined (row x (to B1) x x (to B2) x x x (if one then A1 else A2)) ≡ 0
-        → to (ofRound (suc r) B1 B2) ≡ row x (to B1) x x (to B2) x x x (if one then A1 else A2)
+        → to (ofRound (suc r) B1 B2) ≡ meant next (row x (to B1) x x (to B2) x x x (if one then A1 else A2))
     after true first e = rw (eqb-true r 1 first)
     after false first e = absurd (omega arith)
-round-makes CallsOut e = absurd (omega arith)
-round-makes Finished e = absurd (omega arith)
+round-makes next CallsOut e = absurd (omega arith)
+round-makes next Finished e = absurd (omega arith)
 
 -- CLOSE makes A of the same round
-close-makes : (s : Stage) → declined (row x x (to A1) (to A2) x x x x (letterOfStage s)) ≡ 0
-    → to (letterOfStage (After (roundOf s))) ≡ row x x (to A1) (to A2) x x x x (letterOfStage s)
-unfolding row declined letterOfStage
-close-makes =
-    by-stage (λ k one l. declined (row x x (to A1) (to A2) x x x x l) ≡ 0 → to (if one then A1 else A2) ≡ row x x (to A1) (to A2) x x x x l)
+close-makes : (next : State) (s : Stage) → declined (row x x (to A1) (to A2) x x x x (letterOfStage s)) ≡ 0
+    → to (letterOfStage (After (roundOf s))) ≡ meant next (row x x (to A1) (to A2) x x x x (letterOfStage s))
+unfolding row declined meant letterOfStage
+close-makes next =
+    by-stage (λ k one l. declined (row x x (to A1) (to A2) x x x x l) ≡ 0 → to (if one then A1 else A2) ≡ meant next (row x x (to A1) (to A2) x x x x l))
     (λ e. absurd (omega arith))
     (λ e. refl)
     (λ e. refl)
@@ -200,9 +203,26 @@ close-makes =
     (λ e. absurd (omega arith))
     (λ e. absurd (omega arith))
 
+-- SALE leaves S while a unit is open, and makes A1 where none is
+sale-makes : (s : Stage) (some-open : Bool) → declined (row x (whileOpen S A1) x x x x x x (letterOfStage s)) ≡ 0
+    → letterOfStage (if some-open then s else After 1) ≡ (if some-open then S else A1)
+unfolding row declined letterOfStage
+sale-makes s true = by-stage (λ k one l. declined (row x (whileOpen S A1) x x x x x x l) ≡ 0 → l ≡ S)
+    (λ e. refl)
+    (λ e. absurd (omega arith))
+    (λ e. absurd (omega arith))
+    (λ e. absurd (omega arith))
+    (λ e. absurd (omega arith))
+    (λ e. absurd (omega arith))
+    (λ e. absurd (omega arith)) s
+sale-makes s false = λ e. refl
+
+in-setup : (s : Stage) → declined (row x (whileOpen S A1) x x x x x x (letterOfStage s)) ≡ 0 → letterOfStage s ≡ S
+in-setup s = sale-makes s true
+
 -- the stage after a call that the table allows, from no case and from a case
-stage-none : (call : Call) → declined (stageTable call N) ≡ 0 → to (letterOfStage (accepted (theCase none) call .stage)) ≡ stageTable call N
-unfolding stageTable row declined accepted letterOfStage
+stage-none : (call : Call) → declined (stageTable call N) ≡ 0 → to (letterOfStage (accepted (theCase none) call .stage)) ≡ meant (some (accepted (theCase none) call)) (stageTable call N)
+unfolding stageTable row declined meant accepted letterOfStage
 stage-none (HEAD h) e = refl
 stage-none (POOL pool units mark) e = absurd (omega arith)
 stage-none (MEMBER m contribution expected) e = absurd (omega arith)
@@ -216,29 +236,31 @@ stage-none (PAY m amount) e = absurd (omega arith)
 stage-none (MOVE m) e = absurd (omega arith)
 stage-none (MISS m price) e = absurd (omega arith)
 stage-none FINISH e = absurd (omega arith)
+stage-none (SALE pool m price) e = absurd (omega arith)
 
 module _ (c : Case) where
   abbrev here : Letter
   here = letterOfStage (c .stage)
 
-  stage-some : (call : Call) → declined (stageTable call here) ≡ 0 → to (letterOfStage (accepted c call .stage)) ≡ stageTable call here
-  unfolding stageTable accepted letterOfStage afterPool afterMember afterRound afterBid afterClose afterAllocate afterTear afterCall afterPay afterMove afterMiss
-  stage-some (HEAD h) e = made true false false false false false false false S here e
-  stage-some (POOL pool units mark) e = left false true false false false false false false here e
-  stage-some (MEMBER m contribution expected) e = left false true false false false false false false here e
-  stage-some (ROUND reserves) e = round-makes (c .stage) e
-  stage-some (BID pool m units price) e = left false false true true false false false false here e
-  stage-some CLOSE e = close-makes (c .stage) e
-  stage-some (ALLOCATE pool price) e = left false false false false true true false false here e
-  stage-some (TEAR pool price) e = left false false false false true true false false here e
-  stage-some CALL e = made false false false false true true false false C here e
-  stage-some (PAY m amount) e = left false false false false false false true false here e
-  stage-some (MOVE m) e = left false false false false false false true false here e
-  stage-some (MISS m price) e = left false false false false true true true false here e
-  stage-some FINISH e = made false false false false true true true false F here e
+  stage-some : (call : Call) → declined (stageTable call here) ≡ 0 → to (letterOfStage (accepted c call .stage)) ≡ meant (some (accepted c call)) (stageTable call here)
+  unfolding stageTable meant accepted letterOfStage afterPool afterMember afterRound afterBid afterClose afterAllocate afterTear afterCall afterPay afterMove afterMiss afterSale row
+  stage-some (HEAD h) e = made (some (accepted c (HEAD h))) true false false false false false false false S here e
+  stage-some (POOL pool units mark) e = left (some (accepted c (POOL pool units mark))) false true false false false false false false here e
+  stage-some (MEMBER m contribution expected) e = left (some (accepted c (MEMBER m contribution expected))) false true false false false false false false here e
+  stage-some (ROUND reserves) e = round-makes (some (accepted c (ROUND reserves))) (c .stage) e
+  stage-some (BID pool m units price) e = left (some (accepted c (BID pool m units price))) false false true true false false false false here e
+  stage-some CLOSE e = close-makes (some (accepted c CLOSE)) (c .stage) e
+  stage-some (ALLOCATE pool price) e = left (some (accepted c (ALLOCATE pool price))) false false false false true true false false here e
+  stage-some (TEAR pool price) e = left (some (accepted c (TEAR pool price))) false false false false true true false false here e
+  stage-some CALL e = made (some (accepted c CALL)) false false false false true true false false C here e
+  stage-some (PAY m amount) e = left (some (accepted c (PAY m amount))) false false false false false false true false here e
+  stage-some (MOVE m) e = left (some (accepted c (MOVE m))) false false false false false false true false here e
+  stage-some (MISS m price) e = left (some (accepted c (MISS m price))) false false false false true true true false here e
+  stage-some FINISH e = made (some (accepted c FINISH)) false false false false true true true false F here e
+  stage-some (SALE pool m price) e = rw (in-setup (c .stage) e) (ap to (sale-makes (c .stage) (anyOpen (sold pool m price (c .roll))) e))
 
 stage-after : (s : State) (call : Call) → declined (stageTable call (letterIn s)) ≡ 0
-    → to (letterIn (some (accepted (theCase s) call))) ≡ stageTable call (letterIn s)
+    → to (letterIn (some (accepted (theCase s) call))) ≡ meant (some (accepted (theCase s) call)) (stageTable call (letterIn s))
 unfolding letterIn
 stage-after none call e = stage-none call e
 stage-after (some c) call e = stage-some c call e

@@ -8,8 +8,8 @@ use mathlib.Core.Bool.{true, false}
 use Rattle.lists.specs.Lists.{if_then_else_, sum, keep, among, mapFrom, tab}
 use Rattle.splitting.specs.Split.{splitAmong}
 use Rattle.auction.specs.Auction.{allot}
-use Rattle.machine.specs.Wire.{Call, HEAD, POOL, MEMBER, ROUND, BID, CLOSE, ALLOCATE, TEAR, CALL, PAY, MOVE, MISS, FINISH}
-use Rattle.machine.specs.Roll.{Sold, Allocated, Entry, Bid, withWon, openIn, openUnits, putUp, giveLowest, tornIf, passedTo}
+use Rattle.machine.specs.Wire.{Call, HEAD, POOL, MEMBER, ROUND, BID, CLOSE, ALLOCATE, TEAR, CALL, PAY, MOVE, MISS, FINISH, SALE}
+use Rattle.machine.specs.Roll.{Sold, Allocated, Agreed, Entry, Bid, withWon, openIn, openUnits, anyOpen, putUp, giveLowest, changedIf, tornIf, passedTo}
 use Rattle.machine.specs.State.{Bidding, After, CallsOut, Finished, Member, Round, Case, newCase, noRound, inSet, memberList, memberAt, roundOf}
 use Rattle.machine.specs.State.{withStage, withPools, withMembers, withRounds, withBids, withRoll, withAllocated, withCalled, withPaid, withMoved}
 use Rattle.machine.specs.Requirement.{requirement, prefunded, contributionOf, contributions, owes}
@@ -155,6 +155,18 @@ afterMove c m =
 unfoldable pub afterMiss : Case → ℕ → ℕ → Case
 afterMiss c m price = withRoll c (map (tornIf (λ e. passedTo m (e .state)) price) (c .roll))
 
+-- ---- SALE
+
+-- document 02, C-12: SALE "sells the whole pool to one member"
+unfoldable pub sold : ℕ → ℕ → ℕ → List Entry → List Entry
+sold pool m price roll = map (changedIf (openIn pool) (Agreed m price)) roll
+
+-- C-12: "If no unit is open afterwards the stage becomes A1"
+unfoldable pub afterSale : Case → ℕ → ℕ → ℕ → Case
+afterSale c pool m price =
+    let roll = sold pool m price (c .roll) in
+    withStage (withRoll c roll) (if anyOpen roll then c .stage else After 1)
+
 -- ---- the case after an accepted call
 
 unfoldable pub accepted : Case → Call → Case
@@ -171,3 +183,4 @@ accepted c (PAY m amount) = afterPay c m amount
 accepted c (MOVE m) = afterMove c m
 accepted c (MISS m price) = afterMiss c m price
 accepted c FINISH = withStage c Finished
+accepted c (SALE pool m price) = afterSale c pool m price

@@ -1,6 +1,6 @@
 -- Document 01, "MOVE": "units pass to the member at price 0, one by one, until their old prices together have saved what it owes, or no
 -- allocated or sold unit with a negative price is left; only such units move, in pools of either mark."
-use mathlib.Core.Bool.{Bool, true, false, _&&_, _||_}
+use mathlib.Core.Bool.{Bool, true, false, _&&_, _||_, not}
 use mathlib.Core.List.{List, [], _∷_}
 use mathlib.Core.Option.{Option, none, some}
 use Prim.Native.Nat.{ℕ, zero, suc, _-_}
@@ -8,11 +8,13 @@ use lib.Dec.{ltb, eqb}
 use lib.ListN.{length, getD, set}
 use Rattle.lists.specs.Lists.{if_then_else_}
 use Rattle.auction.specs.Price.{zeroPrice, negative}
-use Rattle.machine.specs.Roll.{Bid, Entry, Open, Sold, Allocated, Moved, Torn, noBid, withState, priceOf, kind}
+use Rattle.machine.specs.Roll.{Bid, Entry, Open, Sold, Allocated, Moved, Torn, Agreed, noBid, withState, priceOf, kind, isAgreed}
 
--- an "allocated or sold unit with a negative price"
+-- an "allocated or sold unit with a negative price". Document 02, C-12: a unit sold by agreement is "never moved: MOVE passes over it and ends as if it
+-- weren't there"
 unfoldable pub mayMove : List Bid → Entry → Bool
-mayMove bids e = (eqb (kind (e .state)) 1 || eqb (kind (e .state)) 2) && negative (priceOf bids (e .state))
+mayMove bids e =
+    (eqb (kind (e .state)) 1 || eqb (kind (e .state)) 2) && not (isAgreed (e .state)) && negative (priceOf bids (e .state))
 
 -- its turn, a list of numbers, of which the lower goes first: "Allocated units go first: lowest price, then higher pool, then higher
 -- member. Sold units follow: lowest price, then later bid."
@@ -23,6 +25,7 @@ turn bids e = elim (e .state) [
   | Allocated m price ↦ 0 ∷ price ∷ (3 - e .pool) ∷ (31 - m) ∷ []
   | Moved m ↦ []
   | Torn price ↦ []
+  | Agreed m price ↦ []
 ]
 
 -- whether the turn x is after the turn y: the first numbers that differ decide

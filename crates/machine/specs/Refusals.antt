@@ -2,17 +2,17 @@
 -- order of the numbers. Number 1, for bytes that are no call, is `Wire.decode`.
 use mathlib.Core.Bool.{Bool, _&&_, _||_, not}
 use mathlib.Core.List.{List, [], _∷_}
-use Prim.Native.Nat.{ℕ}
+use Prim.Native.Nat.{ℕ, _+_, _*_}
 use lib.Dec.{leb, ltb, eqb}
 use lib.ListN.{length, getD, take, drop}
-use Rattle.lists.specs.Lists.{between, any, all}
+use Rattle.lists.specs.Lists.{sum, between, any, all}
 use Rattle.lists.specs.Tests.{Test, firstOf}
-use Rattle.auction.specs.Price.{priceOk}
-use Rattle.machine.specs.Wire.{Head, Call, HEAD, POOL, MEMBER, ROUND, BID, CLOSE, ALLOCATE, TEAR, CALL, PAY, MOVE, MISS, FINISH}
-use Rattle.machine.specs.Roll.{Entry, openUnits, anyOpen, passedTo}
+use Rattle.auction.specs.Price.{zeroPrice, priceOk}
+use Rattle.machine.specs.Wire.{Head, Call, HEAD, POOL, MEMBER, ROUND, BID, CLOSE, ALLOCATE, TEAR, CALL, PAY, MOVE, MISS, FINISH, SALE}
+use Rattle.machine.specs.Roll.{Entry, openUnits, anyOpen, passedTo, agreedPrices}
 use Rattle.machine.specs.State.{Pool, Case, State, theCase, noCase, isS, isB, isA, isA1, isC, noPool, inSet, memberList, memberAt}
 use Rattle.machine.specs.Requirement.{requirement, prefunded, owes}
-use Rattle.machine.specs.Calls.{totalShortfall}
+use Rattle.machine.specs.Calls.{totalShortfall, sold}
 
 -- ---- "5. A number is out of range."
 
@@ -78,6 +78,13 @@ someoneOwes c = any (λ m. ltb 0 (owes (c .members) m)) (memberList (c .head))
 -- "16. MISS finds no unit allocated or moved to the member."
 unfoldable pub nonePassed : List Entry → ℕ → Bool
 nonePassed roll m = not (any (λ e. passedTo m (e .state)) roll)
+
+-- document 02, C-12: "17, last of all, where hedge loss + other loss − the prices of all units so sold, this pool's included, passes margin and
+-- defaulter's fund together". Each price is held 1,000,000 too high; both sides are added up, so nothing is cut off
+unfoldable pub saleTooDear : Case → ℕ → ℕ → ℕ → Bool
+saleTooDear c pool m price =
+    let ps = agreedPrices (c .bids) (sold pool m price (c .roll)) in
+    ltb (c .head .margin + c .head .fund + sum ps) (c .head .hedgeLoss + c .head .otherLoss + zeroPrice * length ps)
 
 -- ---- the lists
 
@@ -155,6 +162,15 @@ tests s c FINISH =
     ∷ (11, anyOpen (c .roll))
     ∷ (13, isA s && ltb (prefunded c) (requirement c))
     ∷ (15, someoneOwes c)
+    ∷ []
+tests s c (SALE pool m price) =
+    (2, not (isS s))
+    ∷ (3, notInCase (c .head) pool)
+    ∷ (4, notInSet (c .head) m)
+    ∷ (5, not (priceOk price))
+    ∷ (8, noneOpen (c .roll) pool)
+    ∷ (10, notGiven c)
+    ∷ (17, saleTooDear c pool m price)
     ∷ []
 
 -- the answer to a call: the first number that applies; "0 is accepted"

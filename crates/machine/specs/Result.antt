@@ -4,10 +4,11 @@ use mathlib.Core.List.{List, [], _∷_, map}
 use Prim.Native.Nat.{ℕ, _-_, _*_}
 use lib.Dec.{eqb}
 use lib.ListN.{getD}
-use Rattle.lists.specs.Lists.{sum, keep, least}
+use Rattle.lists.specs.Lists.{if_then_else_, sum, keep, least, mapFrom}
 use Rattle.splitting.specs.Split.{splitAmong}
 use Rattle.waterfall.specs.Seniority.{Standing, rankIn}
 use Rattle.waterfall.specs.Charging.{charged, uncovered, chargedByRank}
+use Rattle.machine.specs.Roll.{soldByAgreement}
 use Rattle.machine.specs.State.{Round, Case, inSet, memberList, memberAt}
 use Rattle.machine.specs.Requirement.{requirement, firstTranche, secondTranche, contributionOf, contributions}
 
@@ -17,14 +18,15 @@ worstReserve rounds pool = least (map (λ r. getD (r .reserves) pool 0) (keep (�
 
 -- "Units won are those given at CLOSE; later moves don't lower them. .. D sums units won × (price − worst reserve) over all pools, W is units
 -- won, excess is W less expected units over all pools." A bid that won has a price at or above its pool's worst reserve (`won-above-reserve`),
--- so no difference is cut off
+-- so no difference is cut off.
+-- Document 02, C-12: "Such units, and the units expected in a pool so sold, don't count for rank."
 unfoldable pub standing : Case → ℕ → Standing
 standing c m =
     let bids = keep (λ b. eqb (b .member) m) (c .bids) in
     record {
       D = sum (map (λ b. b .won * (b .price - worstReserve (c .rounds) (b .pool))) bids);
       W = sum (map (λ b. b .won) bids);
-      expected = sum (memberAt (c .members) m .expected);
+      expected = sum (mapFrom 0 (λ pool n. if soldByAgreement (c .roll) pool then 0 else n) (memberAt (c .members) m .expected));
     }
 
 -- "Rank = 1 + the number strictly senior."

@@ -1,5 +1,5 @@
 -- Document 01, "The unit roll": the entries, and how calls change them.
-use mathlib.Core.Bool.{Bool, false, _&&_, not}
+use mathlib.Core.Bool.{Bool, true, false, _&&_, not}
 use mathlib.Core.List.{List, _++_, map}
 use Prim.Native.Nat.{ℕ}
 use lib.Dec.{eqb}
@@ -7,13 +7,15 @@ use lib.ListN.{getD, replicate}
 use Rattle.lists.specs.Lists.{if_then_else_, count, any, keep, changeFirst}
 use Rattle.auction.specs.Price.{zeroPrice}
 
--- "A pool of N units has N entries, each open, sold (bid), allocated (member, price), moved (member) or torn (price)."
+-- "A pool of N units has N entries, each open, sold (bid), allocated (member, price), moved (member) or torn (price)." Document 02,
+-- C-12: "The roll gains the entry sold by agreement" (member, price)
 pub data UnitState : Type 0 where
   Open : UnitState
   Sold : (bid : ℕ) → UnitState
   Allocated : (member price : ℕ) → UnitState
   Moved : (member : ℕ) → UnitState
   Torn : (price : ℕ) → UnitState
+  Agreed : (member price : ℕ) → UnitState
 
 -- an entry of the roll. The roll is one list, the units of pool 0 first
 pub record Entry : Type 0 where
@@ -43,13 +45,23 @@ withState e v = record { pool = e .pool; state = v }
 
 -- ---- what an entry is
 
--- the five kinds of entry, in the order of the p line: open, sold, allocated, moved, torn
+-- the five kinds of entry, in the order of the p line: open, sold, allocated, moved, torn. C-12: "the entry sold by agreement, counted as sold"
 unfoldable pub kind : UnitState → ℕ
 kind Open = 0
 kind (Sold bid) = 1
 kind (Allocated m price) = 2
 kind (Moved m) = 3
 kind (Torn price) = 4
+kind (Agreed m price) = 1
+
+-- whether an entry is sold by agreement
+unfoldable pub isAgreed : UnitState → Bool
+isAgreed Open = false
+isAgreed (Sold bid) = false
+isAgreed (Allocated m price) = false
+isAgreed (Moved m) = false
+isAgreed (Torn price) = false
+isAgreed (Agreed m price) = true
 
 -- whether an entry is open
 unfoldable pub isOpen : Entry → Bool
@@ -66,14 +78,17 @@ priceOf bids (Sold bid) = getD bids bid noBid .price
 priceOf bids (Allocated m price) = price
 priceOf bids (Moved m) = zeroPrice
 priceOf bids (Torn price) = price
+priceOf bids (Agreed m price) = price
 
--- whether an entry is held by a member: "units sold to its bids, allocated or moved to it"
+-- whether an entry is held by a member: "units sold to its bids, allocated or moved to it". C-12: the entry sold by agreement
+-- is "among its member's holdings"
 unfoldable pub heldBy : List Bid → ℕ → UnitState → Bool
 heldBy bids m Open = false
 heldBy bids m (Sold bid) = eqb (getD bids bid noBid .member) m
 heldBy bids m (Allocated a price) = eqb a m
 heldBy bids m (Moved a) = eqb a m
 heldBy bids m (Torn price) = false
+heldBy bids m (Agreed a price) = eqb a m
 
 -- "allocated or moved to the member"
 unfoldable pub passedTo : ℕ → UnitState → Bool
@@ -82,6 +97,7 @@ passedTo m (Sold bid) = false
 passedTo m (Allocated a price) = eqb a m
 passedTo m (Moved a) = eqb a m
 passedTo m (Torn price) = false
+passedTo m (Agreed a price) = false
 
 -- ---- how entries change
 
@@ -93,9 +109,13 @@ putUp pool n roll = roll ++ replicate n (record { pool = pool; state = Open })
 unfoldable pub giveLowest : ℕ → UnitState → ℕ → List Entry → List Entry
 giveLowest pool state n roll = changeFirst (openIn pool) (λ e. withState e state) n roll
 
+-- an entry changed to a state, if it passes the test
+abbrev pub changedIf : (Entry → Bool) → UnitState → Entry → Entry
+changedIf p state e = if p e then withState e state else e
+
 -- an entry torn up at a price, if it passes the test
 abbrev pub tornIf : (Entry → Bool) → ℕ → Entry → Entry
-tornIf p price e = if p e then withState e (Torn price) else e
+tornIf p price = changedIf p (Torn price)
 
 -- ---- what is counted
 
@@ -110,3 +130,13 @@ anyOpen roll = any isOpen roll
 -- "the prices of all units not open"
 unfoldable pub prices : List Bid → List Entry → List ℕ
 prices bids roll = map (λ e. priceOf bids (e .state)) (keep (λ e. not (isOpen e)) roll)
+
+-- ---- sold by agreement
+
+-- C-12: "the prices of all units so sold"
+unfoldable pub agreedPrices : List Bid → List Entry → List ℕ
+agreedPrices bids roll = map (λ e. priceOf bids (e .state)) (keep (λ e. isAgreed (e .state)) roll)
+
+-- C-12: "a pool so sold". Its units stay as they are for good (`agreed-stay`)
+unfoldable pub soldByAgreement : List Entry → ℕ → Bool
+soldByAgreement roll pool = any (λ e. isAgreed (e .state) && eqb (e .pool) pool) roll

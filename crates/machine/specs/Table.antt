@@ -8,8 +8,9 @@ use Prim.Native.Nat.{ℕ}
 use lib.Dec.{leb, eqb}
 use lib.ListN.{length}
 use Rattle.lists.specs.Lists.{if_then_else_}
-use Rattle.machine.specs.Wire.{Call, HEAD, POOL, MEMBER, ROUND, BID, CLOSE, ALLOCATE, TEAR, CALL, PAY, MOVE, MISS, FINISH, decode}
-use Rattle.machine.specs.State.{Stage, Setup, Bidding, After, CallsOut, Finished, State}
+use Rattle.machine.specs.Wire.{Call, HEAD, POOL, MEMBER, ROUND, BID, CLOSE, ALLOCATE, TEAR, CALL, PAY, MOVE, MISS, FINISH, SALE, decode}
+use Rattle.machine.specs.Roll.{anyOpen}
+use Rattle.machine.specs.State.{Stage, Setup, Bidding, After, CallsOut, Finished, State, theCase}
 use Rattle.machine.specs.Machine.{step}
 
 -- ---- the stages by their letters
@@ -42,10 +43,12 @@ letterIn (some c) = letterOfStage (c .stage)
 
 -- ---- the table
 
--- a cell: "The stage doesn't allow the call", or the stage that the call, accepted, makes or leaves
+-- a cell: "The stage doesn't allow the call", or the stage that the call, accepted, makes or leaves; or two, the first of them while a unit is open
+-- after the call
 pub data Cell : Type 0 where
   x : Cell
   to : Letter → Cell
+  whileOpen : Letter → Letter → Cell
 
 -- a row: its cells for no case, S, B of round 1, B of round 2, A of round 1, A of round 2, C, F
 unfoldable pub row : (n s b1 b2 a1 a2 c f : Cell) → Letter → Cell
@@ -85,6 +88,8 @@ stageTable (MOVE m) = row x x x x x x (to C) x
 stageTable (MISS m price) = row x x x x (to A1) (to A2) (to C) x
 -- "A, C; makes F"
 stageTable FINISH = row x x x x (to F) (to F) (to F) x
+-- document 02, C-12: "in stage S .. If no unit is open afterwards the stage becomes A1"
+stageTable (SALE pool m price) = row x (whileOpen S A1) x x x x x x
 
 -- ---- the law
 
@@ -107,11 +112,19 @@ wrongLength s (PAY m amount) = false
 wrongLength s (MOVE m) = false
 wrongLength s (MISS m price) = false
 wrongLength s FINISH = false
+wrongLength s (SALE pool m price) = false
 
 -- "2. The stage doesn't allow the call."
 unfoldable pub declined : Cell → ℕ
 declined x = 2
 declined (to letter) = 0
+declined (whileOpen before after) = 0
+
+-- the cell with the one stage that it means for a state that the call leaves
+unfoldable pub meant : State → Cell → Cell
+meant next x = x
+meant next (to letter) = to letter
+meant next (whileOpen before after) = to (if anyOpen (theCase next .roll) then before else after)
 
 -- the number 1 or 2 that applies to what was decoded, and 0 where neither does
 unfoldable pub earlyAnswer : State → Option Call → ℕ
@@ -125,4 +138,4 @@ firstTwo n = if leb n 2 then n else 0
 -- the law: a step is answered 1 or 2 exactly where the table says so, and an accepted call leaves the case in the table's stage
 pub record ByTable (s : State) (bytes : List ℕ) : Type 0 where
   pub answer : firstTwo (step s bytes .answer) ≡ earlyAnswer s (decode bytes)
-  pub stage : (call : Call) → decode bytes ≡ some call → step s bytes .answer ≡ 0 → to (letterIn (step s bytes .state)) ≡ stageTable call (letterIn s)
+  pub stage : (call : Call) → decode bytes ≡ some call → step s bytes .answer ≡ 0 → to (letterIn (step s bytes .state)) ≡ meant (step s bytes .state) (stageTable call (letterIn s))
