@@ -237,7 +237,7 @@ module _ (c : Case) (ok : CaseOk c) where
   -- ---- ROUND
 
   -- all pools and members are given
-  round-complete : notGiven c ≡ false → (length (c .pools) ≡ c .head .pools) × ((m : ℕ) → m < 32 → inSet (c .head) m ≡ true → memberAt (c .members) m .given ≡ true)
+  pub round-complete : notGiven c ≡ false → (length (c .pools) ≡ c .head .pools) × ((m : ℕ) → m < 32 → inSet (c .head) m ≡ true → memberAt (c .members) m .given ≡ true)
   unfolding notGiven members
   round-complete e =
       let few = ltb-false (length (c .pools)) (c .head .pools) (or-left _ _ e) in

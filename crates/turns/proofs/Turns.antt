@@ -12,7 +12,7 @@ use lib.ListN.{getD}
 use borrow.Author.Tests.{leb-true, leb-false, ltb-true, lt-ltb, le-ltb, le-leb, lt-leb, eq-eqb, ne-eqb, eqb-true}
 use Rattle.lists.proofs.Bools.{order-of, leb-same, lt-or-le, cases, and-left, and-right}
 use Rattle.auction.specs.Price.{negative}
-use Rattle.machine.specs.Roll.{UnitState, Open, Sold, Allocated, Moved, Torn, Entry, Bid, noBid, kind, priceOf}
+use Rattle.machine.specs.Roll.{UnitState, Open, Sold, Allocated, Moved, Torn, Agreed, Entry, Bid, noBid, kind, isAgreed, priceOf}
 use Rattle.machine.specs.Move.{mayMove, turn, later}
 use Rattle.turns.specs.Keys.{noKey, soldKeys, soldKey, allocatedKey}
 
@@ -117,6 +117,7 @@ unitKey bids e = elim (e .state) [
   | Allocated m price ↦ allocatedKey price (e .pool) m
   | Moved m ↦ noKey
   | Torn price ↦ noKey
+  | Agreed m price ↦ noKey
 ]
 
 abbrev at : ℕ → UnitState → Entry
@@ -125,7 +126,7 @@ at pool s = record { pool = pool; state = s }
 module _ (bids : List Bid) where
   -- an entry has a key below `noKey` exactly if it may move
   pub key-may : (e : Entry) → leb noKey (unitKey bids e) ≡ not (mayMove bids e)
-  unfolding unitKey mayMove kind priceOf
+  unfolding unitKey mayMove kind isAgreed priceOf
   key-may e = go (e .pool) (e .state)
     where
       go : (pool : ℕ) (s : UnitState) → leb noKey (unitKey bids (at pool s)) ≡ not (mayMove bids (at pool s))
@@ -134,6 +135,7 @@ module _ (bids : List Bid) where
       go pool (Allocated m price) = allocated-may price pool m
       go pool (Moved m) = refl
       go pool (Torn price) = refl
+      go pool (Agreed z price) = refl
 
   pub may-low : (e : Entry) → mayMove bids e ≡ true → unitKey bids e < noKey
   may-low e may = leb-false noKey (unitKey bids e) (key-may e ∙ ap not may)
@@ -144,7 +146,7 @@ module _ (bids : List Bid) where
   -- of two that may move, the one with the lesser key, or with the same, has no later turn
   pub key-order : (e x : Entry) → mayMove bids e ≡ true → mayMove bids x ≡ true
       → leb (unitKey bids e) (unitKey bids x) ≡ not (later (turn bids e) (turn bids x))
-  unfolding unitKey mayMove kind priceOf turn later
+  unfolding unitKey mayMove kind isAgreed priceOf turn later
   key-order e x me mx = go (e .pool) (e .state) (x .pool) (x .state) me mx
     where
       go : (j : ℕ) (s : UnitState) (k : ℕ) (t : UnitState)
@@ -153,14 +155,17 @@ module _ (bids : List Bid) where
       go j Open k t ms mt = absurd (false≢true ms)
       go j (Moved m) k t ms mt = absurd (false≢true ms)
       go j (Torn price) k t ms mt = absurd (false≢true ms)
+      go j (Agreed z price) k t ms mt = absurd (false≢true ms)
       go j (Sold b) k Open ms mt = absurd (false≢true mt)
       go j (Sold b) k (Moved m) ms mt = absurd (false≢true mt)
       go j (Sold b) k (Torn price) ms mt = absurd (false≢true mt)
+      go j (Sold b) k (Agreed z price) ms mt = absurd (false≢true mt)
       go j (Sold b) k (Sold d) ms mt = sold-order (getD bids b noBid .price) (getD bids d noBid .price) b d ms mt
       go j (Sold b) k (Allocated n price) ms mt = lt-leb _ _ (allocated-first price (getD bids b noBid .price) k n b mt ms)
       go j (Allocated m price) k Open ms mt = absurd (false≢true mt)
       go j (Allocated m price) k (Moved n) ms mt = absurd (false≢true mt)
       go j (Allocated m price) k (Torn q) ms mt = absurd (false≢true mt)
+      go j (Allocated m price) k (Agreed z q) ms mt = absurd (false≢true mt)
       go j (Allocated m price) k (Sold d) ms mt = le-leb _ _ (le-of-lt (allocated-first price (getD bids d noBid .price) j m d ms mt))
       go j (Allocated m price) k (Allocated n q) ms mt = allocated-order price q j k m n ms mt
 
@@ -174,6 +179,7 @@ module _ (bids : List Bid) where
     | Allocated m price ↦ ltb m 32 && ltb (e .pool) 4
     | Moved m ↦ true
     | Torn price ↦ true
+    | Agreed m price ↦ true
   ]
 
   pub key-tells : (e x : Entry) → fits e ≡ true → fits x ≡ true → unitKey bids e < noKey → unitKey bids e ≡ unitKey bids x → e ≡ x
@@ -185,9 +191,11 @@ module _ (bids : List Bid) where
       go j Open k t fs ft low same = absurd (omega arith)
       go j (Moved m) k t fs ft low same = absurd (omega arith)
       go j (Torn price) k t fs ft low same = absurd (omega arith)
+      go j (Agreed z price) k t fs ft low same = absurd (omega arith)
       go j (Sold b) k Open fs ft low same = absurd (omega arith)
       go j (Sold b) k (Moved m) fs ft low same = absurd (omega arith)
       go j (Sold b) k (Torn price) fs ft low same = absurd (omega arith)
+      go j (Sold b) k (Agreed z price) fs ft low same = absurd (omega arith)
       go j (Sold b) k (Sold d) fs ft low same =
           let p = getD bids b noBid .price in
           let q = getD bids d noBid .price in
@@ -199,6 +207,7 @@ module _ (bids : List Bid) where
       go j (Allocated m price) k Open fs ft low same = absurd (omega arith)
       go j (Allocated m price) k (Moved n) fs ft low same = absurd (omega arith)
       go j (Allocated m price) k (Torn q) fs ft low same = absurd (omega arith)
+      go j (Allocated m price) k (Agreed z q) fs ft low same = absurd (omega arith)
       go j (Allocated m price) k (Sold d) fs ft low same =
           absurd (omega (arith, allocated-first price (getD bids d noBid .price) j m d (allocated-low price j m low) (sold-low (getD bids d noBid .price) d (rw same at low))))
       go j (Allocated m price) k (Allocated n q) fs ft low same =

@@ -52,7 +52,7 @@ fn live_key(n: u16, key: u32) -> u32
 }
 
 // The keys of the places that have units.
-pub fn live_keys(counts: &[u16; 776], allocation: &[u32; 4], prices: &[u32; 256]) -> [u32; 384]
+pub fn live_keys(counts: &[u16; 780], allocation: &[u32; 4], prices: &[u32; 256]) -> [u32; 384]
     ensures { λ r. ⌜ r ≡ liveKeys (now (allocation .entry)) (now (prices .entry)) (now (counts .entry)) ⌝ }
 {
     let mut keys = [NO_KEY; 384];

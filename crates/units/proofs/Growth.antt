@@ -13,7 +13,7 @@ use Rattle.lists.proofs.Each.{Each, set-cases}
 use Rattle.auction.specs.Price.{zeroPrice}
 use Rattle.units.specs.declared.Units.{Units}
 use Rattle.units.specs.Places.{allocatedAt, soldAt, movedAt, missedAt, missedMovedAt}
-use Rattle.units.specs.Steps.{transferred, repriced, poolOf, winOf, soldCounts, sharedCounts, tornUp, missedTo}
+use Rattle.units.specs.Steps.{transferred, repriced, poolOf, winOf, soldCounts, sharedCounts, notedAt, missedTo}
 use Rattle.turns.specs.Keys.{noKey, leastKey, keyPlace, keyPrice, needed}
 use Rattle.units.specs.Groups.{poolAt, passGroups}
 use Rattle.units.proofs.Weighing.{length-transferred}
@@ -73,8 +73,8 @@ module _ (pools : List ℕ) (m k : ℕ) (other : (p : ℕ) → p < 4 → k ≡ m
 -- ---- MISS
 
 -- where there is none to tear up, no place has more
-torn-none : (u : Units) (k to old price : ℕ) → getD (u .counts) k 0 ≡ 0 → (j : ℕ) → getD (tornUp u k to old price .counts) j 0 ≤ getD (u .counts) j 0
-unfolding tornUp transferred addAt
+torn-none : (u : Units) (k to old price : ℕ) → getD (u .counts) k 0 ≡ 0 → (j : ℕ) → getD (notedAt u k to old price .counts) j 0 ≤ getD (u .counts) j 0
+unfolding notedAt transferred addAt
 torn-none u k to old price e j = rw e
     (set-cases (λ (x : ℕ). x ≤ getD (u .counts) j 0) (set (u .counts) k (0 - 0)) to _ 0 j
     (λ is. rw is (omega (arith, less to)))
@@ -83,25 +83,25 @@ torn-none u k to old price e j = rw e
     less : (i : ℕ) → getD (set (u .counts) k (0 - 0)) i 0 ≤ getD (u .counts) i 0
     less i = set-cases (λ (x : ℕ). x ≤ getD (u .counts) i 0) (u .counts) k (0 - 0) 0 i (λ is. omega arith) (omega arith)
 
-module _ (u : Units) (long : length (u .counts) ≡ 776) (m price : ℕ) (small : m < 32) where
+module _ (u : Units) (long : length (u .counts) ≡ 780) (m price : ℕ) (small : m < 32) where
   -- the first n pools
   abbrev after : ℕ → Units
   after n = missedTo m price n u
 
   abbrev half : ℕ → Units
-  half n = tornUp (after n) (allocatedAt n m) (missedAt n m) (getD (after n .allocation) n 0) price
+  half n = notedAt (after n) (allocatedAt n m) (missedAt n m) (getD (after n .allocation) n 0) price
 
   none-yet : after 0 ≡ u
   unfolding missedTo
   none-yet = refl
 
-  missed-long : (n : ℕ) → length (after n .counts) ≡ 776
-  unfolding missedTo tornUp transferred addAt
+  missed-long : (n : ℕ) → length (after n .counts) ≡ 780
+  unfolding missedTo notedAt transferred addAt
   missed-long zero = long
   missed-long (suc n) = simp length-set (missed-long n)
 
-  half-long : (n : ℕ) → length (half n .counts) ≡ 776
-  unfolding tornUp
+  half-long : (n : ℕ) → length (half n .counts) ≡ 780
+  unfolding notedAt
   half-long n = length-transferred (after n .counts) (allocatedAt n m) (missedAt n m) _ ∙ missed-long n
 
   -- one pool: a place that no unit is torn up to

@@ -1,6 +1,7 @@
 -- The units of a roll after POOL, CLOSE and ALLOCATE, and where the bids change. Assumes nothing.
 use mathlib.Core.Path.{_≡_, refl, sym, ap, _∙_}
 use mathlib.Core.Bool.{Bool, true, false, _&&_}
+use mathlib.Core.Logic.{⊎-elim}
 use mathlib.Core.List.{List, [], _∷_, _++_, map}
 use Prim.Native.Nat.{ℕ, zero, suc, _+_, _-_, _*_, _≤_, _<_, min}
 use native.Mathlib.Nat.{mul-one, mul-zero, zero-mul, min-eq-left}
@@ -12,7 +13,7 @@ use borrow.Author.Tests.{lt-ltb, eqb-true, eqb-false, eq-eqb, ne-eqb}
 use Rattle.lists.specs.Lists.{if_then_else_, sum, count, oneIf}
 use Rattle.lists.specs.Adding.{most16, addAt}
 use Rattle.lists.proofs.Adding.{length-added}
-use Rattle.lists.proofs.Bools.{cases}
+use Rattle.lists.proofs.Bools.{cases, lt-or-le}
 use Rattle.lists.proofs.Each.{Each, each-more, set-cases}
 use Rattle.lists.proofs.Keep.{sum-keep-cons}
 use Rattle.sets.specs.Set.{members}
@@ -22,27 +23,28 @@ use Rattle.machine.specs.Roll.{UnitState, Sold, Allocated, Entry, Bid, noBid, k
 use Rattle.machine.specs.Calls.{inAuction, sell, giveShares}
 use Rattle.machine.proofs.Giving.{wonWhere}
 use Rattle.units.specs.declared.Units.{Units}
-use Rattle.units.specs.Places.{allocatedAt, soldAt, unitAt, over, weigh, Counted}
+use Rattle.units.specs.Places.{allocatedAt, soldAt, agreedAt, unitAt, over, weigh, Counted}
 use Rattle.units.specs.Steps.{transferred, repriced, putUpUnits, winOf, poolOf, soldCounts, soldSums, sellUnits, sharedCounts, sharedSums, allocateUnits}
-use Rattle.units.proofs.Places.{unit-open, unit-allocated, unit-sold, unit-moved, unit-torn, by-place}
+use Rattle.units.proofs.Places.{unit-open, unit-allocated, unit-sold, unit-moved, unit-torn, unit-agreed, by-place}
 use Rattle.units.proofs.Weighing.{weigh-zero, weigh-added, weigh-point}
 use Rattle.units.proofs.Over.{Swap, openUnit, count-over, over-put, give-swaps}
 use Rattle.units.proofs.Tied.{inPool, priceIn, in-it, not-in-it, Tied, few-units, transfer-tied, relabelled}
 
 -- the entry at each place
 abbrev pub unitOf : Units → List Bid → ℕ → Entry
-unitOf u bids = unitAt (u .allocation) (u .tearup) bids
+unitOf u bids = unitAt (u .allocation) (u .noted) (u .buyers) bids
 
 -- the units are those of the roll
 pub record Kept (u : Units) (bids : List Bid) (roll : List Entry) : Type 0 where
   pub tied : Tied (u .counts) (u .sums) (unitOf u bids) bids roll
   pub four : length (u .allocation) ≡ 4
-  pub long : length (u .tearup) ≡ 260
+  pub long : length (u .noted) ≡ 264
+  pub buyers : length (u .buyers) ≡ 4
 
 -- ---- how many entries pass a test that one place passes
 
 module _ (counts : List ℕ) (unit : ℕ → Entry) (roll : List Entry) (counted : Counted counts unit roll) where
-  pub count-at : (p : Entry → Bool) (k : ℕ) → k < 776 → ((i : ℕ) → i < 776 → (i ≡ k → ⊥) → p (unit i) ≡ false) → p (unit k) ≡ true → count p roll ≡ getD counts k 0
+  pub count-at : (p : Entry → Bool) (k : ℕ) → k < 780 → ((i : ℕ) → i < 780 → (i ≡ k → ⊥) → p (unit i) ≡ false) → p (unit k) ≡ true → count p roll ≡ getD counts k 0
   unfolding oneIf
   count-at p k l others here =
       let one = weigh-point counts k (λ i. 0) (λ i. oneIf (p (unit i))) l (λ i li a some. rw (others i li a)) in
@@ -60,41 +62,42 @@ module _ (counts : List ℕ) (unit : ℕ → Entry) (roll : List Entry) (counted
 -- ---- the open units of a pool
 
 -- no other place counts open units of the pool
-pub open-alone : (allocation tearup : List ℕ) (bids : List Bid) (pool : ℕ) → (i : ℕ) → i < 776 → (i ≡ pool → ⊥) → openIn pool (unitAt allocation tearup bids i) ≡ false
+pub open-alone : (allocation noted buyers : List ℕ) (bids : List Bid) (pool : ℕ) → (i : ℕ) → i < 780 → (i ≡ pool → ⊥) → openIn pool (unitAt allocation noted buyers bids i) ≡ false
 unfolding openIn isOpen kind
-open-alone allocation tearup bids pool =
-    by-place (λ i. (i ≡ pool → ⊥) → openIn pool (unitAt allocation tearup bids i) ≡ false)
-    (λ i l a. rw (unit-open allocation tearup bids i l, ne-eqb i pool a))
-    (λ p m lp lm a. rw (unit-allocated allocation tearup bids p m lp lm))
-    (λ b l a. rw (unit-sold allocation tearup bids b l))
-    (λ p m lp lm a. rw (unit-moved allocation tearup bids p m lp lm))
-    (λ i l a. rw (unit-torn allocation tearup bids i l))
+open-alone allocation noted buyers bids pool =
+    by-place (λ i. (i ≡ pool → ⊥) → openIn pool (unitAt allocation noted buyers bids i) ≡ false)
+    (λ i l a. rw (unit-open allocation noted buyers bids i l, ne-eqb i pool a))
+    (λ p m lp lm a. rw (unit-allocated allocation noted buyers bids p m lp lm))
+    (λ b l a. rw (unit-sold allocation noted buyers bids b l))
+    (λ p m lp lm a. rw (unit-moved allocation noted buyers bids p m lp lm))
+    (λ i l a. rw (unit-torn allocation noted buyers bids i l))
+    (λ p l a. rw (unit-agreed allocation noted buyers bids p l))
 
-pub open-here : (allocation tearup : List ℕ) (bids : List Bid) (pool : ℕ) → pool < 4 → openIn pool (unitAt allocation tearup bids pool) ≡ true
+pub open-here : (allocation noted buyers : List ℕ) (bids : List Bid) (pool : ℕ) → pool < 4 → openIn pool (unitAt allocation noted buyers bids pool) ≡ true
 unfolding openIn isOpen kind
-open-here allocation tearup bids pool l = rw (unit-open allocation tearup bids pool l, eq-eqb pool pool refl)
+open-here allocation noted buyers bids pool l = rw (unit-open allocation noted buyers bids pool l, eq-eqb pool pool refl)
 
-pub open-counted : (allocation tearup counts : List ℕ) (bids : List Bid) (roll : List Entry) → Counted counts (unitAt allocation tearup bids) roll
+pub open-counted : (allocation noted buyers counts : List ℕ) (bids : List Bid) (roll : List Entry) → Counted counts (unitAt allocation noted buyers bids) roll
     → (pool : ℕ) → pool < 4 → openUnits roll pool ≡ getD counts pool 0
 unfolding openUnits
-open-counted allocation tearup counts bids roll counted pool l =
-    count-at counts (unitAt allocation tearup bids) roll counted (openIn pool) pool (omega arith) (open-alone allocation tearup bids pool)
-    (open-here allocation tearup bids pool l)
+open-counted allocation noted buyers counts bids roll counted pool l =
+    count-at counts (unitAt allocation noted buyers bids) roll counted (openIn pool) pool (omega arith) (open-alone allocation noted buyers bids pool)
+    (open-here allocation noted buyers bids pool l)
 
 -- ---- n open units of a pool given to a place
 
-module _ (allocation tearup : List ℕ) (bids : List Bid) where
+module _ (allocation noted buyers : List ℕ) (bids : List Bid) where
   abbrev unit : ℕ → Entry
-  unit = unitAt allocation tearup bids
+  unit = unitAt allocation noted buyers bids
 
-  pub give-tied : (counts sums : List ℕ) (roll : List Entry) → Tied counts sums unit bids roll → (pool to n : ℕ) (s : UnitState) → pool < 4 → 4 ≤ to → to < 776 → n ≤ getD counts pool 0
+  pub give-tied : (counts sums : List ℕ) (roll : List Entry) → Tied counts sums unit bids roll → (pool to n : ℕ) (s : UnitState) → pool < 4 → 4 ≤ to → to < 780 → n ≤ getD counts pool 0
       → unit to ≡ record { pool = pool; state = s }
       → Tied (transferred counts pool to n) (repriced sums pool n zeroPrice (priceOf bids s)) unit bids (giveLowest pool s n roll)
   unfolding priceOf
   give-tied counts sums roll tied pool to n s lp far lt few is =
-      let from = unit-open allocation tearup bids pool lp in
+      let from = unit-open allocation noted buyers bids pool lp in
       let swap : Swap roll (giveLowest pool s n roll) n (unit pool) (unit to) =
-      rw (from, is) (give-swaps pool s n roll (omega (arith, open-counted allocation tearup counts bids roll (tied .counted) pool lp))) in
+      rw (from, is) (give-swaps pool s n roll (omega (arith, open-counted allocation noted buyers counts bids roll (tied .counted) pool lp))) in
       rw (from, is) at
       (transfer-tied counts sums unit bids roll tied pool to n pool (omega arith) lt (λ e. absurd (omega arith)) few lp (ap (λ (e : Entry). e .pool) from)
       (ap (λ (e : Entry). e .pool) is) (giveLowest pool s n roll) swap)
@@ -125,14 +128,14 @@ open-priced bids pool q e = in-it bids q (openUnit pool) e .1
 
 module _ (u : Units) (bids : List Bid) (roll : List Entry) (kept : Kept u bids roll) where
   pub open-shown : (pool : ℕ) → pool < 4 → openUnits roll pool ≡ getD (u .counts) pool 0
-  open-shown = open-counted (u .allocation) (u .tearup) (u .counts) bids roll (kept .tied .counted)
+  open-shown = open-counted (u .allocation) (u .noted) (u .buyers) (u .counts) bids roll (kept .tied .counted)
 
   pub put-kept : (pool n : ℕ) → pool < 4 → ((q : ℕ) → over (putUp pool n roll) (inPool q) ≤ 1000) → over (putUp pool n roll) (λ e. 1) ≤ 4000
       → Kept (putUpUnits u pool n) bids (putUp pool n roll)
   unfolding putUpUnits
   put-kept pool n l few all =
       let t = kept .tied in
-      let is = unit-open (u .allocation) (u .tearup) bids pool l in
+      let is = unit-open (u .allocation) (u .noted) (u .buyers) bids pool l in
       let more = few-units (u .counts) (unitOf u bids) roll (t .counted) (t .all) pool (omega arith) in
       let fits : getD (u .counts) pool 0 + n ≤ most16 = omega (arith, over-put (λ e. 1) pool n roll, mul-one n) in
       rw (lt-ltb pool 4 l) (record {
@@ -173,6 +176,7 @@ module _ (u : Units) (bids : List Bid) (roll : List Entry) (kept : Kept u bids r
         };
         four = kept .four;
         long = kept .long;
+        buyers = kept .buyers;
       })
 
 -- ---- CLOSE
@@ -195,7 +199,7 @@ sell-more round i (x ∷ bs) b roll =
     let e : i + suc (length bs) ≡ suc i + length bs = omega arith in
     sell-more round (suc i) bs b (soldOne round i x roll) ∙ rw e
 
-module _ (allocation tearup : List ℕ) (bids : List Bid) (few : length bids ≤ 256) (pools-below : (b : ℕ) → b < length bids → getD bids b noBid .pool < 4) (round : ℕ)
+module _ (allocation noted buyers : List ℕ) (bids : List Bid) (few : length bids ≤ 256) (pools-below : (b : ℕ) → b < length bids → getD bids b noBid .pool < 4) (round : ℕ)
     (rounds pools prices won : List ℕ) (lent : Lent bids rounds pools prices won) where
   -- the units won in each pool by the bids from number i on are open
   abbrev Enough : ℕ → List ℕ → Type 0
@@ -231,7 +235,7 @@ module _ (allocation tearup : List ℕ) (bids : List Bid) (few : length bids ≤
         omega (arith, h, win-here (eqb-true (bid .round) round t), enough (bid .pool) (pools-below i l)))
         (λ t. omega (arith, win-not (eqb-false (bid .round) round t)))
 
-    enough-next : (counts : List ℕ) → length counts ≡ 776 → Enough i counts → Enough (suc i) (transferred counts (bid .pool) (soldAt i) win)
+    enough-next : (counts : List ℕ) → length counts ≡ 780 → Enough i counts → Enough (suc i) (transferred counts (bid .pool) (soldAt i) win)
     enough-next counts long enough pool lp =
         cases (eqb (bid .pool) pool) _
         (λ t.
@@ -247,27 +251,27 @@ module _ (allocation tearup : List ℕ) (bids : List Bid) (few : length bids ≤
         let h : wonWhere (inAuction round pool) (drop (suc i) bids) ≤ wonWhere (inAuction round pool) (drop i bids) = omega (arith, here-won pool) in
         omega (arith, same, h, enough pool lp))
 
-    one-sold : (counts sums : List ℕ) (roll : List Entry) → Tied counts sums (unitAt allocation tearup bids) bids roll → Enough i counts
-        → Tied (transferred counts (bid .pool) (soldAt i) win) (repriced sums (bid .pool) win zeroPrice (getD prices i 0)) (unitAt allocation tearup bids) bids (soldOne round i bid roll)
+    one-sold : (counts sums : List ℕ) (roll : List Entry) → Tied counts sums (unitAt allocation noted buyers bids) bids roll → Enough i counts
+        → Tied (transferred counts (bid .pool) (soldAt i) win) (repriced sums (bid .pool) win zeroPrice (getD prices i 0)) (unitAt allocation noted buyers bids) bids (soldOne round i bid roll)
     unfolding priceOf
     one-sold counts sums roll tied enough =
-        let is = unit-sold allocation tearup bids i (omega (arith, few)) in
+        let is = unit-sold allocation noted buyers bids i (omega (arith, few)) in
         let to = soldAt i in
         rw (lent .price i l)
         (cases (eqb (bid .round) round) _
         (λ t.
         let w = win-here (eqb-true (bid .round) round t) in
-        rw (t, w) (give-tied allocation tearup bids counts sums roll tied (bid .pool) to (bid .won) (Sold i) (pools-below i l) (omega arith) (omega (arith, few)) (omega (arith, w, win-few counts enough)) is))
+        rw (t, w) (give-tied allocation noted buyers bids counts sums roll tied (bid .pool) to (bid .won) (Sold i) (pools-below i l) (omega arith) (omega (arith, few)) (omega (arith, w, win-few counts enough)) is))
         (λ t.
         let w = win-not (eqb-false (bid .round) round t) in
-        let from = unit-open allocation tearup bids (bid .pool) (pools-below i l) in
+        let from = unit-open allocation noted buyers bids (bid .pool) (pools-below i l) in
         rw (t, w) (rw (from, is) at
-        (transfer-tied counts sums (unitAt allocation tearup bids) bids roll tied (bid .pool) to 0 (bid .pool) (omega (arith, pools-below i l)) (omega (arith, few))
+        (transfer-tied counts sums (unitAt allocation noted buyers bids) bids roll tied (bid .pool) to 0 (bid .pool) (omega (arith, pools-below i l)) (omega (arith, few))
         (λ e. absurd (omega (arith, pools-below i l))) (omega arith) (pools-below i l) (ap (λ (e : Entry). e .pool) from) (ap (λ (e : Entry). e .pool) is) roll
-        (λ f. rw (zero-mul (f (unitAt allocation tearup bids (bid .pool))), zero-mul (f (unitAt allocation tearup bids to))))))))
+        (λ f. rw (zero-mul (f (unitAt allocation noted buyers bids (bid .pool))), zero-mul (f (unitAt allocation noted buyers bids to))))))))
 
-  sold-tied : (counts sums : List ℕ) (roll : List Entry) → Tied counts sums (unitAt allocation tearup bids) bids roll → Enough 0 counts → (i : ℕ) → i ≤ length bids
-      → Tied (soldCounts round rounds pools won i counts) (soldSums round rounds pools won prices i sums) (unitAt allocation tearup bids) bids (sell round 0 (take i bids) roll)
+  sold-tied : (counts sums : List ℕ) (roll : List Entry) → Tied counts sums (unitAt allocation noted buyers bids) bids roll → Enough 0 counts → (i : ℕ) → i ≤ length bids
+      → Tied (soldCounts round rounds pools won i counts) (soldSums round rounds pools won prices i sums) (unitAt allocation noted buyers bids) bids (sell round 0 (take i bids) roll)
       × Enough i (soldCounts round rounds pools won i counts)
   unfolding soldCounts soldSums sell
   sold-tied counts sums roll tied enough zero l = (tied, enough)
@@ -290,63 +294,71 @@ pub sell-kept : (u : Units) (bids : List Bid) (roll : List Entry) → Kept u bid
 unfolding sellUnits
 sell-kept u bids roll kept few below round rounds pools prices won lent enough =
     let all : min (length bids) 256 ≡ length bids = min-eq-left few in
-    let sold = sold-tied (u .allocation) (u .tearup) bids few below round rounds pools prices won lent (u .counts) (u .sums) roll (kept .tied)
+    let sold = sold-tied (u .allocation) (u .noted) (u .buyers) bids few below round rounds pools prices won lent (u .counts) (u .sums) roll (kept .tied)
     (λ pool l. omega (arith, enough pool l, open-shown u bids roll kept pool l)) (length bids) (omega arith) in
-    rw all (record { tied = rw (take-length bids) at (sold .0); four = kept .four; long = kept .long })
+    rw all (record { tied = rw (take-length bids) at (sold .0); four = kept .four; long = kept .long; buyers = kept .buyers })
 
 -- ---- ALLOCATE
 
 -- a new price for a pool: only the units allocated in it have another label
-priced-unit : (allocation tearup : List ℕ) (bids : List Bid) (pool price : ℕ) → (k : ℕ) → k < 776 → ((m : ℕ) → m < 32 → k ≡ allocatedAt pool m → ⊥)
-    → unitAt (set allocation pool price) tearup bids k ≡ unitAt allocation tearup bids k
-priced-unit allocation tearup bids pool price =
+priced-unit : (allocation noted buyers : List ℕ) (bids : List Bid) (pool price : ℕ) → (k : ℕ) → k < 780 → ((m : ℕ) → m < 32 → k ≡ allocatedAt pool m → ⊥)
+    → unitAt (set allocation pool price) noted buyers bids k ≡ unitAt allocation noted buyers bids k
+priced-unit allocation noted buyers bids pool price =
     let new = set allocation pool price in
-    by-place (λ k. ((m : ℕ) → m < 32 → k ≡ allocatedAt pool m → ⊥) → unitAt new tearup bids k ≡ unitAt allocation tearup bids k)
-    (λ i l a. unit-open new tearup bids i l ∙ sym (unit-open allocation tearup bids i l))
+    by-place (λ k. ((m : ℕ) → m < 32 → k ≡ allocatedAt pool m → ⊥) → unitAt new noted buyers bids k ≡ unitAt allocation noted buyers bids k)
+    (λ i l a. unit-open new noted buyers bids i l ∙ sym (unit-open allocation noted buyers bids i l))
     (λ p m lp lm a.
-    unit-allocated new tearup bids p m lp lm
+    unit-allocated new noted buyers bids p m lp lm
     ∙ rw (getD-set-other allocation pool p price 0 (λ e. a m lm (ap (λ (x : ℕ). allocatedAt x m) e)))
-    (sym (unit-allocated allocation tearup bids p m lp lm)))
-    (λ b l a. unit-sold new tearup bids b l ∙ sym (unit-sold allocation tearup bids b l))
-    (λ p m lp lm a. unit-moved new tearup bids p m lp lm ∙ sym (unit-moved allocation tearup bids p m lp lm))
-    (λ i l a. unit-torn new tearup bids i l ∙ sym (unit-torn allocation tearup bids i l))
+    (sym (unit-allocated allocation noted buyers bids p m lp lm)))
+    (λ b l a. unit-sold new noted buyers bids b l ∙ sym (unit-sold allocation noted buyers bids b l))
+    (λ p m lp lm a. unit-moved new noted buyers bids p m lp lm ∙ sym (unit-moved allocation noted buyers bids p m lp lm))
+    (λ i l a. unit-torn new noted buyers bids i l ∙ sym (unit-torn allocation noted buyers bids i l))
+    (λ p l a. unit-agreed new noted buyers bids p l ∙ sym (unit-agreed allocation noted buyers bids p l))
 
--- every price at a place is within its limit exactly if those of ALLOCATE, of tears and of the bids are
-pub record Low (allocation tearup : List ℕ) (bids : List Bid) : Type 0 where
+-- every price at a place is within its limit exactly if those of ALLOCATE, those noted and those of the bids are
+pub record Low (allocation noted buyers : List ℕ) (bids : List Bid) : Type 0 where
   pub given : (p : ℕ) → p < 4 → getD allocation p 0 ≤ priceLimit
-  pub torn : (i : ℕ) → i < 260 → getD tearup i 0 ≤ priceLimit
+  pub torn : (i : ℕ) → i < 264 → getD noted i 0 ≤ priceLimit
   pub bid : (b : ℕ) → b < 256 → getD bids b noBid .price ≤ priceLimit
 
-pub low-labels : (allocation tearup : List ℕ) (bids : List Bid) → Low allocation tearup bids → (k : ℕ) → k < 776 → priceOf bids (unitAt allocation tearup bids k .state) ≤ priceLimit
+pub low-labels : (allocation noted buyers : List ℕ) (bids : List Bid) → Low allocation noted buyers bids → (k : ℕ) → k < 780 → priceOf bids (unitAt allocation noted buyers bids k .state) ≤ priceLimit
 unfolding priceOf
-low-labels allocation tearup bids low =
-    by-place (λ k. priceOf bids (unitAt allocation tearup bids k .state) ≤ priceLimit)
-    (λ i l. rw (unit-open allocation tearup bids i l) (omega arith))
-    (λ p m lp lm. rw (unit-allocated allocation tearup bids p m lp lm) (low .given p lp))
-    (λ b l. rw (unit-sold allocation tearup bids b l) (low .bid b l))
-    (λ p m lp lm. rw (unit-moved allocation tearup bids p m lp lm) (omega arith))
-    (λ i l. rw (unit-torn allocation tearup bids i l) (low .torn i l))
+low-labels allocation noted buyers bids low =
+    by-place (λ k. priceOf bids (unitAt allocation noted buyers bids k .state) ≤ priceLimit)
+    (λ i l. rw (unit-open allocation noted buyers bids i l) (omega arith))
+    (λ p m lp lm. rw (unit-allocated allocation noted buyers bids p m lp lm) (low .given p lp))
+    (λ b l. rw (unit-sold allocation noted buyers bids b l) (low .bid b l))
+    (λ p m lp lm. rw (unit-moved allocation noted buyers bids p m lp lm) (omega arith))
+    (λ i l. rw (unit-torn allocation noted buyers bids i l) (low .torn i (omega arith)))
+    (λ p l. rw (unit-agreed allocation noted buyers bids p l) (low .torn (260 + p) (omega arith)))
 
-pub labels-low : (allocation tearup : List ℕ) (bids : List Bid) → ((k : ℕ) → k < 776 → priceOf bids (unitAt allocation tearup bids k .state) ≤ priceLimit) → Low allocation tearup bids
+pub labels-low : (allocation noted buyers : List ℕ) (bids : List Bid) → ((k : ℕ) → k < 780 → priceOf bids (unitAt allocation noted buyers bids k .state) ≤ priceLimit) → Low allocation noted buyers bids
 unfolding priceOf
-labels-low allocation tearup bids low = record {
-  given = λ p l. rw (unit-allocated allocation tearup bids p 0 l (omega arith)) at (low (allocatedAt p 0) (omega arith));
-  torn = λ i l. rw (unit-torn allocation tearup bids i l) at (low (516 + i) (omega arith));
-  bid = λ b l. rw (unit-sold allocation tearup bids b l) at (low (soldAt b) (omega arith));
+labels-low allocation noted buyers bids low = record {
+  given = λ p l. rw (unit-allocated allocation noted buyers bids p 0 l (omega arith)) at (low (allocatedAt p 0) (omega arith));
+  torn = λ i l. ⊎-elim
+      (λ few. rw (unit-torn allocation noted buyers bids i few) at (low (516 + i) (omega arith)))
+      (λ far.
+      let p = i - 260 in
+      let place : 260 + p ≡ i = omega arith in
+      rw (unit-agreed allocation noted buyers bids p (omega arith), place) at (low (agreedAt p) (omega arith)))
+      (lt-or-le i 260);
+  bid = λ b l. rw (unit-sold allocation noted buyers bids b l) at (low (soldAt b) (omega arith));
 }
 
-module _ (allocation tearup : List ℕ) (bids : List Bid) (pool price : ℕ) (lp : pool < 4) (is : getD allocation pool 0 ≡ price) (shares : List ℕ) where
+module _ (allocation noted buyers : List ℕ) (bids : List Bid) (pool price : ℕ) (lp : pool < 4) (is : getD allocation pool 0 ≡ price) (shares : List ℕ) where
   shared-tied : (ms : List ℕ) (counts sums : List ℕ) (roll : List Entry) → Each (λ m. m < 32) ms → sum (map (λ m. getD shares m 0) ms) ≤ getD counts pool 0
-      → Tied counts sums (unitAt allocation tearup bids) bids roll
-      → Tied (sharedCounts pool shares ms counts) (sharedSums pool price shares ms sums) (unitAt allocation tearup bids) bids (giveShares pool price shares ms roll)
+      → Tied counts sums (unitAt allocation noted buyers bids) bids roll
+      → Tied (sharedCounts pool shares ms counts) (sharedSums pool price shares ms sums) (unitAt allocation noted buyers bids) bids (giveShares pool price shares ms roll)
   unfolding sharedCounts sharedSums giveShares sum priceOf
   shared-tied [] counts sums roll small few tied = tied
   shared-tied (m ∷ ms) counts sums roll small few tied =
       let n = getD shares m 0 in
       let to = allocatedAt pool m in
       let l : m < 32 = small .0 in
-      let given = give-tied allocation tearup bids counts sums roll tied pool to n (Allocated m price) lp (omega arith) (omega arith) (omega arith)
-      (unit-allocated allocation tearup bids pool m lp l ∙ rw is) in
+      let given = give-tied allocation noted buyers bids counts sums roll tied pool to n (Allocated m price) lp (omega arith) (omega arith) (omega arith)
+      (unit-allocated allocation noted buyers bids pool m lp l ∙ rw is) in
       shared-tied ms (transferred counts pool to n) (repriced sums pool n zeroPrice price) (giveLowest pool (Allocated m price) n roll) (small .1)
       (omega (arith, passed-from counts pool to n (omega (arith, tied .long)) (λ e. absurd (omega arith)))) given
 
@@ -357,20 +369,21 @@ unfolding allocateUnits
 allocate-kept u bids roll kept set' pool price lp low shares few none-there =
     let t = kept .tied in
     let new = set (u .allocation) pool price in
-    let same : (k : ℕ) → k < 776 → 0 < getD (u .counts) k 0 → unitAt new (u .tearup) bids k ≡ unitOf u bids k =
-    λ k l some. priced-unit (u .allocation) (u .tearup) bids pool price k l (λ m lm e. absurd (omega (arith, none-there m lm, rw e at some))) in
-    let labels = labels-low (u .allocation) (u .tearup) bids (t .low) in
-    let priced = low-labels new (u .tearup) bids (record {
+    let same : (k : ℕ) → k < 780 → 0 < getD (u .counts) k 0 → unitAt new (u .noted) (u .buyers) bids k ≡ unitOf u bids k =
+    λ k l some. priced-unit (u .allocation) (u .noted) (u .buyers) bids pool price k l (λ m lm e. absurd (omega (arith, none-there m lm, rw e at some))) in
+    let labels = labels-low (u .allocation) (u .noted) (u .buyers) bids (t .low) in
+    let priced = low-labels new (u .noted) (u .buyers) bids (record {
       given = λ p l. set-cases (λ (x : ℕ). x ≤ priceLimit) (u .allocation) pool price 0 p (λ e. low) (labels .given p l);
       torn = labels .torn;
       bid = labels .bid;
     }) in
-    let start = relabelled (u .counts) (u .sums) (unitOf u bids) (unitAt new (u .tearup) bids) bids bids roll t same (λ k l some. refl) priced in
+    let start = relabelled (u .counts) (u .sums) (unitOf u bids) (unitAt new (u .noted) (u .buyers) bids) bids bids roll t same (λ k l some. refl) priced in
     rw (lt-ltb pool 4 lp) (record {
-      tied = shared-tied new (u .tearup) bids pool price lp (getD-set-same (u .allocation) pool price 0 (omega (arith, kept .four))) shares (members set') (u .counts) (u .sums) roll
+      tied = shared-tied new (u .noted) (u .buyers) bids pool price lp (getD-set-same (u .allocation) pool price 0 (omega (arith, kept .four))) shares (members set') (u .counts) (u .sums) roll
           (each-more _ _ (λ m o. o .0) (members set') (members-each set')) (omega (arith, open-shown u bids roll kept pool lp)) start;
       four = length-set (u .allocation) pool price ∙ kept .four;
       long = kept .long;
+      buyers = kept .buyers;
     })
 
 -- ---- other bids
@@ -382,9 +395,10 @@ pub bids-kept : (u : Units) (old new : List Bid) (roll : List Entry) → Kept u 
 unfolding priceOf
 bids-kept u old new roll kept low same = record {
   tied = relabelled (u .counts) (u .sums) (unitOf u old) (unitOf u new) old new roll t labels prices
-      (low-labels a r new (record { given = labels-low a r old (t .low) .given; torn = labels-low a r old (t .low) .torn; bid = low }));
+      (low-labels a r y new (record { given = labels-low a r y old (t .low) .given; torn = labels-low a r y old (t .low) .torn; bid = low }));
   four = kept .four;
   long = kept .long;
+  buyers = kept .buyers;
 }
   where
     t : Tied (u .counts) (u .sums) (unitOf u old) old roll
@@ -394,22 +408,27 @@ bids-kept u old new roll kept low same = record {
     a = u .allocation
 
     r : List ℕ
-    r = u .tearup
+    r = u .noted
 
-    labels : (k : ℕ) → k < 776 → 0 < getD (u .counts) k 0 → unitOf u new k ≡ unitOf u old k
+    y : List ℕ
+    y = u .buyers
+
+    labels : (k : ℕ) → k < 780 → 0 < getD (u .counts) k 0 → unitOf u new k ≡ unitOf u old k
     labels =
-        by-place (λ k. 0 < getD (u .counts) k 0 → unitAt a r new k ≡ unitAt a r old k)
-        (λ i l some. unit-open a r new i l ∙ sym (unit-open a r old i l))
-        (λ p m lp lm some. unit-allocated a r new p m lp lm ∙ sym (unit-allocated a r old p m lp lm))
-        (λ b l some. unit-sold a r new b l ∙ rw (same b l some .0) (sym (unit-sold a r old b l)))
-        (λ p m lp lm some. unit-moved a r new p m lp lm ∙ sym (unit-moved a r old p m lp lm))
-        (λ i l some. unit-torn a r new i l ∙ sym (unit-torn a r old i l))
+        by-place (λ k. 0 < getD (u .counts) k 0 → unitAt a r y new k ≡ unitAt a r y old k)
+        (λ i l some. unit-open a r y new i l ∙ sym (unit-open a r y old i l))
+        (λ p m lp lm some. unit-allocated a r y new p m lp lm ∙ sym (unit-allocated a r y old p m lp lm))
+        (λ b l some. unit-sold a r y new b l ∙ rw (same b l some .0) (sym (unit-sold a r y old b l)))
+        (λ p m lp lm some. unit-moved a r y new p m lp lm ∙ sym (unit-moved a r y old p m lp lm))
+        (λ i l some. unit-torn a r y new i l ∙ sym (unit-torn a r y old i l))
+        (λ p l some. unit-agreed a r y new p l ∙ sym (unit-agreed a r y old p l))
 
-    prices : (k : ℕ) → k < 776 → 0 < getD (u .counts) k 0 → priceOf new (unitOf u old k .state) ≡ priceOf old (unitOf u old k .state)
+    prices : (k : ℕ) → k < 780 → 0 < getD (u .counts) k 0 → priceOf new (unitOf u old k .state) ≡ priceOf old (unitOf u old k .state)
     prices =
-        by-place (λ k. 0 < getD (u .counts) k 0 → priceOf new (unitAt a r old k .state) ≡ priceOf old (unitAt a r old k .state))
-        (λ i l some. rw (unit-open a r old i l))
-        (λ p m lp lm some. rw (unit-allocated a r old p m lp lm))
-        (λ b l some. rw (unit-sold a r old b l) (same b l some .1))
-        (λ p m lp lm some. rw (unit-moved a r old p m lp lm))
-        (λ i l some. rw (unit-torn a r old i l))
+        by-place (λ k. 0 < getD (u .counts) k 0 → priceOf new (unitAt a r y old k .state) ≡ priceOf old (unitAt a r y old k .state))
+        (λ i l some. rw (unit-open a r y old i l))
+        (λ p m lp lm some. rw (unit-allocated a r y old p m lp lm))
+        (λ b l some. rw (unit-sold a r y old b l) (same b l some .1))
+        (λ p m lp lm some. rw (unit-moved a r y old p m lp lm))
+        (λ i l some. rw (unit-torn a r y old i l))
+        (λ p l some. rw (unit-agreed a r y old p l))

@@ -20,7 +20,7 @@ use Rattle.units.specs.Places.{soldAt, movedAt, unitAt, Counted}
 use Rattle.units.specs.Steps.{transferred, repriced}
 use Rattle.turns.specs.Keys.{noKey, soldKeys, allocatedKey, soldKey, keyAt, keyPlace, keyPrice}
 use Rattle.units.specs.Groups.{poolAt}
-use Rattle.units.proofs.Places.{unit-open, unit-allocated, unit-sold, unit-moved, unit-torn, by-place}
+use Rattle.units.proofs.Places.{unit-open, unit-allocated, unit-sold, unit-moved, unit-torn, unit-agreed, by-place}
 use Rattle.units.proofs.Weighing.{each-entry, each-unit}
 use Rattle.units.proofs.Over.{Swap, openUnit, over-set}
 use Rattle.units.proofs.Tied.{Tied, transfer-tied}
@@ -132,10 +132,10 @@ module _ (bids : List Bid) (m : ℕ) where
 
 -- ---- the units that may move, and what is lent of the bids
 
-module _ (allocation tearup prices pools : List ℕ) (bids : List Bid) (many : length bids ≤ 256) (priced : (b : ℕ) → b < length bids → getD prices b 0 ≡ getD bids b noBid .price)
+module _ (allocation noted buyers prices pools : List ℕ) (bids : List Bid) (many : length bids ≤ 256) (priced : (b : ℕ) → b < length bids → getD prices b 0 ≡ getD bids b noBid .price)
     (pooled : (b : ℕ) → b < length bids → getD pools b 0 ≡ getD bids b noBid .pool) (below : (b : ℕ) → b < length bids → getD bids b noBid .pool < 4) where
   abbrev unit : ℕ → Entry
-  unit = unitAt allocation tearup bids
+  unit = unitAt allocation noted buyers bids
 
   abbrev key : ℕ → ℕ
   key j = keyAt allocation prices j
@@ -157,7 +157,7 @@ module _ (allocation tearup prices pools : List ℕ) (bids : List Bid) (many : l
   labels counts known =
       by-held (λ j. 0 < getD counts (4 + j) 0 → Labels j)
       (λ pool m lp lm live.
-      let is = unit-allocated allocation tearup bids pool m lp lm in
+      let is = unit-allocated allocation noted buyers bids pool m lp lm in
       let k = key-allocated allocation prices pool m lp lm in
       let p = pool-allocated pools pool m lp lm in
       record {
@@ -170,7 +170,7 @@ module _ (allocation tearup prices pools : List ℕ) (bids : List Bid) (many : l
       (λ b l live.
       let at : 4 + (128 + b) ≡ soldAt b = omega arith in
       let here = known b l (rw at at live) in
-      let is = unit-sold allocation tearup bids b l in
+      let is = unit-sold allocation noted buyers bids b l in
       let k = key-sold allocation prices b l in
       let p : poolAt pools (128 + b) ≡ getD bids b noBid .pool = pool-sold pools b l ∙ rw (pooled b here) (omega (arith, below b here)) in
       record {
@@ -192,26 +192,28 @@ module _ (allocation tearup prices pools : List ℕ) (bids : List Bid) (many : l
     bounded v top low =
         each-entry counts unit roll counted (λ e. leb v (unitKey bids e))
         (by-place (λ k. 0 < getD counts k 0 → leb v (unitKey bids (unit k)) ≡ true)
-        (λ p l live. rw (unit-open allocation tearup bids p l) (le-leb v noKey top))
+        (λ p l live. rw (unit-open allocation noted buyers bids p l) (le-leb v noKey top))
         (λ p m lp lm live. rw (labels counts known (4 * m + p) (omega arith) live .key-is) (le-leb v _ (low (4 * m + p) (omega arith) live)))
         (λ b l live.
         let at : 4 + (128 + b) ≡ soldAt b = omega arith in
         let k : unitKey bids (unit (soldAt b)) ≡ key (128 + b) = rw at at (labels counts known (128 + b) (omega arith) (rw at live) .key-is) in
         rw k (le-leb v _ (low (128 + b) (omega arith) (rw at live))))
-        (λ p m lp lm live. rw (unit-moved allocation tearup bids p m lp lm) (le-leb v noKey top))
-        (λ i l live. rw (unit-torn allocation tearup bids i l) (le-leb v noKey top)))
+        (λ p m lp lm live. rw (unit-moved allocation noted buyers bids p m lp lm) (le-leb v noKey top))
+        (λ i l live. rw (unit-torn allocation noted buyers bids i l) (le-leb v noKey top))
+        (λ p l live. rw (unit-agreed allocation noted buyers bids p l) (le-leb v noKey top)))
 
-    fit-here : (k : ℕ) → k < 776 → fits bids (unit k) ≡ true
+    fit-here : (k : ℕ) → k < 780 → fits bids (unit k) ≡ true
     unfolding fits
     fit-here =
         by-place (λ k. fits bids (unit k) ≡ true)
-        (λ p l. rw (unit-open allocation tearup bids p l))
-        (λ p m lp lm. rw (unit-allocated allocation tearup bids p m lp lm) (and-both (ltb m 32) (ltb p 4) (lt-ltb m 32 lm) (lt-ltb p 4 lp)))
+        (λ p l. rw (unit-open allocation noted buyers bids p l))
+        (λ p m lp lm. rw (unit-allocated allocation noted buyers bids p m lp lm) (and-both (ltb m 32) (ltb p 4) (lt-ltb m 32 lm) (lt-ltb p 4 lp)))
         (λ b l.
         let p = getD bids b noBid .pool in
-        rw (unit-sold allocation tearup bids b l) (and-both (ltb b 256) (eqb p p) (lt-ltb b 256 l) (eq-eqb p p refl)))
-        (λ p m lp lm. rw (unit-moved allocation tearup bids p m lp lm))
-        (λ i l. rw (unit-torn allocation tearup bids i l))
+        rw (unit-sold allocation noted buyers bids b l) (and-both (ltb b 256) (eqb p p) (lt-ltb b 256 l) (eq-eqb p p refl)))
+        (λ p m lp lm. rw (unit-moved allocation noted buyers bids p m lp lm))
+        (λ i l. rw (unit-torn allocation noted buyers bids i l))
+        (λ p l. rw (unit-agreed allocation noted buyers bids p l))
 
     all-fit : Each (λ e. fits bids e ≡ true) roll
     all-fit = each-entry counts unit roll counted (fits bids) (λ k l live. fit-here k l)
@@ -277,7 +279,7 @@ module _ (allocation tearup prices pools : List ℕ) (bids : List Bid) (many : l
     Passes n t owed = (next : List Entry) × (moveUnits (n + t) bids m owed roll ≡ moveUnits t bids m (owed - n * saving) next) × Swap roll next n (unit (4 + j)) (unit to)
 
     to-is : unit to ≡ record { pool = poolAt pools j; state = Moved m }
-    to-is = unit-moved allocation tearup bids (poolAt pools j) m (here .pool-few) small
+    to-is = unit-moved allocation noted buyers bids (poolAt pools j) m (here .pool-few) small
 
     -- what n units that have passed leave
     passes-tied : (n : ℕ) → n ≤ getD counts (4 + j) 0 → (next : List Entry) → Swap roll next n (unit (4 + j)) (unit to) → Tied (after n) (sumsAfter n) unit bids next

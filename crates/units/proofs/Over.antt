@@ -10,7 +10,7 @@ use borrow.Author.Tests.{eqb-true}
 use Rattle.lists.specs.Lists.{sum, oneIf, count, changeFirst}
 use Rattle.lists.proofs.Sums.{sum-append}
 use Rattle.lists.proofs.Each.{map-append}
-use Rattle.machine.specs.Roll.{UnitState, Open, Sold, Allocated, Moved, Torn, Entry, withState, isOpen, openIn, kind, openUnits, putUp, giveLowest, tornIf}
+use Rattle.machine.specs.Roll.{UnitState, Open, Sold, Allocated, Moved, Torn, Agreed, Entry, withState, isOpen, openIn, kind, openUnits, putUp, giveLowest, changedIf}
 use Rattle.units.specs.Places.{over}
 
 -- n entries that were e are e' in the new roll
@@ -45,9 +45,9 @@ over-set f [] i e d l = absurd (omega arith)
 over-set f (x ∷ xs) zero e d l = omega arith
 over-set f (x ∷ xs) (suc i) e d l = omega (arith, over-set f xs i e d (omega arith))
 
--- every entry torn up that passes a test
-pub over-torn : (p : Entry → Bool) (price : ℕ) (f : Entry → ℕ) (roll : List Entry) → over (map (tornIf p price) roll) f ≡ over roll (λ e. f (tornIf p price e))
-over-torn p price f roll = ap sum (map-map f (tornIf p price) roll)
+-- every entry changed that passes a test
+pub over-changed : (p : Entry → Bool) (s : UnitState) (f : Entry → ℕ) (roll : List Entry) → over (map (changedIf p s) roll) f ≡ over roll (λ e. f (changedIf p s e))
+over-changed p s f roll = ap sum (map-map f (changedIf p s) roll)
 
 -- an open entry of a pool
 open-is : (pool : ℕ) (e : Entry) → openIn pool e ≡ true → e ≡ openUnit pool
@@ -60,6 +60,7 @@ open-is pool e h = go (e .pool) (e .state) h
     go p (Allocated m price) h = absurd (false≢true h)
     go p (Moved m) h = absurd (false≢true h)
     go p (Torn price) h = absurd (false≢true h)
+    go p (Agreed m price) h = absurd (false≢true h)
 
 -- the lowest open entries of a pool
 pub give-swaps : (pool : ℕ) (s : UnitState) (n : ℕ) (roll : List Entry) → n ≤ openUnits roll pool

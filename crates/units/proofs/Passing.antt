@@ -44,7 +44,7 @@ smaller-left : (h q owed s : ℕ) → owed ≤ q * s → 0 < owed - min h q * s 
 smaller-left h q owed s enough more =
     ⊎-elim (λ l. omega arith) (λ l. let e : min h q ≡ q = omega arith in absurd (omega (arith, rw e at more))) (lt-or-le h q)
 
-module _ (allocation tearup prices pools : List ℕ) (bids : List Bid) (many : length bids ≤ 256) (priced : (b : ℕ) → b < length bids → getD prices b 0 ≡ getD bids b noBid .price)
+module _ (allocation noted buyers prices pools : List ℕ) (bids : List Bid) (many : length bids ≤ 256) (priced : (b : ℕ) → b < length bids → getD prices b 0 ≡ getD bids b noBid .price)
     (pooled : (b : ℕ) → b < length bids → getD pools b 0 ≡ getD bids b noBid .pool) (below : (b : ℕ) → b < length bids → getD bids b noBid .pool < 4) (m : ℕ) (small : m < 32) where
   abbrev key : ℕ → ℕ
   key j = keyAt allocation prices j
@@ -56,8 +56,8 @@ module _ (allocation tearup prices pools : List ℕ) (bids : List Bid) (many : l
     pub has : (j : ℕ) → j < 384 → getD keys j 0 < noKey → 0 < getD counts (4 + j) 0
 
   pub record Sound (keys counts sums : List ℕ) (roll : List Entry) (g t : ℕ) : Type 0 where
-    pub tied : Tied counts sums (unitAt allocation tearup bids) bids roll
-    pub known : Known allocation tearup prices pools bids many priced pooled below counts
+    pub tied : Tied counts sums (unitAt allocation noted buyers bids) bids roll
+    pub known : Known allocation noted buyers prices pools bids many priced pooled below counts
     pub shows : Shows keys counts
     pub few : turns keys ≤ g
     pub fuel : held counts ≤ t
@@ -66,14 +66,14 @@ module _ (allocation tearup prices pools : List ℕ) (bids : List Bid) (many : l
   abbrev Leads : ℕ → ℕ → ℕ → List ℕ → List ℕ → List ℕ → List Entry → Type 0
   Leads g t owed keys counts sums roll =
       let r = passGroups pools m g owed keys counts sums in
-      Tied (r .counts) (r .sums) (unitAt allocation tearup bids) bids (moveUnits t bids m owed roll)
+      Tied (r .counts) (r .sums) (unitAt allocation noted buyers bids) bids (moveUnits t bids m owed roll)
 
   module _ (keys counts sums : List ℕ) (roll : List Entry) (g t : ℕ) (sound : Sound keys counts sums roll g t) where
     -- no place may move
     stays : (owed : ℕ) → ((j : ℕ) → j < 384 → noKey ≤ getD keys j 0) → moveUnits t bids m owed roll ≡ roll
     stays owed high =
         move-none bids m t owed roll
-        (next-none allocation tearup prices pools bids many priced pooled below counts roll (sound .tied .counted) (sound .known)
+        (next-none allocation noted buyers prices pools bids many priced pooled below counts roll (sound .tied .counted) (sound .known)
         (λ j l has. omega (arith, high j l, sound .shows .live j l has)))
 
     leads-stop : (owed : ℕ) → (eqb owed 0 || leb noKey (leastKey keys)) ≡ true → Leads g t owed keys counts sums roll
@@ -125,14 +125,14 @@ module _ (allocation tearup prices pools : List ℕ) (bids : List Bid) (many : l
       live : 0 < h
       live = sound .shows .has j lj (omega (arith, at-least .1))
 
-      is-least : LeastOf allocation tearup prices pools bids many priced pooled below counts j
+      is-least : LeastOf allocation noted buyers prices pools bids many priced pooled below counts j
       is-least = (
         omega (arith, at-least .2),
         λ i li has. omega (arith, at-least .2, least-is keys i (omega (arith, sound .shows .long)), sound .shows .live i li has),
       )
 
-      its : Labels allocation tearup prices pools bids many priced pooled below j
-      its = labels allocation tearup prices pools bids many priced pooled below counts (sound .known) j lj live
+      its : Labels allocation noted buyers prices pools bids many priced pooled below j
+      its = labels allocation noted buyers prices pools bids many priced pooled below counts (sound .known) j lj live
 
       saves : 0 < s
       saves = let k = at-least .2 in omega (arith, rw k at (its .negative-is (omega arith)))
@@ -143,12 +143,12 @@ module _ (allocation tearup prices pools : List ℕ) (bids : List Bid) (many : l
       fuel-few : n ≤ t
       fuel-few = omega (arith, n-few, sumTo-term 384 (λ i. getD counts (4 + i) 0) j lj, sound .fuel)
 
-      passed : (next : List Entry) × (moveUnits (n + (t - n)) bids m owed roll ≡ moveUnits (t - n) bids m (owed - n * s) next) × Tied counts' sums' (unitAt allocation tearup bids) bids next
+      passed : (next : List Entry) × (moveUnits (n + (t - n)) bids m owed roll ≡ moveUnits (t - n) bids m (owed - n * s) next) × Tied counts' sums' (unitAt allocation noted buyers bids) bids next
       passed =
           let k = at-least .2 in
-          let p = pass allocation tearup prices pools bids many priced pooled below m small counts sums roll (sound .tied) (sound .known) j lj is-least live n (t - n) owed n-few
+          let p = pass allocation noted buyers prices pools bids many priced pooled below m small counts sums roll (sound .tied) (sound .known) j lj is-least live n (t - n) owed n-few
           (rw k (need-most owed s saves owes n (omega arith))) in
-          let tied = moved-tied allocation tearup prices pools bids many priced pooled below m small counts sums roll (sound .tied) (sound .known) j lj is-least live n (t - n) owed n-few p in
+          let tied = moved-tied allocation noted buyers prices pools bids many priced pooled below m small counts sums roll (sound .tied) (sound .known) j lj is-least live n (t - n) owed n-few p in
           (p .0, rw k at (p .1), rw k at tied)
 
       -- all of the place has moved, if more is owed
@@ -195,7 +195,7 @@ module _ (allocation tearup prices pools : List ℕ) (bids : List Bid) (many : l
               rw (others i li a) (sound .shows .has i li (rw (getD-set-other keys j i noKey 0 a) at below')));
         }
 
-        sound' : (g' : ℕ) → turns keys ≤ suc g' → (next : List Entry) → Tied counts' sums' (unitAt allocation tearup bids) bids next → Sound keys' counts' sums' next g' (t - n)
+        sound' : (g' : ℕ) → turns keys ≤ suc g' → (next : List Entry) → Tied counts' sums' (unitAt allocation noted buyers bids) bids next → Sound keys' counts' sums' next g' (t - n)
         sound' g' few next tied = record {
           tied = tied;
           known = λ b lb has. sound .known b lb (omega (arith, passed-less counts (4 + j) (movedAt (poolAt pools j) m) n (soldAt b) (far (soldAt b) (omega arith))));
@@ -259,7 +259,7 @@ held-most counts =
     let part : ℕ → ℕ = λ k. getD counts k 0 * 1 in
     omega (
       arith,
-      sum-split 388 388 part,
+      sum-split 388 392 part,
       sum-split 4 384 part,
       sumTo-ext 384 (λ i. getD counts (4 + i) 0 * 1) (λ i. getD counts (4 + i) 0) (λ i l. mul-one (getD counts (4 + i) 0)),
     )
@@ -273,7 +273,7 @@ move-kept u bids roll kept many prices pools priced pooled below known m owed sm
     let keys = liveKeys (u .allocation) prices (u .counts) in
     let at = live-at (u .allocation) prices (u .counts) in
     record {
-      tied = leads (u .allocation) (u .tearup) prices pools bids many priced pooled below m small 384 (length roll) owed keys (u .counts) (u .sums) roll
+      tied = leads (u .allocation) (u .noted) (u .buyers) prices pools bids many priced pooled below m small 384 (length roll) owed keys (u .counts) (u .sums) roll
           (record {
             tied = kept .tied;
             known = known;
@@ -290,4 +290,5 @@ move-kept u bids roll kept many prices pools priced pooled below known m owed sm
           });
       four = kept .four;
       long = kept .long;
+      buyers = kept .buyers;
     }

@@ -12,7 +12,7 @@ use Rattle.lists.specs.Lists.{count, tab}
 use Rattle.lists.proofs.Bools.{lt-or-le}
 use Rattle.lists.proofs.Counts.{count-none}
 use Rattle.lists.proofs.Each.{each-more}
-use Rattle.machine.specs.Roll.{UnitState, Open, Sold, Allocated, Moved, Torn, Entry, Bid, noBid, priceOf, heldBy, passedTo}
+use Rattle.machine.specs.Roll.{UnitState, Open, Sold, Allocated, Moved, Torn, Agreed, Entry, Bid, noBid, priceOf, heldBy, passedTo}
 use Rattle.machine.specs.State.{Case}
 use Rattle.machine.specs.Run.{fiveCounts, holding}
 use Rattle.machine.proofs.Invariant.{EntryOk, CaseOk}
@@ -39,6 +39,7 @@ module _ (c : Case) (ok : CaseOk c) (bits : c .head .set < 2 ^ 32) (u : Units) (
   holder-below pool (Allocated a price) o m far = let no = ne-eqb a m (λ e. absurd (omega (arith, in-set-below c ok bits a (o .0)))) in (no, no)
   holder-below pool (Moved a) o m far = let no = ne-eqb a m (λ e. absurd (omega (arith, in-set-below c ok bits a o))) in (no, no)
   holder-below pool (Torn price) o m far = (refl, refl)
+  holder-below pool (Agreed a price) o m far = (ne-eqb a m (λ e. absurd (omega (arith, in-set-below c ok bits a (o .0)))), refl)
 
   pub passed-read : (m : ℕ) → passedOf u m ≡ count (λ e. passedTo m (e .state)) (c .roll)
   unfolding passedOf

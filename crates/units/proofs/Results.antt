@@ -1,6 +1,6 @@
 -- What the functions give, from what the functions that they call give. Assumes nothing.
 use mathlib.Core.Path.{_≡_, ap}
-use mathlib.Core.Bool.{cond, and-false}
+use mathlib.Core.Bool.{Bool, cond, _&&_, and-false}
 use mathlib.Core.List.{List}
 use Prim.Native.Nat.{ℕ, _+_, _*_, _%_, _-_, _^_, _≤_, _<_, min}
 use native.Mathlib.Nat.{mul-le-mul}
@@ -11,34 +11,42 @@ use borrow.Author.Tests.{lt-ltb, le-ltb, eq-eqb, ne-eqb}
 use Rattle.lists.specs.Lists.{sumTo}
 use Rattle.lists.specs.Adding.{most16, most32, addAt}
 use Rattle.auction.specs.Price.{zeroPrice}
-use Rattle.units.specs.Steps.{transferred, repriced, withCounts, putUpUnits, tornUp, tearUnits}
-use Rattle.units.specs.Shown.{column, kindOf, countOf, soldFor, holdingOf, passedOf}
+use Rattle.units.specs.Steps.{transferred, repriced, withCounts, putUpUnits, notedAt, tearUnits, withBuyer, saleUnits}
+use Rattle.units.specs.Shown.{column, soldIn, kindOf, countOf, soldFor, holdingOf, passedOf}
 use Rattle.units.specs.declared.Units.{Units}
 
--- ---- units torn up
+-- ---- units counted elsewhere at a price that is noted
 
 module _ (u : Units) (k to old price : ℕ) (counts sums : List ℕ) (n : ℕ) (is : n ≡ getD (u .counts) k 0)
     (passed : counts ≡ transferred (u .counts) k to n) (priced : sums ≡ repriced (u .sums) (k % 4) n old price) where
-  pub torn-none : n ≡ 0 → withCounts u counts sums ≡ tornUp u k to old price
-  unfolding tornUp
+  pub torn-none : n ≡ 0 → withCounts u counts sums ≡ notedAt u k to old price
+  unfolding notedAt
   torn-none e = rw (passed, priced, ← is, eq-eqb n 0 e)
 
-  pub torn-some : (n ≡ 0 → ⊥) → record { counts = counts; sums = sums; allocation = u .allocation; tearup = set (u .tearup) (to - 516) price } ≡ tornUp u k to old price
-  unfolding tornUp
+  pub torn-some : (n ≡ 0 → ⊥) → record { counts = counts; sums = sums; allocation = u .allocation; noted = set (u .noted) (to - 516) price; buyers = u .buyers } ≡ notedAt u k to old price
+  unfolding notedAt
   torn-some e = rw (passed, priced, ← is, ne-eqb n 0 e)
 
 -- MISS in one pool: the units of one place, then those of the other
-pub torn-twice : (u v r : Units) (j k to to' old old' price price' : ℕ) → old ≡ old' → v ≡ tornUp u j to old price → r ≡ tornUp v k to' price' price
-    → r ≡ tornUp (tornUp u j to old' price) k to' price' price
+pub torn-twice : (u v r : Units) (j k to to' old old' price price' : ℕ) → old ≡ old' → v ≡ notedAt u j to old price → r ≡ notedAt v k to' price' price
+    → r ≡ notedAt (notedAt u j to old' price) k to' price' price
 torn-twice u v r j k to to' old old' price price' e p q = rw (← e, ← p) q
 
 pub tear-past : (u : Units) (pool price : ℕ) → 4 ≤ pool → u ≡ tearUnits u pool price
 unfolding tearUnits
 tear-past u pool price h = rw (le-ltb pool 4 h)
 
-pub tear-there : (u r : Units) (pool at price : ℕ) → pool < 4 → at ≡ pool → r ≡ tornUp u at (516 + at) zeroPrice price → r ≡ tearUnits u pool price
+pub tear-there : (u r : Units) (pool at price : ℕ) → pool < 4 → at ≡ pool → r ≡ notedAt u at (516 + at) zeroPrice price → r ≡ tearUnits u pool price
 unfolding tearUnits
 tear-there u r pool at price h e p = rw (lt-ltb pool 4 h, ← e) p
+
+pub sale-past : (u : Units) (pool m price : ℕ) → 4 ≤ pool → u ≡ saleUnits u pool m price
+unfolding saleUnits
+sale-past u pool m price h = rw (le-ltb pool 4 h)
+
+pub sale-there : (u r : Units) (pool at m price : ℕ) → pool < 4 → at ≡ pool → r ≡ notedAt (withBuyer u at m) at (776 + at) zeroPrice price → r ≡ saleUnits u pool m price
+unfolding saleUnits
+sale-there u r pool at m price h e p = rw (lt-ltb pool 4 h, ← e) p
 
 -- ---- units put up
 
@@ -60,6 +68,11 @@ count-past u pools pool kind h = rw (le-ltb pool 4 h)
 pub count-there : (u : Units) (pools : List ℕ) (pool kind k r : ℕ) → pool < 4 → kind ≡ k → r ≡ kindOf u pools pool k → r ≡ countOf u pools pool kind
 unfolding countOf
 count-there u pools pool kind k r h e p = rw (lt-ltb pool 4 h, e) p
+
+-- the units sold to bids, and those sold by agreement
+pub sold-there : (u : Units) (pools : List ℕ) (pool kind at a b : ℕ) → pool < 4 → kind ≡ 1 → at ≡ pool → a ≡ soldIn (u .counts) pools pool → b ≡ getD (u .counts) (776 + at) 0
+    → a + b ≡ countOf u pools pool kind
+sold-there u pools pool kind at a b h e p ea eb = count-there u pools pool kind 1 (a + b) h e (rw (ea, eb, p))
 
 -- what is added up stands where the pool does
 pub column-from : (counts : List ℕ) (first at pool n r : ℕ) → at ≡ pool → r ≡ column counts (first + at) n → r ≡ column counts (first + pool) n
@@ -96,13 +109,14 @@ pub holding-none : (u : Units) (members pools prices : List ℕ) (m pool price :
 unfolding holdingOf
 holding-none u members pools prices m pool price h = rw (le-ltb m 32 h, and-false (ltb pool 4))
 
-module _ (u : Units) (members pools prices : List ℕ) (m pool price n at sold a wa b wb : ℕ) (hp : pool < 4) (hm : m < 32) (ep : at ≡ pool) (em : n ≡ m)
+module _ (u : Units) (members pools prices : List ℕ) (m pool price n at sold a wa b wb d wd : ℕ) (here : Bool) (hp : pool < 4) (hm : m < 32) (ep : at ≡ pool) (em : n ≡ m)
     (es : sold ≡ soldFor (u .counts) members pools prices m pool price)
     (ewa : wa ≡ getD (u .counts) (4 + (4 * n + at)) 0) (ea : a ≡ cond (eqb (getD (u .allocation) at 0) price) wa 0)
-    (ewb : wb ≡ getD (u .counts) (388 + (4 * n + at)) 0) (eb : b ≡ cond (eqb price zeroPrice) wb 0) where
-  pub holding-there : sold + a + b ≡ holdingOf u members pools prices m pool price
+    (ewb : wb ≡ getD (u .counts) (388 + (4 * n + at)) 0) (eb : b ≡ cond (eqb price zeroPrice) wb 0)
+    (eh : here ≡ (eqb (getD (u .buyers) at 0) m && eqb (getD (u .noted) (260 + at) 0) price)) (ewd : wd ≡ getD (u .counts) (776 + at) 0) (ed : d ≡ cond here wd 0) where
+  pub holding-there : sold + a + b + d ≡ holdingOf u members pools prices m pool price
   unfolding holdingOf
-  holding-there = rw (lt-ltb pool 4 hp, lt-ltb m 32 hm, es, ea, ewa, eb, ewb, ep, em)
+  holding-there = rw (lt-ltb pool 4 hp, lt-ltb m 32 hm, es, ea, ewa, eb, ewb, ed, ewd, eh, ep, em)
 
 -- ---- sums of prices
 

@@ -19,35 +19,35 @@ use Rattle.lists.specs.Tests.{Passed}
 use Rattle.sets.specs.Set.{members}
 use Rattle.sets.proofs.Members.{members-each}
 use Rattle.auction.specs.Price.{zeroPrice, priceLimit}
-use Rattle.machine.specs.Wire.{Head, Call, POOL, MEMBER, ROUND, BID, CLOSE, ALLOCATE, TEAR, CALL, PAY, MOVE, MISS, FINISH}
+use Rattle.machine.specs.Wire.{Head, Call, POOL, MEMBER, ROUND, BID, CLOSE, ALLOCATE, TEAR, CALL, PAY, MOVE, MISS, FINISH, SALE}
 use Rattle.machine.specs.Roll.{Bid, noBid, withWon, openUnits}
 use Rattle.machine.specs.State.{Case, newCase, letter, letterOf, roundOf}
 use Rattle.machine.specs.Requirement.{owes}
 use Rattle.machine.specs.Calls.{accepted, inAuction, wonGiven, wonIn, bidsAfter, allocation, newBid}
-use Rattle.machine.specs.Calls.{afterPool, afterMember, afterRound, afterBid, afterClose, afterAllocate, afterTear, afterCall, afterPay, afterMove, afterMiss}
-use Rattle.machine.specs.Refusals.{tests, notInCase, notInSet}
+use Rattle.machine.specs.Calls.{afterPool, afterMember, afterRound, afterBid, afterClose, afterAllocate, afterTear, afterCall, afterPay, afterMove, afterMiss, sold, afterSale}
+use Rattle.machine.specs.Refusals.{tests, notInCase, notInSet, noneOpen}
 use Rattle.machine.proofs.Invariant.{BidOk, CaseOk}
 use Rattle.machine.proofs.RollChanges.{soldIs, soldTo}
 use Rattle.machine.proofs.Giving.{wonWhere}
 use Rattle.machine.proofs.Closing.{given-same}
-use Rattle.machine.proofs.CallsKept.{pool-ok, bid-ok, close-gives, close-ok}
+use Rattle.machine.proofs.CallsKept.{pool-ok, bid-ok, close-gives, close-ok, round-complete}
 use Rattle.machine.proofs.Shares.{allocation-sum}
 use Rattle.machine.proofs.Bounds as B
 use Rattle.machine.proofs.Stages.{letter-is, letter-AC}
 use Rattle.machine.proofs.Later.{Settled, settled-refuses, allocate-settles}
 use Rattle.units.specs.declared.Units.{Units}
-use Rattle.units.specs.Places.{allocatedAt, soldAt, movedAt, tornAt, missedAt, missedMovedAt, unitAt}
-use Rattle.units.specs.Steps.{zeroSum, noUnits, putUpUnits, sellUnits, allocateUnits, tearUnits, missedTo, missUnits}
+use Rattle.units.specs.Places.{allocatedAt, soldAt, movedAt, tornAt, missedAt, missedMovedAt, agreedAt, unitAt}
+use Rattle.units.specs.Steps.{zeroSum, noUnits, putUpUnits, sellUnits, allocateUnits, tearUnits, missedTo, missUnits, withBuyer, saleUnits}
 use Rattle.turns.specs.Keys.{liveKeys}
 use Rattle.units.specs.Groups.{moveUnits}
-use Rattle.units.proofs.Places.{unit-open, unit-allocated, unit-sold, unit-moved, unit-torn, by-place}
+use Rattle.units.proofs.Places.{unit-open, unit-allocated, unit-sold, unit-moved, unit-torn, unit-agreed, by-place}
 use Rattle.units.proofs.Weighing.{weigh-none}
 use Rattle.units.proofs.Over.{count-over}
 use Rattle.units.proofs.Tied.{inPool}
 use Rattle.units.proofs.Kept.{Kept, Lent, low-labels, count-at, open-shown, put-kept, sell-kept, allocate-kept, bids-kept}
-use Rattle.units.proofs.Tears.{Free, tear-kept, miss-kept, torn-from, torn-less}
+use Rattle.units.proofs.Tears.{Free, tear-kept, miss-kept, sale-kept, torn-from, torn-less}
 use Rattle.units.proofs.Passing.{move-kept, over-length}
-use Rattle.units.proofs.History.{Begun, HadMove, History, call-goes, moved-refuses, move-marks, Grown, history-next, none-grown}
+use Rattle.units.proofs.History.{Begun, HadMove, History, call-goes, still-shut, moved-refuses, move-marks, Grown, history-next, none-grown}
 use Rattle.units.proofs.Growth.{sold-less, shared-less, moved-less, missed-less, Cleared, cleared}
 
 -- the units are those of the case's roll
@@ -100,9 +100,17 @@ tear-less : (u : Units) (pool price : ℕ) → pool < 4 → (k : ℕ) → (k ≡
 unfolding tearUnits
 tear-less u pool price l k other = rw (lt-ltb pool 4 l) (torn-less u pool (tornAt pool) zeroPrice price k other)
 
-tear-all : (u : Units) (pool price : ℕ) → pool < 4 → length (u .counts) ≡ 776 → getD (tearUnits u pool price .counts) pool 0 ≡ 0
+tear-all : (u : Units) (pool price : ℕ) → pool < 4 → length (u .counts) ≡ 780 → getD (tearUnits u pool price .counts) pool 0 ≡ 0
 unfolding tearUnits
 tear-all u pool price l long = rw (lt-ltb pool 4 l) (torn-from u pool (tornAt pool) zeroPrice price (omega arith) (λ e. absurd (omega arith)))
+
+sale-less : (u : Units) (pool m price : ℕ) → pool < 4 → (k : ℕ) → (k ≡ agreedAt pool → ⊥) → getD (saleUnits u pool m price .counts) k 0 ≤ getD (u .counts) k 0
+unfolding saleUnits
+sale-less u pool m price l k other = rw (lt-ltb pool 4 l) (torn-less (withBuyer u pool m) pool (agreedAt pool) zeroPrice price k other)
+
+sale-all : (u : Units) (pool m price : ℕ) → pool < 4 → length (u .counts) ≡ 780 → getD (saleUnits u pool m price .counts) pool 0 ≡ 0
+unfolding saleUnits
+sale-all u pool m price l long = rw (lt-ltb pool 4 l) (torn-from (withBuyer u pool m) pool (agreedAt pool) zeroPrice price (omega arith) (λ e. absurd (omega arith)))
 
 move-less : (u : Units) (prices pools : List ℕ) (m owed k : ℕ) → ((p : ℕ) → p < 4 → k ≡ movedAt p m → ⊥) → getD (moveUnits u prices pools m owed .counts) k 0 ≤ getD (u .counts) k 0
 unfolding moveUnits
@@ -122,15 +130,17 @@ module _ (c : Case) (ok : CaseOk c) where
   unfolding soldIs
   sold-counted u kept b l =
       let a = u .allocation in
-      let r = u .tearup in
-      count-at (u .counts) (unitAt a r (c .bids)) (c .roll) (kept .tied .counted) (soldTo b) (soldAt b) (omega arith)
-      (by-place (λ k. (k ≡ soldAt b → ⊥) → soldTo b (unitAt a r (c .bids) k) ≡ false)
-      (λ i li no. rw (unit-open a r (c .bids) i li))
-      (λ p m lp lm no. rw (unit-allocated a r (c .bids) p m lp lm))
-      (λ i li no. rw (unit-sold a r (c .bids) i li) (ne-eqb i b (λ e. no (ap soldAt e))))
-      (λ p m lp lm no. rw (unit-moved a r (c .bids) p m lp lm))
-      (λ i li no. rw (unit-torn a r (c .bids) i li)))
-      (rw (unit-sold a r (c .bids) b l) (eq-eqb b b refl))
+      let r = u .noted in
+      let y = u .buyers in
+      count-at (u .counts) (unitAt a r y (c .bids)) (c .roll) (kept .tied .counted) (soldTo b) (soldAt b) (omega arith)
+      (by-place (λ k. (k ≡ soldAt b → ⊥) → soldTo b (unitAt a r y (c .bids) k) ≡ false)
+      (λ i li no. rw (unit-open a r y (c .bids) i li))
+      (λ p m lp lm no. rw (unit-allocated a r y (c .bids) p m lp lm))
+      (λ i li no. rw (unit-sold a r y (c .bids) i li) (ne-eqb i b (λ e. no (ap soldAt e))))
+      (λ p m lp lm no. rw (unit-moved a r y (c .bids) p m lp lm))
+      (λ i li no. rw (unit-torn a r y (c .bids) i li))
+      (λ p lp no. rw (unit-agreed a r y (c .bids) p lp)))
+      (rw (unit-sold a r y (c .bids) b l) (eq-eqb b b refl))
 
   -- a bid that has units is one of the bids
   pub sold-known : (u : Units) → Kept u (c .bids) (c .roll) → (b : ℕ) → b < 256 → 0 < getD (u .counts) (soldAt b) 0 → b < length (c .bids)
@@ -145,7 +155,7 @@ module _ (c : Case) (ok : CaseOk c) where
       → Grown c (accepted c call) (u .counts) (v .counts) → Right (accepted c call) v
   after-call call t u v right kept grown = record {
     kept = kept;
-    history = history-next c (accepted c call) (u .counts) (v .counts) (right .history) (λ begun. call-goes c ok begun call t) grown;
+    history = history-next c (accepted c call) (u .counts) (v .counts) (right .history) (λ begun. call-goes c ok begun call t) (still-shut c call t) grown;
   }
 
   same-units : (call : Call) → Passed (tests (some c) c call) → (u : Units) → Right c u → Kept u (accepted c call .bids) (accepted c call .roll) → Right (accepted c call) u
@@ -254,6 +264,7 @@ module _ (c : Case) (ok : CaseOk c) where
         missed = λ p m lp lm. inl (less (missedAt p m) (λ x lx is. absurd (omega arith)));
         moved = λ p m lp lm. inl (less (movedAt p m) (λ x lx is. absurd (omega arith)));
         cleared = λ p m lp lm. inl (less (missedMovedAt p m) (λ x lx is. absurd (omega arith)));
+        agreed = λ p lp. inl (less (agreedAt p) (λ x lx is. absurd (omega arith)));
       })
 
   pub tear-right : (pool price : ℕ) → Passed (tests (some c) c (TEAR pool price)) → (u : Units) → Right c u → Right (accepted c (TEAR pool price)) (tearUnits u pool price)
@@ -278,6 +289,35 @@ module _ (c : Case) (ok : CaseOk c) where
         missed = λ p m lp lm. inl (less (missedAt p m) (λ is. absurd (omega arith)));
         moved = λ p m lp lm. inl (less (movedAt p m) (λ is. absurd (omega arith)));
         cleared = λ p m lp lm. inl (less (missedMovedAt p m) (λ is. absurd (omega arith)));
+        agreed = λ p lp. inl (less (agreedAt p) (λ is. absurd (omega arith)));
+      })
+
+  -- ---- SALE
+
+  pub sale-right : (pool m price : ℕ) → Passed (tests (some c) c (SALE pool m price)) → (u : Units) → Right c u → Right (accepted c (SALE pool m price)) (saleUnits u pool m price)
+  unfolding accepted afterSale sold tests noneOpen notInCase
+  sale-right pool m price t u right =
+      let d = afterSale c pool m price in
+      let l = pool-small pool (t .1 .0) in
+      let v = saleUnits u pool m price in
+      let some-open : 0 < openUnits (c .roll) pool = omega (arith, eqb-false (openUnits (c .roll) pool) 0 (t .1 .1 .1 .1 .0)) in
+      let given : pool < length (c .pools) = omega (arith, leb-false (c .head .pools) pool (t .1 .0), round-complete c ok (t .1 .1 .1 .1 .1 .0) .0) in
+      let none-there : getD (u .counts) (agreedAt pool) 0 ≡ 0 = ⊎-elim
+      (λ used. absurd (omega (arith, right .history .agreed pool l used .1)))
+      (λ h. omega arith)
+      (lt-or-le 0 (getD (u .counts) (agreedAt pool) 0)) in
+      let kept = sale-kept u (c .bids) (c .roll) (right .kept) pool m none-there price l (leb-true price priceLimit (not-false _ (t .1 .1 .1 .0))) in
+      let less : (k : ℕ) → (k ≡ agreedAt pool → ⊥) → getD (v .counts) k 0 ≤ getD (u .counts) k 0 = sale-less u pool m price l in
+      after-call (SALE pool m price) t u v right kept
+      (record {
+        allocated = λ p x lp lx. inl (less (allocatedAt p x) (λ is. absurd (omega arith)));
+        torn = λ p lp. inl (less (tornAt p) (λ is. absurd (omega arith)));
+        missed = λ p x lp lx. inl (less (missedAt p x) (λ is. absurd (omega arith)));
+        moved = λ p x lp lx. inl (less (movedAt p x) (λ is. absurd (omega arith)));
+        cleared = λ p x lp lx. inl (less (missedMovedAt p x) (λ is. absurd (omega arith)));
+        agreed = λ p lp. cases (eqb p pool) _
+            (λ e. let is = eqb-true p pool e in inr (rw is (given, omega (arith, open-shown v (c .bids) (d .roll) kept pool l, sale-all u pool m price l (right .kept .tied .long)))))
+            (λ e. inl (less (agreedAt p) (λ is. eqb-false p pool e (omega arith))));
       })
 
   -- ---- MOVE and MISS; the lists that are lent are those of the bids
@@ -310,6 +350,7 @@ module _ (c : Case) (ok : CaseOk c) where
               (λ e. let is = eqb-true a m e in inr (marks .0, rw is (marks .1), rw is refused))
               (λ e. inl (less (movedAt p a) (λ q lq is. eqb-false a m e (omega arith))));
           cleared = λ p a lp la. inl (less (missedMovedAt p a) (λ q lq is. absurd (omega arith)));
+          agreed = λ p lp. inl (less (agreedAt p) (λ q lq is. absurd (omega arith)));
         })
 
     pub miss-right : (m price : ℕ) → Passed (tests (some c) c (MISS m price)) → (u : Units) → Right c u → Right (accepted c (MISS m price)) (missUnits u m price)
@@ -352,6 +393,7 @@ module _ (c : Case) (ok : CaseOk c) where
               (λ none-there. inl (none-left p lp .missed-moved (omega arith)))
               (lt-or-le 0 (getD (u .counts) (movedAt p m) 0))))
               (λ e. inl (less (missedMovedAt p a) (λ q lq. (λ x. absurd (omega arith), λ x. eqb-false a m e (omega arith)))));
+          agreed = λ p lp. inl (less (agreedAt p) (λ q lq. (λ e. absurd (omega arith), λ e. absurd (omega arith))));
         }))
 
 -- ---- a new case has no unit
@@ -368,23 +410,25 @@ new-right h =
     record {
       kept = record {
         tied = record {
-          long = length-replicate {A = ℕ} 776 0;
+          long = length-replicate {A = ℕ} 780 0;
           four = length-replicate {A = ℕ} 4 zeroSum;
-          counted = record { all = λ f. sym (weigh-none (zeros 776) (λ k. f (unitAt (zeros 4) (zeros 260) [] k)) (λ k l has. absurd (omega (arith, zeros-at 776 k)))) };
+          counted = record { all = λ f. sym (weigh-none (zeros 780) (λ k. f (unitAt (zeros 4) (zeros 264) (zeros 4) [] k)) (λ k l has. absurd (omega (arith, zeros-at 780 k)))) };
           summed = λ pool l. omega (arith, getD-replicate 4 pool zeroSum 0 l);
           few = λ pool. omega arith;
           all = omega arith;
-          low = low-labels (zeros 4) (zeros 260) []
-              (record { given = λ p l. omega (arith, zeros-at 4 p); torn = λ i l. omega (arith, zeros-at 260 i); bid = λ b l. omega arith });
+          low = low-labels (zeros 4) (zeros 264) (zeros 4) []
+              (record { given = λ p l. omega (arith, zeros-at 4 p); torn = λ i l. omega (arith, zeros-at 264 i); bid = λ b l. omega arith });
         };
         four = length-replicate {A = ℕ} 4 0;
-        long = length-replicate {A = ℕ} 260 0;
+        long = length-replicate {A = ℕ} 264 0;
+        buyers = length-replicate {A = ℕ} 4 0;
       };
       history = record {
-        allocated = λ pool m lp lm has. absurd (omega (arith, zeros-at 776 (allocatedAt pool m)));
-        torn = λ pool lp has. absurd (omega (arith, zeros-at 776 (tornAt pool)));
-        missed = λ pool m lp lm has. absurd (omega (arith, zeros-at 776 (missedAt pool m)));
-        moved = λ pool m lp lm has. absurd (omega (arith, zeros-at 776 (movedAt pool m)));
-        cleared = λ pool m lp lm has. absurd (omega (arith, zeros-at 776 (missedMovedAt pool m)));
+        allocated = λ pool m lp lm has. absurd (omega (arith, zeros-at 780 (allocatedAt pool m)));
+        torn = λ pool lp has. absurd (omega (arith, zeros-at 780 (tornAt pool)));
+        missed = λ pool m lp lm has. absurd (omega (arith, zeros-at 780 (missedAt pool m)));
+        moved = λ pool m lp lm has. absurd (omega (arith, zeros-at 780 (movedAt pool m)));
+        cleared = λ pool m lp lm has. absurd (omega (arith, zeros-at 780 (missedMovedAt pool m)));
+        agreed = λ pool lp has. absurd (omega (arith, zeros-at 780 (agreedAt pool)));
       };
     }

@@ -15,12 +15,12 @@ use Rattle.lists.proofs.Counts.{any-count}
 use Rattle.lists.proofs.Keep.{sumTo-one}
 use Rattle.lists.proofs.Each.{Each}
 use Rattle.auction.specs.Price.{zeroPrice}
-use Rattle.machine.specs.Roll.{UnitState, Open, Sold, Allocated, Moved, Torn, Entry, Bid, noBid, kind, isOpen, priceOf, heldBy, passedTo, anyOpen, prices}
+use Rattle.machine.specs.Roll.{UnitState, Open, Sold, Allocated, Moved, Torn, Agreed, Entry, Bid, noBid, kind, isOpen, priceOf, heldBy, passedTo, isAgreed, anyOpen, prices, soldByAgreement}
 use Rattle.machine.specs.Run.{fiveCounts, holding}
 use Rattle.units.specs.declared.Units.{Units}
-use Rattle.units.specs.Places.{allocatedAt, soldAt, movedAt, unitAt, over}
+use Rattle.units.specs.Places.{allocatedAt, soldAt, movedAt, agreedAt, unitAt, over}
 use Rattle.units.specs.Shown.{column, soldIn, kindOf, countOf, soldFor, holdingOf, passedOf, zeroPrices, pricesOf}
-use Rattle.units.proofs.Places.{unit-open, unit-allocated, unit-sold, unit-moved, unit-torn, weigh-parts, sum-rows}
+use Rattle.units.proofs.Places.{unit-open, unit-allocated, unit-sold, unit-moved, unit-torn, unit-agreed, weigh-parts, sum-rows}
 use Rattle.units.proofs.Over.{count-over}
 use Rattle.units.proofs.Tied.{inPool, priceIn, in-it, not-in-it}
 use Rattle.units.proofs.Kept.{Kept}
@@ -57,28 +57,32 @@ module _ (u : Units) (bids : List Bid) (roll : List Entry) (kept : Kept u bids r
       + sumTo 32 (λ m. sumTo 4 (λ p. if t (record { pool = p; state = Allocated m (getD (u .allocation) p 0) }) then c (allocatedAt p m) else 0))
       + sumTo 256 (λ b. if t (record { pool = getD bids b noBid .pool; state = Sold b }) then c (soldAt b) else 0)
       + sumTo 32 (λ m. sumTo 4 (λ p. if t (record { pool = p; state = Moved m }) then c (movedAt p m) else 0))
-      + sumTo 260 (λ i. if t (record { pool = i % 4; state = Torn (getD (u .tearup) i 0) }) then c (516 + i) else 0)
+      + sumTo 260 (λ i. if t (record { pool = i % 4; state = Torn (getD (u .noted) i 0) }) then c (516 + i) else 0)
+      + sumTo 4 (λ p. if t (record { pool = p; state = Agreed (getD (u .buyers) p 0) (getD (u .noted) (260 + p) 0) }) then c (agreedAt p) else 0)
   by-parts t =
       let a = u .allocation in
-      let r = u .tearup in
-      let unit = unitAt a r bids in
+      let r = u .noted in
+      let y = u .buyers in
+      let unit = unitAt a r y bids in
       let v : ℕ → ℕ = λ k. oneIf (t (unit k)) in
       omega (
         arith,
         count-over t roll,
         kept .tied .counted .all (λ e. oneIf (t e)),
         weigh-parts (u .counts) v,
-        sumTo-ext 4 (λ p. c p * v p) (λ p. if t (record { pool = p; state = Open }) then c p else 0) (λ p l. rw (unit-open a r bids p l) (times-if _ (c p))),
+        sumTo-ext 4 (λ p. c p * v p) (λ p. if t (record { pool = p; state = Open }) then c p else 0) (λ p l. rw (unit-open a r y bids p l) (times-if _ (c p))),
         sumTo-ext 32 (λ m. sumTo 4 (λ p. c (allocatedAt p m) * v (allocatedAt p m)))
             (λ m. sumTo 4 (λ p. if t (record { pool = p; state = Allocated m (getD a p 0) }) then c (allocatedAt p m) else 0))
-            (λ m lm. sumTo-ext 4 _ _ (λ p lp. rw (unit-allocated a r bids p m lp lm) (times-if _ (c (allocatedAt p m))))),
+            (λ m lm. sumTo-ext 4 _ _ (λ p lp. rw (unit-allocated a r y bids p m lp lm) (times-if _ (c (allocatedAt p m))))),
         sumTo-ext 256 (λ b. c (soldAt b) * v (soldAt b)) (λ b. if t (record { pool = getD bids b noBid .pool; state = Sold b }) then c (soldAt b) else 0)
-            (λ b l. rw (unit-sold a r bids b l) (times-if _ (c (soldAt b)))),
+            (λ b l. rw (unit-sold a r y bids b l) (times-if _ (c (soldAt b)))),
         sumTo-ext 32 (λ m. sumTo 4 (λ p. c (movedAt p m) * v (movedAt p m)))
             (λ m. sumTo 4 (λ p. if t (record { pool = p; state = Moved m }) then c (movedAt p m) else 0))
-            (λ m lm. sumTo-ext 4 _ _ (λ p lp. rw (unit-moved a r bids p m lp lm) (times-if _ (c (movedAt p m))))),
+            (λ m lm. sumTo-ext 4 _ _ (λ p lp. rw (unit-moved a r y bids p m lp lm) (times-if _ (c (movedAt p m))))),
         sumTo-ext 260 (λ i. c (516 + i) * v (516 + i)) (λ i. if t (record { pool = i % 4; state = Torn (getD r i 0) }) then c (516 + i) else 0)
-            (λ i l. rw (unit-torn a r bids i l) (times-if _ (c (516 + i)))),
+            (λ i l. rw (unit-torn a r y bids i l) (times-if _ (c (516 + i)))),
+        sumTo-ext 4 (λ p. c (agreedAt p) * v (agreedAt p)) (λ p. if t (record { pool = p; state = Agreed (getD y p 0) (getD r (260 + p) 0) }) then c (agreedAt p) else 0)
+            (λ p l. rw (unit-agreed a r y bids p l) (times-if _ (c (agreedAt p)))),
       )
 
   -- ---- the five counts
@@ -119,10 +123,11 @@ module _ (u : Units) (bids : List Bid) (roll : List Entry) (kept : Kept u bids r
     unfolding kind
     kind-count k =
         by-parts (λ e. eqb (e .pool) pool && eqb (kind (e .state)) k)
-        ∙ rw (open-part (eqb 0 k), rows 32 4 (eqb 2 k), sold-part (eqb 1 k), rows 32 388 (eqb 3 k), torn-part (eqb 4 k)) (go k)
+        ∙ rw (open-part (eqb 0 k), rows 32 4 (eqb 2 k), sold-part (eqb 1 k), rows 32 388 (eqb 3 k), torn-part (eqb 4 k), row (λ p. c (agreedAt p)) (eqb 1 k)) (go k)
       where
         go : (k : ℕ) → (if eqb 0 k then column (u .counts) pool 1 else 0) + (if eqb 2 k then column (u .counts) (4 + pool) 32 else 0) + (if eqb 1 k then soldIn (u .counts) pools pool else 0)
-            + (if eqb 3 k then column (u .counts) (388 + pool) 32 else 0) + (if eqb 4 k then column (u .counts) (516 + pool) 65 else 0) ≡ kindOf u pools pool k
+            + (if eqb 3 k then column (u .counts) (388 + pool) 32 else 0) + (if eqb 4 k then column (u .counts) (516 + pool) 65 else 0)
+            + (if eqb 1 k then c (agreedAt pool) else 0) ≡ kindOf u pools pool k
         go zero = omega arith
         go (suc zero) = omega arith
         go (suc (suc zero)) = omega arith
@@ -175,9 +180,17 @@ module _ (u : Units) (bids : List Bid) (roll : List Entry) (kept : Kept u bids r
           sold-to,
           held-one (λ p x. c (movedAt p x)) (λ p. eqb zeroPrice price),
           same-price,
-          sum-nothing 260 (λ i. if eqb (i % 4) pool && false && eqb (getD (u .tearup) i 0) price then c (516 + i) else 0) (λ i l. rw (and-false (eqb (i % 4) pool))),
+          sum-nothing 260 (λ i. if eqb (i % 4) pool && false && eqb (getD (u .noted) i 0) price then c (516 + i) else 0) (λ i l. rw (and-false (eqb (i % 4) pool))),
+          agreed-one,
         )))
       where
+        agreed-one : sumTo 4 (λ p. if eqb p pool && eqb (getD (u .buyers) p 0) m && eqb (getD (u .noted) (260 + p) 0) price then c (agreedAt p) else 0)
+            ≡ (if eqb (getD (u .buyers) pool 0) m && eqb (getD (u .noted) (260 + pool) 0) price then c (agreedAt pool) else 0)
+        agreed-one =
+            sum-one 4 pool (λ p. if eqb p pool && eqb (getD (u .buyers) p 0) m && eqb (getD (u .noted) (260 + p) 0) price then c (agreedAt p) else 0) lp
+            (λ p l no. rw (ne-eqb p pool no))
+            ∙ rw (eq-eqb pool pool refl)
+
         same-price : (if eqb zeroPrice price then c (movedAt pool m) else 0) ≡ (if eqb price zeroPrice then c (movedAt pool m) else 0)
         same-price = rw (eqb-same zeroPrice price price zeroPrice (λ e. sym e) (λ e. sym e))
 
@@ -195,6 +208,7 @@ module _ (u : Units) (bids : List Bid) (roll : List Entry) (kept : Kept u bids r
         sum-nothing 256 (λ b. if false then c (soldAt b) else 0) (λ b l. refl),
         one (λ p a. c (movedAt p a)),
         sum-nothing 260 (λ i. if false then c (516 + i) else 0) (λ i l. refl),
+        sum-nothing 4 (λ p. if false then c (agreedAt p) else 0) (λ p l. refl),
       ))
     where
       one : (g : ℕ → ℕ → ℕ) → sumTo 32 (λ a. sumTo 4 (λ p. if eqb a m then g p a else 0)) ≡ sumTo 4 (λ p. g p m)
@@ -214,6 +228,28 @@ module _ (u : Units) (bids : List Bid) (roll : List Entry) (kept : Kept u bids r
         sum-nothing 256 (λ b. if false then c (soldAt b) else 0) (λ b l. refl),
         sum-nothing 32 (λ m. sumTo 4 (λ p. if false then c (movedAt p m) else 0)) (λ m l. sum-nothing 4 _ (λ p lp. refl)),
         sum-nothing 260 (λ i. if false then c (516 + i) else 0) (λ i l. refl),
+        sum-nothing 4 (λ p. if false then c (agreedAt p) else 0) (λ p l. refl),
+      )
+
+  -- ---- sold by agreement
+
+  pub agreed-shown : (pool : ℕ) → pool < 4 → soldByAgreement roll pool ≡ ltb 0 (c (agreedAt pool))
+  unfolding soldByAgreement isAgreed
+  agreed-shown pool l =
+      any-count (λ e. isAgreed (e .state) && eqb (e .pool) pool) roll ∙ ap (ltb 0) here
+    where
+      one : sumTo 4 (λ p. if eqb p pool then c (agreedAt p) else 0) ≡ c (agreedAt pool)
+      one = sum-one 4 pool (λ p. if eqb p pool then c (agreedAt p) else 0) l (λ p lp no. rw (ne-eqb p pool no)) ∙ rw (eq-eqb pool pool refl)
+
+      here : count (λ e. isAgreed (e .state) && eqb (e .pool) pool) roll ≡ c (agreedAt pool)
+      here = by-parts (λ e. isAgreed (e .state) && eqb (e .pool) pool) ∙ omega (
+        arith,
+        sum-nothing 4 (λ p. if false then c p else 0) (λ p l. refl),
+        sum-nothing 32 (λ m. sumTo 4 (λ p. if false then c (allocatedAt p m) else 0)) (λ m l. sum-nothing 4 _ (λ p lp. refl)),
+        sum-nothing 256 (λ b. if false then c (soldAt b) else 0) (λ b l. refl),
+        sum-nothing 32 (λ m. sumTo 4 (λ p. if false then c (movedAt p m) else 0)) (λ m l. sum-nothing 4 _ (λ p lp. refl)),
+        sum-nothing 260 (λ i. if false then c (516 + i) else 0) (λ i l. refl),
+        one,
       )
 
   pub any-open-shown : anyOpen roll ≡ ltb 0 (sumTo 4 c)
@@ -271,6 +307,7 @@ open-price bids e h = go (e .state) h
     go (Allocated m price) h = absurd (false≢true h)
     go (Moved m) h = absurd (false≢true h)
     go (Torn price) h = absurd (false≢true h)
+    go (Agreed m price) h = absurd (false≢true h)
 
 prices-open : (bids : List Bid) (e : Entry) (es : List Entry) → isOpen e ≡ true → prices bids (e ∷ es) ≡ prices bids es
 unfolding prices keep

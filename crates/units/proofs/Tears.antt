@@ -1,4 +1,4 @@
--- The units of a roll after TEAR and MISS. Assumes nothing.
+-- The units of a roll after TEAR, MISS and SALE. Assumes nothing.
 use mathlib.Core.Path.{_≡_, refl, sym, ap, _∙_}
 use mathlib.Core.Bool.{Bool, true, false, _&&_, and-true, and-false}
 use mathlib.Core.Logic.{⊎-elim}
@@ -14,25 +14,41 @@ use Rattle.lists.specs.Lists.{if_then_else_}
 use Rattle.lists.proofs.Bools.{cases, either, lt-or-le}
 use Rattle.lists.proofs.Each.{Each, set-cases}
 use Rattle.auction.specs.Price.{zeroPrice, priceLimit}
-use Rattle.machine.specs.Roll.{UnitState, Open, Sold, Allocated, Moved, Torn, Entry, Bid, openIn, passedTo, priceOf, tornIf}
+use Rattle.machine.specs.Roll.{UnitState, Open, Sold, Allocated, Moved, Torn, Agreed, Entry, Bid, openIn, passedTo, priceOf, changedIf, tornIf}
 use Rattle.units.specs.declared.Units.{Units}
-use Rattle.units.specs.Places.{allocatedAt, movedAt, tornAt, missedAt, missedMovedAt, unitAt}
-use Rattle.units.specs.Steps.{transferred, repriced, tornUp, tearUnits, missedTo, missUnits}
-use Rattle.units.proofs.Places.{unit-open, unit-allocated, unit-sold, unit-moved, unit-torn, by-place}
+use Rattle.units.specs.Places.{allocatedAt, movedAt, tornAt, missedAt, missedMovedAt, agreedAt, unitAt}
+use Rattle.units.specs.Steps.{transferred, repriced, notedAt, tearUnits, missedTo, missUnits, withBuyer, saleUnits}
+use Rattle.units.proofs.Places.{unit-open, unit-allocated, unit-sold, unit-moved, unit-torn, unit-agreed, by-place}
 use Rattle.units.proofs.Weighing.{weigh-point}
-use Rattle.units.proofs.Over.{Swap, over-torn}
+use Rattle.units.proofs.Over.{Swap, over-changed}
 use Rattle.units.proofs.Tied.{Tied, transfer-tied, relabelled}
 use Rattle.units.proofs.Kept.{unitOf, Kept, low-labels, labels-low, open-alone, open-here, passed-from, passed-other, passed-less}
 
--- ---- all units of a place torn up
+-- ---- all units of a place counted at another, where their price is noted
 
--- the prices of torn units after it
+-- the prices noted after it
 abbrev pub notes : List ℕ → ℕ → ℕ → ℕ → List ℕ
-notes tearup n i price = if eqb n 0 then tearup else set tearup i price
+notes noted n i price = if eqb n 0 then noted else set noted i price
 
-price-torn : (bids : List Bid) (pool price : ℕ) → priceOf bids (Torn price) ≡ price
+price-torn : (bids : List Bid) (price : ℕ) → priceOf bids (Torn price) ≡ price
 unfolding priceOf
-price-torn bids pool price = refl
+price-torn bids price = refl
+
+price-agreed : (bids : List Bid) (m price : ℕ) → priceOf bids (Agreed m price) ≡ price
+unfolding priceOf
+price-agreed bids m price = refl
+
+-- the pool of a place from 516 on
+pool-noted : (allocation noted buyers : List ℕ) (bids : List Bid) (i : ℕ) → i < 264 → unitAt allocation noted buyers bids (516 + i) .pool ≡ i % 4
+pool-noted allocation noted buyers bids i l =
+    ⊎-elim
+    (λ few. ap (λ (e : Entry). e .pool) (unit-torn allocation noted buyers bids i few))
+    (λ far.
+    let p = i - 260 in
+    let place : agreedAt p ≡ 516 + i = omega arith in
+    let same : p ≡ i % 4 = omega arith in
+    rw place at (ap (λ (e : Entry). e .pool) (unit-agreed allocation noted buyers bids p (omega arith))) ∙ same)
+    (lt-or-le i 260)
 
 -- where no unit changes its price, the new price doesn't matter
 repriced-same : (sums : List ℕ) (pool n old a b : ℕ) → (0 < n → a ≡ b) → repriced sums pool n old a ≡ repriced sums pool n old b
@@ -43,74 +59,79 @@ repriced-same sums pool n old a b same =
     (λ h. let none : n ≡ 0 = omega arith in rw (none, zero-mul a, zero-mul b))
     (lt-or-le 0 n)
 
--- a price noted: only the units torn up at that place have another label
-noted-unit : (allocation tearup : List ℕ) (bids : List Bid) (n i price : ℕ) → (k : ℕ) → k < 776 → (0 < n → k ≡ 516 + i → ⊥) → unitAt allocation (notes tearup n i price) bids k ≡ unitAt allocation tearup bids k
-noted-unit allocation tearup bids n i price =
-    let new = notes tearup n i price in
-    by-place (λ k. (0 < n → k ≡ 516 + i → ⊥) → unitAt allocation new bids k ≡ unitAt allocation tearup bids k)
-    (λ p l a. unit-open allocation new bids p l ∙ sym (unit-open allocation tearup bids p l))
-    (λ p m lp lm a. unit-allocated allocation new bids p m lp lm ∙ sym (unit-allocated allocation tearup bids p m lp lm))
-    (λ b l a. unit-sold allocation new bids b l ∙ sym (unit-sold allocation tearup bids b l))
-    (λ p m lp lm a. unit-moved allocation new bids p m lp lm ∙ sym (unit-moved allocation tearup bids p m lp lm))
-    (λ j l a. unit-torn allocation new bids j l ∙ rw (same j a) (sym (unit-torn allocation tearup bids j l)))
+-- a price noted: only the units at that place have another label
+noted-unit : (allocation noted buyers : List ℕ) (bids : List Bid) (n i price : ℕ) → (k : ℕ) → k < 780 → (0 < n → k ≡ 516 + i → ⊥) → unitAt allocation (notes noted n i price) buyers bids k ≡ unitAt allocation noted buyers bids k
+noted-unit allocation noted buyers bids n i price =
+    let new = notes noted n i price in
+    by-place (λ k. (0 < n → k ≡ 516 + i → ⊥) → unitAt allocation new buyers bids k ≡ unitAt allocation noted buyers bids k)
+    (λ p l a. unit-open allocation new buyers bids p l ∙ sym (unit-open allocation noted buyers bids p l))
+    (λ p m lp lm a. unit-allocated allocation new buyers bids p m lp lm ∙ sym (unit-allocated allocation noted buyers bids p m lp lm))
+    (λ b l a. unit-sold allocation new buyers bids b l ∙ sym (unit-sold allocation noted buyers bids b l))
+    (λ p m lp lm a. unit-moved allocation new buyers bids p m lp lm ∙ sym (unit-moved allocation noted buyers bids p m lp lm))
+    (λ j l a. unit-torn allocation new buyers bids j l ∙ rw (same j a) (sym (unit-torn allocation noted buyers bids j l)))
+    (λ p l a. unit-agreed allocation new buyers bids p l ∙ rw (same (260 + p) (λ live e. a live (omega arith))) (sym (unit-agreed allocation noted buyers bids p l)))
   where
-    same : (j : ℕ) → (0 < n → 516 + j ≡ 516 + i → ⊥) → getD (notes tearup n i price) j 0 ≡ getD tearup j 0
-    same j a = cases (eqb n 0) _ (λ t. rw t) (λ t. rw t (getD-set-other tearup i j price 0 (λ e. a (omega (arith, eqb-false n 0 t)) (omega arith))))
+    same : (j : ℕ) → (0 < n → 516 + j ≡ 516 + i → ⊥) → getD (notes noted n i price) j 0 ≡ getD noted j 0
+    same j a = cases (eqb n 0) _ (λ t. rw t) (λ t. rw t (getD-set-other noted i j price 0 (λ e. a (omega (arith, eqb-false n 0 t)) (omega arith))))
 
 module _ (u : Units) (bids : List Bid) (roll : List Entry) (kept : Kept u bids roll) where
-  -- place k, whose units have pool p and are torn up at place 516 + i; the test tells them from all others
-  module _ (k i pool price : ℕ) (test : Entry → Bool) (lk : k < 516) (li : i < 260) (lp : pool < 4) (low : price ≤ priceLimit) (is : unitOf u bids k .pool ≡ pool) (at : k % 4 ≡ pool) (row : i % 4 ≡ pool)
-      (others : (j : ℕ) → j < 776 → (j ≡ k → ⊥) → test (unitOf u bids j) ≡ false) (here : test (unitOf u bids k) ≡ true)
-      (empty : 0 < getD (u .counts) k 0 → getD (u .counts) (516 + i) 0 ≡ 0) where
+  -- place k, whose units have the pool and are counted at place 516 + i, in state s, from now on; the test tells them from all others
+  module _ (k i pool price : ℕ) (s : UnitState) (test : Entry → Bool) (lk : k < 516) (li : i < 264) (lp : pool < 4) (low : price ≤ priceLimit) (is : unitOf u bids k .pool ≡ pool) (at : k % 4 ≡ pool) (row : i % 4 ≡ pool)
+      (others : (j : ℕ) → j < 780 → (j ≡ k → ⊥) → test (unitOf u bids j) ≡ false) (here : test (unitOf u bids k) ≡ true)
+      (empty : 0 < getD (u .counts) k 0 → getD (u .counts) (516 + i) 0 ≡ 0) (at-price : priceOf bids s ≡ price)
+      (label : (noted : List ℕ) → getD noted i 0 ≡ price → unitAt (u .allocation) noted (u .buyers) bids (516 + i) ≡ record { pool = pool; state = s }) where
     abbrev n : ℕ
     n = getD (u .counts) k 0
 
     abbrev next : List Entry
-    next = map (tornIf test price) roll
+    next = map (changedIf test s) roll
 
     abbrev new : List ℕ
-    new = notes (u .tearup) n i price
+    new = notes (u .noted) n i price
 
     abbrev unit : ℕ → Entry
-    unit = unitAt (u .allocation) new bids
+    unit = unitAt (u .allocation) new (u .buyers) bids
 
-    same : (j : ℕ) → j < 776 → 0 < getD (u .counts) j 0 → unit j ≡ unitOf u bids j
-    same j l some = noted-unit (u .allocation) (u .tearup) bids n i price j l (λ live e. absurd (omega (arith, empty live, rw e at some)))
+    same : (j : ℕ) → j < 780 → 0 < getD (u .counts) j 0 → unit j ≡ unitOf u bids j
+    same j l some = noted-unit (u .allocation) (u .noted) (u .buyers) bids n i price j l (λ live e. absurd (omega (arith, empty live, rw e at some)))
 
     same-here : unit k ≡ unitOf u bids k
-    same-here = noted-unit (u .allocation) (u .tearup) bids n i price k (omega arith) (λ live e. absurd (omega arith))
+    same-here = noted-unit (u .allocation) (u .noted) (u .buyers) bids n i price k (omega arith) (λ live e. absurd (omega arith))
 
     noted-tied : Tied (u .counts) (u .sums) unit bids roll
     noted-tied =
-        let labels = labels-low (u .allocation) (u .tearup) bids (kept .tied .low) in
+        let labels = labels-low (u .allocation) (u .noted) (u .buyers) bids (kept .tied .low) in
         relabelled (u .counts) (u .sums) (unitOf u bids) unit bids bids roll (kept .tied) same (λ j l some. refl)
-        (low-labels (u .allocation) new bids (record {
+        (low-labels (u .allocation) new (u .buyers) bids (record {
           given = labels .given;
-          torn = λ j l. either (λ (x : List ℕ). getD x j 0 ≤ priceLimit) (eqb n 0) (labels .torn j l) (set-cases (λ (x : ℕ). x ≤ priceLimit) (u .tearup) i price 0 j (λ e. low) (labels .torn j l));
+          torn = λ j l. either (λ (x : List ℕ). getD x j 0 ≤ priceLimit) (eqb n 0) (labels .torn j l) (set-cases (λ (x : ℕ). x ≤ priceLimit) (u .noted) i price 0 j (λ e. low) (labels .torn j l));
           bid = labels .bid;
         }))
 
-    to-is : unit (516 + i) ≡ record { pool = pool; state = Torn (getD new i 0) }
-    to-is = unit-torn (u .allocation) new bids i li ∙ rw row
+    to-pool : unit (516 + i) .pool ≡ pool
+    to-pool = pool-noted (u .allocation) new (u .buyers) bids i li ∙ row
 
     -- where there are units, the price is noted
     to-price : 0 < n → getD new i 0 ≡ price
-    to-price some = rw (ne-eqb n 0 (omega arith)) (getD-set-same (u .tearup) i price 0 (omega (arith, kept .long)))
+    to-price some = rw (ne-eqb n 0 (omega arith)) (getD-set-same (u .noted) i price 0 (omega (arith, kept .long)))
+
+    to-is : 0 < n → unit (516 + i) ≡ record { pool = pool; state = s }
+    to-is some = label new (to-price some)
 
     torn-swap : Swap roll next n (unit k) (unit (516 + i))
     torn-swap f =
-        let g : Entry → ℕ = λ e. f (tornIf test price e) in
+        let g : Entry → ℕ = λ e. f (changedIf test s e) in
         let one = weigh-point (u .counts) k (λ j. f (unitOf u bids j)) (λ j. g (unitOf u bids j)) (omega arith) (λ j l a some. rw (others j l a)) in
         let there : n * g (unitOf u bids k) ≡ n * f (unit (516 + i)) =
         ⊎-elim
         (λ some.
-        let e : tornIf test price (unitOf u bids k) ≡ unit (516 + i) = rw here (rw is (sym (to-is ∙ rw (to-price some)))) in
+        let e : changedIf test s (unitOf u bids k) ≡ unit (516 + i) = rw here (rw is (sym (to-is some))) in
         ap (λ (e : Entry). n * f e) e)
         (λ h. let none : n ≡ 0 = omega arith in rw none (zero-mul _ ∙ sym (zero-mul _)))
         (lt-or-le 0 n) in
         omega (
           arith,
-          over-torn test price f roll,
+          over-changed test s f roll,
           kept .tied .counted .all g,
           kept .tied .counted .all f,
           one,
@@ -121,22 +142,27 @@ module _ (u : Units) (bids : List Bid) (roll : List Entry) (kept : Kept u bids r
     moved-tied : Tied (transferred (u .counts) k (516 + i) n) (repriced (u .sums) pool n (priceOf bids (unitOf u bids k .state)) price) unit bids next
     moved-tied =
         let moved = transfer-tied (u .counts) (u .sums) unit bids roll noted-tied k (516 + i) n pool (omega arith) (omega arith) (λ e. absurd (omega arith)) (omega arith) lp
-        (ap (λ (e : Entry). e .pool) same-here ∙ is) (ap (λ (e : Entry). e .pool) to-is) next torn-swap in
+        (ap (λ (e : Entry). e .pool) same-here ∙ is) to-pool next torn-swap in
         let old : priceOf bids (unitOf u bids k .state) ≡ priceOf bids (unit k .state) = ap (λ (e : Entry). priceOf bids (e .state)) (sym same-here) in
         rw (old, repriced-same (u .sums) pool n (priceOf bids (unit k .state)) price (priceOf bids (unit (516 + i) .state)) (λ some. sym (torn-price some))) moved
       where
         torn-price : 0 < n → priceOf bids (unit (516 + i) .state) ≡ price
-        torn-price some = ap (λ (e : Entry). priceOf bids (e .state)) to-is ∙ price-torn bids pool (getD new i 0) ∙ to-price some
+        torn-price some = ap (λ (e : Entry). priceOf bids (e .state)) (to-is some) ∙ at-price
 
-    pub torn-kept : Kept (tornUp u k (516 + i) (priceOf bids (unitOf u bids k .state)) price) bids next
-    unfolding tornUp
-    torn-kept =
+    pub noted-kept : Kept (notedAt u k (516 + i) (priceOf bids (unitOf u bids k .state)) price) bids next
+    unfolding notedAt
+    noted-kept =
         let place : 516 + i - 516 ≡ i = omega arith in
         rw (at, place) (record {
           tied = moved-tied;
           four = kept .four;
-          long = either (λ (x : List ℕ). length x ≡ 260) (eqb n 0) (kept .long) (length-set (u .tearup) i price ∙ kept .long);
+          long = either (λ (x : List ℕ). length x ≡ 264) (eqb n 0) (kept .long) (length-set (u .noted) i price ∙ kept .long);
+          buyers = kept .buyers;
         })
+
+torn-label : (u : Units) (bids : List Bid) (i pool price : ℕ) → i < 260 → i % 4 ≡ pool → (noted : List ℕ) → getD noted i 0 ≡ price
+    → unitAt (u .allocation) noted (u .buyers) bids (516 + i) ≡ record { pool = pool; state = Torn price }
+torn-label u bids i pool price l row noted e = unit-torn (u .allocation) noted (u .buyers) bids i l ∙ rw (row, e)
 
 -- ---- TEAR
 
@@ -144,11 +170,53 @@ pub tear-kept : (u : Units) (bids : List Bid) (roll : List Entry) → Kept u bid
     → (0 < getD (u .counts) pool 0 → getD (u .counts) (tornAt pool) 0 ≡ 0) → Kept (tearUnits u pool price) bids (map (tornIf (openIn pool) price) roll)
 unfolding tearUnits priceOf
 tear-kept u bids roll kept pool price lp low empty =
-    let is = unit-open (u .allocation) (u .tearup) bids pool lp in
+    let is = unit-open (u .allocation) (u .noted) (u .buyers) bids pool lp in
     rw (lt-ltb pool 4 lp)
     (rw is at
-    (torn-kept u bids roll kept pool pool pool price (openIn pool) (omega arith) (omega arith) lp low (ap (λ (e : Entry). e .pool) is) (omega arith) (omega arith)
-    (open-alone (u .allocation) (u .tearup) bids pool) (open-here (u .allocation) (u .tearup) bids pool lp) empty))
+    (noted-kept u bids roll kept pool pool pool price (Torn price) (openIn pool) (omega arith) (omega arith) lp low (ap (λ (e : Entry). e .pool) is) (omega arith) (omega arith)
+    (open-alone (u .allocation) (u .noted) (u .buyers) bids pool) (open-here (u .allocation) (u .noted) (u .buyers) bids pool lp) empty
+    (price-torn bids price) (torn-label u bids pool pool price (omega arith) (omega arith))))
+
+-- ---- SALE
+
+-- another buyer: only the units sold by agreement in that pool have another label
+buyer-unit : (allocation noted buyers : List ℕ) (bids : List Bid) (pool m : ℕ) → (k : ℕ) → k < 780 → (k ≡ agreedAt pool → ⊥) → unitAt allocation noted (set buyers pool m) bids k ≡ unitAt allocation noted buyers bids k
+buyer-unit allocation noted buyers bids pool m =
+    let new = set buyers pool m in
+    by-place (λ k. (k ≡ agreedAt pool → ⊥) → unitAt allocation noted new bids k ≡ unitAt allocation noted buyers bids k)
+    (λ p l a. unit-open allocation noted new bids p l ∙ sym (unit-open allocation noted buyers bids p l))
+    (λ p x lp lx a. unit-allocated allocation noted new bids p x lp lx ∙ sym (unit-allocated allocation noted buyers bids p x lp lx))
+    (λ b l a. unit-sold allocation noted new bids b l ∙ sym (unit-sold allocation noted buyers bids b l))
+    (λ p x lp lx a. unit-moved allocation noted new bids p x lp lx ∙ sym (unit-moved allocation noted buyers bids p x lp lx))
+    (λ i l a. unit-torn allocation noted new bids i l ∙ sym (unit-torn allocation noted buyers bids i l))
+    (λ p l a. unit-agreed allocation noted new bids p l ∙ rw (getD-set-other buyers pool p m 0 (λ e. a (ap agreedAt e))) (sym (unit-agreed allocation noted buyers bids p l)))
+
+module _ (u : Units) (bids : List Bid) (roll : List Entry) (kept : Kept u bids roll) (pool m : ℕ) (none-there : getD (u .counts) (agreedAt pool) 0 ≡ 0) where
+  buyer-kept : Kept (withBuyer u pool m) bids roll
+  buyer-kept =
+      let labels = labels-low (u .allocation) (u .noted) (u .buyers) bids (kept .tied .low) in
+      record {
+        tied = relabelled (u .counts) (u .sums) (unitOf u bids) (unitAt (u .allocation) (u .noted) (set (u .buyers) pool m) bids) bids bids roll (kept .tied)
+            (λ k l some. buyer-unit (u .allocation) (u .noted) (u .buyers) bids pool m k l (λ e. absurd (omega (arith, none-there, rw e at some))))
+            (λ k l some. refl)
+            (low-labels (u .allocation) (u .noted) (set (u .buyers) pool m) bids (record { given = labels .given; torn = labels .torn; bid = labels .bid }));
+        four = kept .four;
+        long = kept .long;
+        buyers = length-set (u .buyers) pool m ∙ kept .buyers;
+      }
+
+  pub sale-kept : (price : ℕ) → pool < 4 → price ≤ priceLimit → Kept (saleUnits u pool m price) bids (map (changedIf (openIn pool) (Agreed m price)) roll)
+  unfolding saleUnits priceOf
+  sale-kept price lp low =
+      let v = withBuyer u pool m in
+      let is = unit-open (v .allocation) (v .noted) (v .buyers) bids pool lp in
+      let to : 516 + (260 + pool) ≡ agreedAt pool = omega arith in
+      rw (lt-ltb pool 4 lp)
+      (rw (is, to) at
+      (noted-kept v bids roll buyer-kept pool (260 + pool) pool price (Agreed m price) (openIn pool) (omega arith) (omega arith) lp low (ap (λ (e : Entry). e .pool) is) (omega arith) (omega arith)
+      (open-alone (v .allocation) (v .noted) (v .buyers) bids pool) (open-here (v .allocation) (v .noted) (v .buyers) bids pool lp) (λ some. rw to none-there)
+      (price-agreed bids m price)
+      (λ noted e. rw to (unit-agreed (v .allocation) noted (v .buyers) bids pool lp ∙ rw (getD-set-same (u .buyers) pool m 0 (omega (arith, kept .buyers)), e)))))
 
 -- ---- MISS
 
@@ -160,6 +228,7 @@ allocatedIn m pool e = elim (e .state) [
   | Allocated a price ↦ eqb a m && eqb (e .pool) pool
   | Moved a ↦ false
   | Torn price ↦ false
+  | Agreed a price ↦ false
 ]
 
 unfoldable movedIn : ℕ → ℕ → Entry → Bool
@@ -169,6 +238,7 @@ movedIn m pool e = elim (e .state) [
   | Allocated a price ↦ false
   | Moved a ↦ eqb a m && eqb (e .pool) pool
   | Torn price ↦ false
+  | Agreed a price ↦ false
 ]
 
 -- two places of members and pools
@@ -181,34 +251,36 @@ apart m pool a p lp lq not-same =
 together : (m pool : ℕ) → (eqb m m && eqb pool pool) ≡ true
 together m pool = rw (eq-eqb m m refl, eq-eqb pool pool refl)
 
-module _ (allocation tearup : List ℕ) (bids : List Bid) (m pool : ℕ) (lm : m < 32) (lp : pool < 4) where
-  allocated-alone : (j : ℕ) → j < 776 → (j ≡ allocatedAt pool m → ⊥) → allocatedIn m pool (unitAt allocation tearup bids j) ≡ false
+module _ (allocation noted buyers : List ℕ) (bids : List Bid) (m pool : ℕ) (lm : m < 32) (lp : pool < 4) where
+  allocated-alone : (j : ℕ) → j < 780 → (j ≡ allocatedAt pool m → ⊥) → allocatedIn m pool (unitAt allocation noted buyers bids j) ≡ false
   unfolding allocatedIn
   allocated-alone =
-      by-place (λ j. (j ≡ allocatedAt pool m → ⊥) → allocatedIn m pool (unitAt allocation tearup bids j) ≡ false)
-      (λ i l a. rw (unit-open allocation tearup bids i l))
-      (λ p x lq lx a. rw (unit-allocated allocation tearup bids p x lq lx) (apart m pool x p lp lq (λ e. a (omega arith))))
-      (λ b l a. rw (unit-sold allocation tearup bids b l))
-      (λ p x lq lx a. rw (unit-moved allocation tearup bids p x lq lx))
-      (λ i l a. rw (unit-torn allocation tearup bids i l))
+      by-place (λ j. (j ≡ allocatedAt pool m → ⊥) → allocatedIn m pool (unitAt allocation noted buyers bids j) ≡ false)
+      (λ i l a. rw (unit-open allocation noted buyers bids i l))
+      (λ p x lq lx a. rw (unit-allocated allocation noted buyers bids p x lq lx) (apart m pool x p lp lq (λ e. a (omega arith))))
+      (λ b l a. rw (unit-sold allocation noted buyers bids b l))
+      (λ p x lq lx a. rw (unit-moved allocation noted buyers bids p x lq lx))
+      (λ i l a. rw (unit-torn allocation noted buyers bids i l))
+      (λ p l a. rw (unit-agreed allocation noted buyers bids p l))
 
-  moved-alone : (j : ℕ) → j < 776 → (j ≡ movedAt pool m → ⊥) → movedIn m pool (unitAt allocation tearup bids j) ≡ false
+  moved-alone : (j : ℕ) → j < 780 → (j ≡ movedAt pool m → ⊥) → movedIn m pool (unitAt allocation noted buyers bids j) ≡ false
   unfolding movedIn
   moved-alone =
-      by-place (λ j. (j ≡ movedAt pool m → ⊥) → movedIn m pool (unitAt allocation tearup bids j) ≡ false)
-      (λ i l a. rw (unit-open allocation tearup bids i l))
-      (λ p x lq lx a. rw (unit-allocated allocation tearup bids p x lq lx))
-      (λ b l a. rw (unit-sold allocation tearup bids b l))
-      (λ p x lq lx a. rw (unit-moved allocation tearup bids p x lq lx) (apart m pool x p lp lq (λ e. a (omega arith))))
-      (λ i l a. rw (unit-torn allocation tearup bids i l))
+      by-place (λ j. (j ≡ movedAt pool m → ⊥) → movedIn m pool (unitAt allocation noted buyers bids j) ≡ false)
+      (λ i l a. rw (unit-open allocation noted buyers bids i l))
+      (λ p x lq lx a. rw (unit-allocated allocation noted buyers bids p x lq lx))
+      (λ b l a. rw (unit-sold allocation noted buyers bids b l))
+      (λ p x lq lx a. rw (unit-moved allocation noted buyers bids p x lq lx) (apart m pool x p lp lq (λ e. a (omega arith))))
+      (λ i l a. rw (unit-torn allocation noted buyers bids i l))
+      (λ p l a. rw (unit-agreed allocation noted buyers bids p l))
 
-  allocated-here : allocatedIn m pool (unitAt allocation tearup bids (allocatedAt pool m)) ≡ true
+  allocated-here : allocatedIn m pool (unitAt allocation noted buyers bids (allocatedAt pool m)) ≡ true
   unfolding allocatedIn
-  allocated-here = rw (unit-allocated allocation tearup bids pool m lp lm) (together m pool)
+  allocated-here = rw (unit-allocated allocation noted buyers bids pool m lp lm) (together m pool)
 
-  moved-here : movedIn m pool (unitAt allocation tearup bids (movedAt pool m)) ≡ true
+  moved-here : movedIn m pool (unitAt allocation noted buyers bids (movedAt pool m)) ≡ true
   unfolding movedIn
-  moved-here = rw (unit-moved allocation tearup bids pool m lp lm) (together m pool)
+  moved-here = rw (unit-moved allocation noted buyers bids pool m lp lm) (together m pool)
 
 -- pool by pool is all at once
 module _ (m price : ℕ) where
@@ -244,6 +316,7 @@ module _ (m price : ℕ) where
           (lt-or-le p n))
           (λ t. rw (t, t))
       go p (Torn x) = refl
+      go p (Agreed a x) = refl
 
   rolls-next : (n : ℕ) (roll : List Entry) → map (tornIf (movedIn m n) price) (map (tornIf (allocatedIn m n) price) (map (tornIf (upTo n) price) roll)) ≡ map (tornIf (upTo (suc n)) price) roll
   rolls-next n [] = refl
@@ -265,16 +338,16 @@ module _ (m price : ℕ) where
 
 -- what tearing up a place leaves of the counts
 module _ (u : Units) (k to old price : ℕ) where
-  pub torn-other : (j : ℕ) → (j ≡ k → ⊥) → (j ≡ to → ⊥) → getD (tornUp u k to old price .counts) j 0 ≡ getD (u .counts) j 0
-  unfolding tornUp
+  pub torn-other : (j : ℕ) → (j ≡ k → ⊥) → (j ≡ to → ⊥) → getD (notedAt u k to old price .counts) j 0 ≡ getD (u .counts) j 0
+  unfolding notedAt
   torn-other j a b = passed-other (u .counts) k to (getD (u .counts) k 0) j a b
 
-  pub torn-from : k < length (u .counts) → (k ≡ to → ⊥) → getD (tornUp u k to old price .counts) k 0 ≡ 0
-  unfolding tornUp
+  pub torn-from : k < length (u .counts) → (k ≡ to → ⊥) → getD (notedAt u k to old price .counts) k 0 ≡ 0
+  unfolding notedAt
   torn-from l a = passed-from (u .counts) k to (getD (u .counts) k 0) l a ∙ omega arith
 
-  pub torn-less : (j : ℕ) → (j ≡ to → ⊥) → getD (tornUp u k to old price .counts) j 0 ≤ getD (u .counts) j 0
-  unfolding tornUp
+  pub torn-less : (j : ℕ) → (j ≡ to → ⊥) → getD (notedAt u k to old price .counts) j 0 ≤ getD (u .counts) j 0
+  unfolding notedAt
   torn-less j b = passed-less (u .counts) k to (getD (u .counts) k 0) j b
 
 module _ (bids : List Bid) (m price : ℕ) (lm : m < 32) (low : price ≤ priceLimit) where
@@ -286,21 +359,22 @@ module _ (bids : List Bid) (m price : ℕ) (lm : m < 32) (low : price ≤ priceL
   -- one pool
   module _ (u : Units) (roll : List Entry) (kept : Kept u bids roll) (pool : ℕ) (lp : pool < 4) (free : Free u pool) where
     abbrev half : Units
-    half = tornUp u (allocatedAt pool m) (missedAt pool m) (getD (u .allocation) pool 0) price
+    half = notedAt u (allocatedAt pool m) (missedAt pool m) (getD (u .allocation) pool 0) price
 
     half-kept : Kept half bids (map (tornIf (allocatedIn m pool) price) roll)
     unfolding priceOf
     half-kept =
-        let is = unit-allocated (u .allocation) (u .tearup) bids pool m lp lm in
+        let is = unit-allocated (u .allocation) (u .noted) (u .buyers) bids pool m lp lm in
         let to : 516 + (4 + (4 * m + pool)) ≡ missedAt pool m = omega arith in
         rw (is, to) at
-        (torn-kept u bids roll kept (allocatedAt pool m) (4 + (4 * m + pool)) pool price (allocatedIn m pool) (omega arith) (omega arith) lp low (ap (λ (e : Entry). e .pool) is) (omega arith) (omega arith)
-        (allocated-alone (u .allocation) (u .tearup) bids m pool lm lp) (allocated-here (u .allocation) (u .tearup) bids m pool lm lp) (λ some. rw to (free .allocated some)))
+        (noted-kept u bids roll kept (allocatedAt pool m) (4 + (4 * m + pool)) pool price (Torn price) (allocatedIn m pool) (omega arith) (omega arith) lp low (ap (λ (e : Entry). e .pool) is) (omega arith) (omega arith)
+        (allocated-alone (u .allocation) (u .noted) (u .buyers) bids m pool lm lp) (allocated-here (u .allocation) (u .noted) (u .buyers) bids m pool lm lp) (λ some. rw to (free .allocated some))
+        (price-torn bids price) (torn-label u bids (4 + (4 * m + pool)) pool price (omega arith) (omega arith)))
 
-    whole-kept : Kept (tornUp half (movedAt pool m) (missedMovedAt pool m) zeroPrice price) bids (map (tornIf (movedIn m pool) price) (map (tornIf (allocatedIn m pool) price) roll))
+    whole-kept : Kept (notedAt half (movedAt pool m) (missedMovedAt pool m) zeroPrice price) bids (map (tornIf (movedIn m pool) price) (map (tornIf (allocatedIn m pool) price) roll))
     unfolding priceOf
     whole-kept =
-        let is = unit-moved (half .allocation) (half .tearup) bids pool m lp lm in
+        let is = unit-moved (half .allocation) (half .noted) (half .buyers) bids pool m lp lm in
         let to : 516 + (132 + (4 * m + pool)) ≡ missedMovedAt pool m = omega arith in
         let old = getD (u .allocation) pool 0 in
         let from-same : getD (half .counts) (movedAt pool m) 0 ≡ getD (u .counts) (movedAt pool m) 0 =
@@ -308,10 +382,11 @@ module _ (bids : List Bid) (m price : ℕ) (lm : m < 32) (low : price ≤ priceL
         let to-same : getD (half .counts) (missedMovedAt pool m) 0 ≡ getD (u .counts) (missedMovedAt pool m) 0 =
         torn-other u (allocatedAt pool m) (missedAt pool m) old price (missedMovedAt pool m) (λ e. absurd (omega arith)) (λ e. absurd (omega arith)) in
         rw (is, to) at
-        (torn-kept half bids (map (tornIf (allocatedIn m pool) price) roll) half-kept (movedAt pool m) (132 + (4 * m + pool)) pool price (movedIn m pool) (omega arith) (omega arith) lp low
+        (noted-kept half bids (map (tornIf (allocatedIn m pool) price) roll) half-kept (movedAt pool m) (132 + (4 * m + pool)) pool price (Torn price) (movedIn m pool) (omega arith) (omega arith) lp low
         (ap (λ (e : Entry). e .pool) is) (omega arith) (omega arith)
-        (moved-alone (half .allocation) (half .tearup) bids m pool lm lp) (moved-here (half .allocation) (half .tearup) bids m pool lm lp)
-        (λ some. rw (to, to-same) (free .moved (rw from-same at some))))
+        (moved-alone (half .allocation) (half .noted) (half .buyers) bids m pool lm lp) (moved-here (half .allocation) (half .noted) (half .buyers) bids m pool lm lp)
+        (λ some. rw (to, to-same) (free .moved (rw from-same at some)))
+        (price-torn bids price) (torn-label half bids (132 + (4 * m + pool)) pool price (omega arith) (omega arith)))
 
   -- all of them: after n pools those of the others are as they were
   module _ (u : Units) (roll : List Entry) (kept : Kept u bids roll) (free : (pool : ℕ) → pool < 4 → Free u pool) where
@@ -320,9 +395,9 @@ module _ (bids : List Bid) (m price : ℕ) (lm : m < 32) (low : price ≤ priceL
       pub later : (pool : ℕ) → n ≤ pool → pool < 4 → Free v pool
 
     later-same : (v : Units) (n pool : ℕ) → n < 4 → n < pool → pool < 4 → (j : ℕ) → (4 ≤ j) → (j % 4 ≡ pool)
-        → getD (tornUp (tornUp v (allocatedAt n m) (missedAt n m) (getD (v .allocation) n 0) price) (movedAt n m) (missedMovedAt n m) zeroPrice price .counts) j 0 ≡ getD (v .counts) j 0
+        → getD (notedAt (notedAt v (allocatedAt n m) (missedAt n m) (getD (v .allocation) n 0) price) (movedAt n m) (missedMovedAt n m) zeroPrice price .counts) j 0 ≡ getD (v .counts) j 0
     later-same v n pool ln up lp j far row =
-        torn-other (tornUp v (allocatedAt n m) (missedAt n m) (getD (v .allocation) n 0) price) (movedAt n m) (missedMovedAt n m) zeroPrice price j (λ e. absurd (omega arith)) (λ e. absurd (omega arith))
+        torn-other (notedAt v (allocatedAt n m) (missedAt n m) (getD (v .allocation) n 0) price) (movedAt n m) (missedMovedAt n m) zeroPrice price j (λ e. absurd (omega arith)) (λ e. absurd (omega arith))
         ∙ torn-other v (allocatedAt n m) (missedAt n m) (getD (v .allocation) n 0) price j (λ e. absurd (omega arith)) (λ e. absurd (omega arith))
 
     missing : (n : ℕ) → n ≤ 4 → Missing n (missedTo m price n u)

@@ -38,17 +38,17 @@ module _ (bids : List Bid) (pool : ℕ) (e : Entry) where
 
 -- the counts and the sums are those of the roll
 pub record Tied (counts sums : List ℕ) (unit : ℕ → Entry) (bids : List Bid) (roll : List Entry) : Type 0 where
-  pub long : length counts ≡ 776
+  pub long : length counts ≡ 780
   pub four : length sums ≡ 4
   pub counted : Counted counts unit roll
   -- each price is held 1,000,000 too high, the sum of a pool 1,000,000,000
   pub summed : (pool : ℕ) → pool < 4 → getD sums pool 0 + zeroPrice * over roll (inPool pool) ≡ zeroSum + over roll (priceIn bids pool)
   pub few : (pool : ℕ) → over roll (inPool pool) ≤ 1000
   pub all : over roll (λ e. 1) ≤ 4000
-  pub low : (k : ℕ) → k < 776 → priceOf bids (unit k .state) ≤ priceLimit
+  pub low : (k : ℕ) → k < 780 → priceOf bids (unit k .state) ≤ priceLimit
 
 -- no place has more units than the roll has entries
-pub few-units : (counts : List ℕ) (unit : ℕ → Entry) (roll : List Entry) → Counted counts unit roll → over roll (λ e. 1) ≤ 4000 → (k : ℕ) → k < 776 → getD counts k 0 ≤ 4000
+pub few-units : (counts : List ℕ) (unit : ℕ → Entry) (roll : List Entry) → Counted counts unit roll → over roll (λ e. 1) ≤ 4000 → (k : ℕ) → k < 780 → getD counts k 0 ≤ 4000
 few-units counts unit roll counted all k l = omega (arith, counted .all (λ e. 1), weigh-term counts k (λ i. 1) l, mul-one (getD counts k 0))
 
 -- the prices of a pool are within what its units can have
@@ -59,7 +59,7 @@ price-within bids pool e low =
     (λ t. let h = not-in-it bids pool e (eqb-false (e .pool) pool t) in rw (h .0, h .1) (omega arith))
 
 prices-within : (counts : List ℕ) (unit : ℕ → Entry) (bids : List Bid) (roll : List Entry) → Counted counts unit roll
-    → ((k : ℕ) → k < 776 → priceOf bids (unit k .state) ≤ priceLimit) → (pool : ℕ) → over roll (priceIn bids pool) ≤ over roll (inPool pool) * priceLimit
+    → ((k : ℕ) → k < 780 → priceOf bids (unit k .state) ≤ priceLimit) → (pool : ℕ) → over roll (priceIn bids pool) ≤ over roll (inPool pool) * priceLimit
 prices-within counts unit bids roll counted low pool =
     sum-scaled priceLimit (priceIn bids pool) (inPool pool) roll
     (each-more _ _ (λ e h. leb-true (priceIn bids pool e) (inPool pool e * priceLimit) h) roll
@@ -78,7 +78,7 @@ sum-repriced sum n old new units was is held changed few within =
 -- ---- units that pass from place to place, within a pool
 
 module _ (counts sums : List ℕ) (unit : ℕ → Entry) (bids : List Bid) (roll : List Entry) (tied : Tied counts sums unit bids roll) where
-  module _ (from to n pool : ℕ) (lf : from < 776) (lt : to < 776) (apart : to ≡ from → ⊥) (few : n ≤ getD counts from 0) (lp : pool < 4) (pf : unit from .pool ≡ pool) (pt : unit to .pool ≡ pool)
+  module _ (from to n pool : ℕ) (lf : from < 780) (lt : to < 780) (apart : to ≡ from → ⊥) (few : n ≤ getD counts from 0) (lp : pool < 4) (pf : unit from .pool ≡ pool) (pt : unit to .pool ≡ pool)
       (next : List Entry) (swap : Swap roll next n (unit from) (unit to)) where
     abbrev old : ℕ
     old = priceOf bids (unit from .state)
@@ -160,8 +160,8 @@ unfolding priceIn
 price-same bids bids' pool e h = rw h
 
 pub relabelled : (counts sums : List ℕ) (unit unit' : ℕ → Entry) (bids bids' : List Bid) (roll : List Entry) → Tied counts sums unit bids roll
-    → ((k : ℕ) → k < 776 → 0 < getD counts k 0 → unit' k ≡ unit k) → ((k : ℕ) → k < 776 → 0 < getD counts k 0 → priceOf bids' (unit k .state) ≡ priceOf bids (unit k .state))
-    → ((k : ℕ) → k < 776 → priceOf bids' (unit' k .state) ≤ priceLimit) → Tied counts sums unit' bids' roll
+    → ((k : ℕ) → k < 780 → 0 < getD counts k 0 → unit' k ≡ unit k) → ((k : ℕ) → k < 780 → 0 < getD counts k 0 → priceOf bids' (unit k .state) ≡ priceOf bids (unit k .state))
+    → ((k : ℕ) → k < 780 → priceOf bids' (unit' k .state) ≤ priceLimit) → Tied counts sums unit' bids' roll
 relabelled counts sums unit unit' bids bids' roll tied same prices low = record {
   long = tied .long;
   four = tied .four;

@@ -30,20 +30,20 @@ point (suc n) k g h l same =
     (λ m. omega (arith, point n k g h m (λ i o a. same i (omega arith) a), same n (omega arith) (omega arith)))
     (eq-or-lt-of-le (le-of-suc-le-suc l))
 
-module _ (counts : List ℕ) (long : length counts ≡ 776) where
+module _ (counts : List ℕ) (long : length counts ≡ 780) where
   -- another count at one place
-  count-changed : (k n : ℕ) (v : ℕ → ℕ) → k < 776 → weigh (set counts k n) v + getD counts k 0 * v k ≡ weigh counts v + n * v k
+  count-changed : (k n : ℕ) (v : ℕ → ℕ) → k < 780 → weigh (set counts k n) v + getD counts k 0 * v k ≡ weigh counts v + n * v k
   unfolding weigh
   count-changed k n v l =
-      point 776 k (λ i. getD counts i 0 * v i) (λ i. getD (set counts k n) i 0 * v i) l (λ i m a. rw (getD-set-other counts k i n 0 a))
+      point 780 k (λ i. getD counts i 0 * v i) (λ i. getD (set counts k n) i 0 * v i) l (λ i m a. rw (getD-set-other counts k i n 0 a))
       ∙ rw (getD-set-same counts k n 0 (omega arith))
 
   -- n units more
-  pub weigh-added : (k n : ℕ) (v : ℕ → ℕ) → k < 776 → getD counts k 0 + n ≤ most16 → weigh (addAt most16 counts k n) v ≡ weigh counts v + n * v k
+  pub weigh-added : (k n : ℕ) (v : ℕ → ℕ) → k < 780 → getD counts k 0 + n ≤ most16 → weigh (addAt most16 counts k n) v ≡ weigh counts v + n * v k
   weigh-added k n v l fits = rw (added most16 counts k n fits) (omega (arith, count-changed k (getD counts k 0 + n) v l, add-mul (getD counts k 0) n (v k)))
 
   -- n units less
-  weigh-taken : (k n : ℕ) (v : ℕ → ℕ) → k < 776 → n ≤ getD counts k 0 → weigh (set counts k (getD counts k 0 - n)) v + n * v k ≡ weigh counts v
+  weigh-taken : (k n : ℕ) (v : ℕ → ℕ) → k < 780 → n ≤ getD counts k 0 → weigh (set counts k (getD counts k 0 - n)) v + n * v k ≡ weigh counts v
   weigh-taken k n v l few =
       let has = getD counts k 0 in
       let rest : has - n + n ≡ has = omega arith in
@@ -55,7 +55,7 @@ unfolding transferred addAt
 length-transferred counts from to n = length-set (set counts from (getD counts from 0 - n)) to _ ∙ length-set counts from _
 
 -- n units that pass from one place to another
-pub weigh-transferred : (counts : List ℕ) → length counts ≡ 776 → (from to n : ℕ) (v : ℕ → ℕ) → from < 776 → to < 776 → (to ≡ from → ⊥) → n ≤ getD counts from 0
+pub weigh-transferred : (counts : List ℕ) → length counts ≡ 780 → (from to n : ℕ) (v : ℕ → ℕ) → from < 780 → to < 780 → (to ≡ from → ⊥) → n ≤ getD counts from 0
     → getD counts to 0 + n ≤ most16 → weigh (transferred counts from to n) v + n * v from ≡ weigh counts v + n * v to
 unfolding transferred
 weigh-transferred counts long from to n v lf lt apart few fits =
@@ -67,21 +67,21 @@ weigh-transferred counts long from to n v lf lt apart few fits =
 
 module _ (counts : List ℕ) where
   -- only the places that have units count
-  pub weigh-ext : (v w : ℕ → ℕ) → ((k : ℕ) → k < 776 → 0 < getD counts k 0 → v k ≡ w k) → weigh counts v ≡ weigh counts w
+  pub weigh-ext : (v w : ℕ → ℕ) → ((k : ℕ) → k < 780 → 0 < getD counts k 0 → v k ≡ w k) → weigh counts v ≡ weigh counts w
   unfolding weigh
   weigh-ext v w same =
-      sumTo-ext 776 _ _
+      sumTo-ext 780 _ _
       (λ k l. ⊎-elim
       (λ some. ap (λ (x : ℕ). getD counts k 0 * x) (same k l some))
       (λ h. let none : getD counts k 0 ≡ 0 = omega arith in rw none (zero-mul (v k) ∙ sym (zero-mul (w k))))
       (lt-or-le 0 (getD counts k 0)))
 
   -- another value at one place
-  pub weigh-point : (k : ℕ) (v w : ℕ → ℕ) → k < 776 → ((i : ℕ) → i < 776 → (i ≡ k → ⊥) → 0 < getD counts i 0 → w i ≡ v i)
+  pub weigh-point : (k : ℕ) (v w : ℕ → ℕ) → k < 780 → ((i : ℕ) → i < 780 → (i ≡ k → ⊥) → 0 < getD counts i 0 → w i ≡ v i)
       → weigh counts w + getD counts k 0 * v k ≡ weigh counts v + getD counts k 0 * w k
   unfolding weigh
   weigh-point k v w l same =
-      point 776 k (λ i. getD counts i 0 * v i) (λ i. getD counts i 0 * w i) l
+      point 780 k (λ i. getD counts i 0 * v i) (λ i. getD counts i 0 * w i) l
       (λ i li a. ⊎-elim
       (λ some. ap (λ (x : ℕ). getD counts i 0 * x) (same i li a some))
       (λ h. let none : getD counts i 0 ≡ 0 = omega arith in rw none (zero-mul (w i) ∙ sym (zero-mul (v i))))
@@ -89,15 +89,15 @@ module _ (counts : List ℕ) where
 
   pub weigh-zero : weigh counts (λ k. 0) ≡ 0
   unfolding weigh
-  weigh-zero = sumTo-ext 776 (λ k. getD counts k 0 * 0) (λ k. 0) (λ k l. mul-zero (getD counts k 0)) ∙ sumTo-zero 776
+  weigh-zero = sumTo-ext 780 (λ k. getD counts k 0 * 0) (λ k. 0) (λ k l. mul-zero (getD counts k 0)) ∙ sumTo-zero 780
 
-  pub weigh-none : (v : ℕ → ℕ) → ((k : ℕ) → k < 776 → 0 < getD counts k 0 → v k ≡ 0) → weigh counts v ≡ 0
+  pub weigh-none : (v : ℕ → ℕ) → ((k : ℕ) → k < 780 → 0 < getD counts k 0 → v k ≡ 0) → weigh counts v ≡ 0
   weigh-none v none = weigh-ext v (λ k. 0) none ∙ weigh-zero
 
   -- one place is at most all
-  pub weigh-term : (k : ℕ) (v : ℕ → ℕ) → k < 776 → getD counts k 0 * v k ≤ weigh counts v
+  pub weigh-term : (k : ℕ) (v : ℕ → ℕ) → k < 780 → getD counts k 0 * v k ≤ weigh counts v
   unfolding weigh
-  weigh-term k v l = sumTo-term 776 (λ i. getD counts i 0 * v i) k l
+  weigh-term k v l = sumTo-term 780 (λ i. getD counts i 0 * v i) k l
 
 -- ---- tests of entries
 
@@ -128,11 +128,11 @@ over-each p (e ∷ es) h = (passes (p e) (omega arith), over-each p es (omega ar
 
 module _ (counts : List ℕ) (unit : ℕ → Entry) (roll : List Entry) (counted : Counted counts unit roll) (p : Entry → Bool) where
   -- from the units that are counted to the entries
-  pub each-entry : ((k : ℕ) → k < 776 → 0 < getD counts k 0 → p (unit k) ≡ true) → Each (λ e. p e ≡ true) roll
+  pub each-entry : ((k : ℕ) → k < 780 → 0 < getD counts k 0 → p (unit k) ≡ true) → Each (λ e. p e ≡ true) roll
   each-entry h = over-each p roll (counted .all (failing p) ∙ weigh-none counts (λ k. failing p (unit k)) (λ k l some. fails-not (p (unit k)) (h k l some)))
 
   -- and back
-  pub each-unit : Each (λ e. p e ≡ true) roll → (k : ℕ) → k < 776 → 0 < getD counts k 0 → p (unit k) ≡ true
+  pub each-unit : Each (λ e. p e ≡ true) roll → (k : ℕ) → k < 780 → 0 < getD counts k 0 → p (unit k) ≡ true
   unfolding oneIf
   each-unit h k l some =
       let none : getD counts k 0 * failing p (unit k) ≡ 0 =

@@ -1,11 +1,11 @@
--- The units of a case are counted at 776 places, each for units that are alike, and what it means that they are the counts of a roll.
+-- The units of a case are counted at 780 places, each for units that are alike, and what it means that they are the counts of a roll.
 use mathlib.Core.Path.{_≡_}
 use mathlib.Core.List.{List, map}
 use Prim.Native.Nat.{ℕ, _+_, _-_, _*_, _/_, _%_}
 use lib.Dec.{ltb}
 use lib.ListN.{getD}
 use Rattle.lists.specs.Lists.{if_then_else_, sum, sumTo}
-use Rattle.machine.specs.Roll.{Entry, Open, Sold, Allocated, Moved, Torn, Bid, noBid}
+use Rattle.machine.specs.Roll.{Entry, Open, Sold, Allocated, Moved, Torn, Agreed, Bid, noBid}
 
 -- ---- the places. What belongs to member m in pool p stands 4 × m + p places behind the first of its kind
 
@@ -30,14 +30,20 @@ missedAt pool m = 520 + (4 * m + pool)
 abbrev pub missedMovedAt : ℕ → ℕ → ℕ
 missedMovedAt pool m = 648 + (4 * m + pool)
 
--- the entry that is counted at a place, by the price of each pool's ALLOCATE, the prices of torn units and the bids
-unfoldable pub unitAt : List ℕ → List ℕ → List Bid → ℕ → Entry
-unitAt allocation tearup bids k =
+-- the units of a pool sold by agreement (document 02, C-12)
+abbrev pub agreedAt : ℕ → ℕ
+agreedAt pool = 776 + pool
+
+-- the entry that is counted at a place, by the price of each pool's ALLOCATE, the prices noted for the places from 516 on, the member to whom each pool was
+-- sold by agreement, and the bids
+unfoldable pub unitAt : List ℕ → List ℕ → List ℕ → List Bid → ℕ → Entry
+unitAt allocation noted buyers bids k =
     if ltb k 4 then record { pool = k; state = Open }
     else if ltb k 132 then record { pool = k % 4; state = Allocated ((k - 4) / 4) (getD allocation (k % 4) 0) }
     else if ltb k 388 then record { pool = getD bids (k - 132) noBid .pool; state = Sold (k - 132) }
     else if ltb k 516 then record { pool = k % 4; state = Moved ((k - 388) / 4) }
-    else record { pool = k % 4; state = Torn (getD tearup (k - 516) 0) }
+    else if ltb k 776 then record { pool = k % 4; state = Torn (getD noted (k - 516) 0) }
+    else record { pool = k % 4; state = Agreed (getD buyers (k % 4) 0) (getD noted (k - 516) 0) }
 
 -- ---- sums over all units
 
@@ -47,7 +53,7 @@ over roll f = sum (map f roll)
 
 -- the sum of v over the places, each times the units counted there
 unfoldable pub weigh : List ℕ → (ℕ → ℕ) → ℕ
-weigh counts v = sumTo 776 (λ k. getD counts k 0 * v k)
+weigh counts v = sumTo 780 (λ k. getD counts k 0 * v k)
 
 -- the counts are those of the roll: whatever is added up over its entries can be added up over the counts
 pub record Counted (counts : List ℕ) (unit : ℕ → Entry) (roll : List Entry) : Type 0 where

@@ -1,17 +1,24 @@
 -- What is read of the units.
-use mathlib.Core.Bool.{_&&_}
+use mathlib.Core.Bool.{Bool, _&&_}
 use mathlib.Core.List.{List}
 use Prim.Native.Nat.{ℕ, zero, suc, _+_, _*_}
 use lib.Dec.{ltb, eqb}
 use lib.ListN.{getD}
 use Rattle.lists.specs.Lists.{if_then_else_, sumTo}
 use Rattle.auction.specs.Price.{zeroPrice}
-use Rattle.units.specs.Places.{allocatedAt, soldAt, movedAt}
+use Rattle.units.specs.Places.{allocatedAt, soldAt, movedAt, agreedAt}
 use Rattle.units.specs.declared.Units.{Units}
 
 -- the open units of a pool; none in a pool that no case has
 unfoldable pub openOf : Units → ℕ → ℕ
 openOf u pool = if ltb pool 4 then getD (u .counts) pool 0 else 0
+
+-- the units of a pool sold by agreement, and whether the pool was so sold
+unfoldable pub agreedOf : Units → ℕ → ℕ
+agreedOf u pool = if ltb pool 4 then getD (u .counts) (agreedAt pool) 0 else 0
+
+abbrev pub soldOf : Units → ℕ → Bool
+soldOf u pool = ltb 0 (agreedOf u pool)
 
 -- n counts, each four places behind the last
 unfoldable pub column : List ℕ → ℕ → ℕ → ℕ
@@ -21,10 +28,10 @@ column counts first n = sumTo n (λ r. getD counts (first + 4 * r) 0)
 unfoldable pub soldIn : List ℕ → List ℕ → ℕ → ℕ
 soldIn counts pools pool = sumTo 256 (λ b. if eqb (getD pools b 0) pool then getD counts (soldAt b) 0 else 0)
 
--- how many units of a pool are of a kind: open 0, sold 1, allocated 2, moved 3, torn 4
+-- how many units of a pool are of a kind: open 0, sold 1, allocated 2, moved 3, torn 4. Document 02, C-12: "the entry sold by agreement, counted as sold"
 abbrev pub kindOf : Units → List ℕ → ℕ → ℕ → ℕ
 kindOf u pools pool zero = column (u .counts) pool 1
-kindOf u pools pool (suc zero) = soldIn (u .counts) pools pool
+kindOf u pools pool (suc zero) = soldIn (u .counts) pools pool + getD (u .counts) (agreedAt pool) 0
 kindOf u pools pool (suc (suc zero)) = column (u .counts) (4 + pool) 32
 kindOf u pools pool (suc (suc (suc zero))) = column (u .counts) (388 + pool) 32
 kindOf u pools pool (suc (suc (suc (suc zero)))) = column (u .counts) (516 + pool) 65
@@ -33,7 +40,7 @@ kindOf u pools pool (suc (suc (suc (suc (suc k))))) = 0
 unfoldable pub countOf : Units → List ℕ → ℕ → ℕ → ℕ
 countOf u pools pool kind = if ltb pool 4 then kindOf u pools pool kind else 0
 
--- the units of a pool that a member holds at a price: sold to its bids, allocated and moved to it
+-- the units of a pool that a member holds at a price: sold to its bids, allocated and moved to it, and sold to it by agreement
 unfoldable pub soldFor : List ℕ → List ℕ → List ℕ → List ℕ → ℕ → ℕ → ℕ → ℕ
 soldFor counts members pools prices m pool price =
     sumTo 256
@@ -45,6 +52,7 @@ holdingOf u members pools prices m pool price =
     soldFor (u .counts) members pools prices m pool price
     + (if eqb (getD (u .allocation) pool 0) price then getD (u .counts) (allocatedAt pool m) 0 else 0)
     + (if eqb price zeroPrice then getD (u .counts) (movedAt pool m) 0 else 0)
+    + (if eqb (getD (u .buyers) pool 0) m && eqb (getD (u .noted) (260 + pool) 0) price then getD (u .counts) (agreedAt pool) 0 else 0)
     else 0
 
 -- the units allocated or moved to a member

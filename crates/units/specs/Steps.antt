@@ -7,7 +7,7 @@ use Rattle.lists.specs.Lists.{if_then_else_}
 use Rattle.lists.specs.Adding.{most16, most32, addAt}
 use Rattle.sets.specs.Set.{members}
 use Rattle.auction.specs.Price.{zeroPrice}
-use Rattle.units.specs.Places.{allocatedAt, soldAt, movedAt, tornAt, missedAt, missedMovedAt}
+use Rattle.units.specs.Places.{allocatedAt, soldAt, movedAt, tornAt, missedAt, missedMovedAt, agreedAt}
 use Rattle.units.specs.declared.Units.{Units}
 
 -- what a sum of prices of 0 cents is held as
@@ -16,7 +16,7 @@ zeroSum = 1_000_000_000
 
 -- no unit
 unfoldable pub noUnits : Units
-noUnits = record { counts = replicate 776 0; sums = replicate 4 zeroSum; allocation = replicate 4 0; tearup = replicate 260 0 }
+noUnits = record { counts = replicate 780 0; sums = replicate 4 zeroSum; allocation = replicate 4 0; noted = replicate 264 0; buyers = replicate 4 0 }
 
 -- n units of one place counted at another
 unfoldable pub transferred : List ℕ → ℕ → ℕ → ℕ → List ℕ
@@ -27,7 +27,7 @@ unfoldable pub repriced : List ℕ → ℕ → ℕ → ℕ → ℕ → List ℕ
 repriced sums pool n old new = set sums pool (min (getD sums pool 0 + n * new - n * old) most32)
 
 abbrev pub withCounts : Units → List ℕ → List ℕ → Units
-withCounts u counts sums = record { counts = counts; sums = sums; allocation = u .allocation; tearup = u .tearup }
+withCounts u counts sums = record { counts = counts; sums = sums; allocation = u .allocation; noted = u .noted; buyers = u .buyers }
 
 -- POOL: n units of the pool put up; unchanged where no case has such a pool
 unfoldable pub putUpUnits : Units → ℕ → ℕ → Units
@@ -72,33 +72,42 @@ allocateUnits u members' pool price shares =
       counts = sharedCounts pool shares (members members') (u .counts);
       sums = sharedSums pool price shares (members members') (u .sums);
       allocation = set (u .allocation) pool price;
-      tearup = u .tearup;
+      noted = u .noted;
+      buyers = u .buyers;
     }
     else u
 
--- ---- TEAR and MISS
+-- ---- TEAR, MISS and SALE
 
--- all units of a place torn up, which are counted at another from now on; `old` was their price. Where there is none, no price is noted
-unfoldable pub tornUp : Units → ℕ → ℕ → ℕ → ℕ → Units
-tornUp u k to old price =
+-- all units of a place counted at another from now on, where their price is noted; `old` was their price. Where there is none, no price is noted
+unfoldable pub notedAt : Units → ℕ → ℕ → ℕ → ℕ → Units
+notedAt u k to old price =
     let n = getD (u .counts) k 0 in
     record {
       counts = transferred (u .counts) k to n;
       sums = repriced (u .sums) (k % 4) n old price;
       allocation = u .allocation;
-      tearup = if eqb n 0 then u .tearup else set (u .tearup) (to - 516) price;
+      noted = if eqb n 0 then u .noted else set (u .noted) (to - 516) price;
+      buyers = u .buyers;
     }
 
 -- TEAR: every open unit of the pool
 unfoldable pub tearUnits : Units → ℕ → ℕ → Units
-tearUnits u pool price = if ltb pool 4 then tornUp u pool (tornAt pool) zeroPrice price else u
+tearUnits u pool price = if ltb pool 4 then notedAt u pool (tornAt pool) zeroPrice price else u
 
 -- MISS: every unit allocated or moved to the member, in the first n pools
 unfoldable pub missedTo : ℕ → ℕ → ℕ → Units → Units
 missedTo m price zero u = u
 missedTo m price (suc pool) u =
     let v = missedTo m price pool u in
-    tornUp (tornUp v (allocatedAt pool m) (missedAt pool m) (getD (v .allocation) pool 0) price) (movedAt pool m) (missedMovedAt pool m) zeroPrice price
+    notedAt (notedAt v (allocatedAt pool m) (missedAt pool m) (getD (v .allocation) pool 0) price) (movedAt pool m) (missedMovedAt pool m) zeroPrice price
 
 unfoldable pub missUnits : Units → ℕ → ℕ → Units
 missUnits u m price = if ltb m 32 then missedTo m price 4 u else u
+
+-- SALE: every open unit of the pool sold to the member
+abbrev pub withBuyer : Units → ℕ → ℕ → Units
+withBuyer u pool m = record { counts = u .counts; sums = u .sums; allocation = u .allocation; noted = u .noted; buyers = set (u .buyers) pool m }
+
+unfoldable pub saleUnits : Units → ℕ → ℕ → ℕ → Units
+saleUnits u pool m price = if ltb pool 4 then notedAt (withBuyer u pool m) pool (agreedAt pool) zeroPrice price else u

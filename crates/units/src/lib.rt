@@ -1,30 +1,31 @@
-// The units of a case (document 01), counted at 776 places, each for units that are alike: the open units of a pool, those allocated or moved to a member in a
-// pool, those sold to a bid, and those torn up, by where they came from. A unit changes by passing from one place to another.
+// The units of a case (documents 01 and 02), counted at 780 places, each for units that are alike: the open units of a pool, those allocated or moved to a member in a
+// pool, those sold to a bid, those torn up, by where they came from, and those sold by agreement. A unit changes by passing from one place to another.
 ghost use mathlib.Core.Path.{_≡_};
 ghost use mathlib.Core.Bool.{cond};
 ghost use Prim.Native.Nat.{_+_, _-_, _*_, _<_, _≤_, min};
 ghost use lib.ListN.{getD};
 ghost use Rattle.auction.specs.Price.{zeroPrice};
-ghost use Rattle.units.specs.Steps.{noUnits, transferred, repriced, withCounts, putUpUnits, sellUnits, allocateUnits, tornUp, tearUnits, missUnits};
+ghost use Rattle.units.specs.Steps.{noUnits, transferred, repriced, withCounts, putUpUnits, sellUnits, allocateUnits, notedAt, tearUnits, missUnits, saleUnits};
 ghost use Rattle.units.specs.Groups.{poolAt, moveUnits};
-ghost use Rattle.units.specs.Shown.{openOf, column, soldIn, countOf, soldFor, holdingOf, passedOf, pricesOf};
+ghost use Rattle.units.specs.Shown.{openOf, agreedOf, column, soldIn, countOf, soldFor, holdingOf, passedOf, pricesOf};
 
 // `counts`: 0 to 3 the open units of a pool; from 4 on those allocated to member m in pool p, at 4 × m + p; from 132 on those sold to a bid; from 388 on those
-// moved to a member; from 516 on those torn up that were open or allocated, and from 648 on those that were moved.
+// moved to a member; from 516 on those torn up that were open or allocated, and from 648 on those that were moved; from 776 on those of a pool sold by agreement.
 // `sums`: the sum of the prices of a pool's units that are not open, as cents + 1,000,000,000.
-// `allocation`: the price of a pool's ALLOCATE. `tearup`: the prices of the places from 516 on.
+// `allocation`: the price of a pool's ALLOCATE. `noted`: the prices of the places from 516 on. `buyers`: the member to whom a pool was sold by agreement.
 pub struct Units {
-    pub counts: [u16; 776],
+    pub counts: [u16; 780],
     pub sums: [u32; 4],
     pub allocation: [u32; 4],
-    pub tearup: [u32; 260],
+    pub noted: [u32; 264],
+    pub buyers: [u8; 4],
 }
 
 // ---- units that pass from place to place
 
 // n units of one place counted at another.
-fn transfer(counts: &mut [u16; 776], from: usize, to: usize, n: u16)
-    requires { ⌜ from < 776 ⌝ }
+fn transfer(counts: &mut [u16; 780], from: usize, to: usize, n: u16)
+    requires { ⌜ from < 780 ⌝ }
     ensures { λ _. ⌜ now (counts .exit) ≡ transferred (now (counts .entry)) from to n ⌝ }
 {
     let left = lists::less(lists::wide16(counts[from]), lists::wide16(n));
@@ -49,10 +50,10 @@ fn pool_place(pool: u8) -> usize
     if pool < 3 { lists::place(pool) } else { 3 }
 }
 
-// All units of a place torn up: they are counted at the place `to` from now on, and `old` was their price.
-fn torn_up(u: Units, k: usize, to: usize, old: u32, price: u32) -> Units
-    requires { ⌜ (k < 516) × (516 ≤ to) × (to < 776) ⌝ }
-    ensures { λ r. ⌜ r ≡ tornUp u k to old price ⌝ }
+// All units of a place counted at the place `to` from now on, where their price is noted; `old` was their price.
+fn noted_at(u: Units, k: usize, to: usize, old: u32, price: u32) -> Units
+    requires { ⌜ (k < 516) × (516 ≤ to) × (to < 780) ⌝ }
+    ensures { λ r. ⌜ r ≡ notedAt u k to old price ⌝ }
 {
     let mut counts = u.counts;
     let mut sums = u.sums;
@@ -65,19 +66,19 @@ fn torn_up(u: Units, k: usize, to: usize, old: u32, price: u32) -> Units
     if n == 0 {
         return out;
     }
-    out.tearup[to - 516] = price;
+    out.noted[to - 516] = price;
     out
 }
 
 // MISS in one pool.
 fn missed_in(u: Units, m: usize, pool: usize, price: u32) -> Units
     requires { ⌜ (m < 32) × (pool < 4) ⌝ }
-    ensures { λ r. ⌜ r ≡ tornUp (tornUp u (4 + (4 * m + pool)) (520 + (4 * m + pool)) (getD (u .allocation) pool 0) price) (388 + (4 * m + pool)) (648 + (4 * m + pool)) zeroPrice price ⌝ }
+    ensures { λ r. ⌜ r ≡ notedAt (notedAt u (4 + (4 * m + pool)) (520 + (4 * m + pool)) (getD (u .allocation) pool 0) price) (388 + (4 * m + pool)) (648 + (4 * m + pool)) zeroPrice price ⌝ }
 {
     let k = 4 * m + pool;
     let old = u.allocation[pool];
-    let next = torn_up(u, 4 + k, 520 + k, old, price);
-    torn_up(next, 388 + k, 648 + k, 1_000_000, price)
+    let next = noted_at(u, 4 + k, 520 + k, old, price);
+    noted_at(next, 388 + k, 648 + k, 1_000_000, price)
 }
 
 // The pool of the units at place j of the 384 from 4 on; the pools of the bids are lent.
@@ -94,7 +95,7 @@ fn pool_at(pools: &[u8; 256], j: usize) -> usize
 // ---- what is added up
 
 // n counts, each four places behind the last.
-fn column_of(counts: &[u16; 776], first: usize, n: usize) -> u64
+fn column_of(counts: &[u16; 780], first: usize, n: usize) -> u64
     requires { ⌜ first + 4 * n ≤ 779 ⌝ }
     ensures { λ r. ⌜ r ≡ column (now (counts .entry)) first n ⌝ }
 {
@@ -108,8 +109,8 @@ fn column_of(counts: &[u16; 776], first: usize, n: usize) -> u64
 }
 
 // The units still sold to the bids that have a pool; the pools of the bids are lent.
-fn sold_in(counts: &[u16; 776], pools: &[u8; 256], pool: u8) -> u64
-    ensures { λ r. ⌜ r ≡ soldIn (now (counts .entry)) (now (pools .entry)) pool ⌝ }
+fn sold_in(counts: &[u16; 780], pools: &[u8; 256], pool: u8) -> u64
+    ensures { λ r. ⌜ (r ≡ soldIn (now (counts .entry)) (now (pools .entry)) pool) × (r ≤ 16776960) ⌝ }
 {
     let mut sum: u64 = 0;
     let mut b: usize = 0;
@@ -122,7 +123,7 @@ fn sold_in(counts: &[u16; 776], pools: &[u8; 256], pool: u8) -> u64
 
 // The units still sold to a member's bids in a pool at a price; the members, pools and prices of the bids are lent.
 fn sold_for(
-    counts: &[u16; 776],
+    counts: &[u16; 780],
     members: &[u8; 256],
     pools: &[u8; 256],
     prices: &[u32; 256],
@@ -154,10 +155,11 @@ impl Units {
         ensures { λ r. ⌜ r ≡ noUnits ⌝ }
     {
         Units {
-            counts: [0u16; 776],
+            counts: [0u16; 780],
             sums: [1_000_000_000u32; 4],
             allocation: [0u32; 4],
-            tearup: [0u32; 260],
+            noted: [0u32; 264],
+            buyers: [0u8; 4],
         }
     }
 
@@ -239,7 +241,20 @@ impl Units {
             return self;
         }
         let at = lists::place(pool);
-        torn_up(self, at, 516 + at, 1_000_000, price)
+        noted_at(self, at, 516 + at, 1_000_000, price)
+    }
+
+    // SALE: every open unit of the pool sold to the member at the price; unchanged where no case has such a pool.
+    pub fn sell_pool(self, pool: u8, member: u8, price: u32) -> Units
+        ensures { λ r. ⌜ r ≡ saleUnits self pool member price ⌝ }
+    {
+        if 4 <= pool {
+            return self;
+        }
+        let at = lists::place(pool);
+        let mut sold = self;
+        sold.buyers[at] = member;
+        noted_at(sold, at, 776 + at, 1_000_000, price)
     }
 
     // MISS: every unit allocated or moved to the member torn up at the price; unchanged where no set has such a member.
@@ -310,6 +325,20 @@ impl Units {
         }
     }
 
+    // The units of a pool sold by agreement. A place that is a number in the text is read without a copy of all counts.
+    pub fn agreed_units(self, pool: u8) -> u16
+        ensures { λ r. ⌜ r ≡ agreedOf self pool ⌝ }
+    {
+        let counts = self.counts;
+        match pool {
+            0 => counts[776],
+            1 => counts[777],
+            2 => counts[778],
+            3 => counts[779],
+            _ => 0,
+        }
+    }
+
     // How many units of a pool are open (0), sold (1), allocated (2), moved (3) or torn (4). The pools of the bids are lent.
     pub fn count(self, pool: u8, kind: u8, pools: &[u8; 256]) -> u64
         ensures { λ r. ⌜ r ≡ countOf self (now (pools .entry)) pool kind ⌝ }
@@ -321,7 +350,7 @@ impl Units {
         let counts = self.counts;
         match kind {
             0 => column_of(&counts, at, 1),
-            1 => sold_in(&counts, pools, pool),
+            1 => sold_in(&counts, pools, pool) + lists::wide16(counts[776 + at]),
             2 => column_of(&counts, 4 + at, 32),
             3 => column_of(&counts, 388 + at, 32),
             4 => column_of(&counts, 516 + at, 65),
@@ -354,7 +383,11 @@ impl Units {
         let sold = sold_for(&counts, members, pools, prices, m, pool, price);
         let allocated = lists::number_if(allocation[at] == price, lists::wide16(counts[4 + k]));
         let moved = lists::number_if(price == 1_000_000, lists::wide16(counts[388 + k]));
-        sold + allocated + moved
+        let buyers = self.buyers;
+        let noted = self.noted;
+        let here = lists::both(buyers[at] == m, noted[260 + at] == price);
+        let agreed = lists::number_if(here, lists::wide16(counts[776 + at]));
+        sold + allocated + moved + agreed
     }
 
     // The units allocated or moved to a member.
@@ -408,7 +441,7 @@ fn won_if(test: bool, won: u16) -> u16
 }
 
 // The units with other counts and sums.
-fn with_counts(u: Units, counts: [u16; 776], sums: [u32; 4]) -> Units
+fn with_counts(u: Units, counts: [u16; 780], sums: [u32; 4]) -> Units
     ensures { λ r. ⌜ r ≡ withCounts u counts sums ⌝ }
 {
     let mut out = u;

@@ -17,26 +17,26 @@ mul-old c = search needs
 element-copy-out-old : tie.Need-element-copy-out-old
 element-copy-out-old c = search needs
 
-add-torn-up : tie.Need-add-torn-up
-add-torn-up c = search needs
+add-noted-at : tie.Need-add-noted-at
+add-noted-at c = search needs
 
-add-torn-up-2 : tie.Need-add-torn-up-2
-add-torn-up-2 c = search needs
+add-noted-at-2 : tie.Need-add-noted-at-2
+add-noted-at-2 c = search needs
 
-torn-up-requires : tie.Need-torn-up-requires
-torn-up-requires c κs = search needs
+noted-at-requires : tie.Need-noted-at-requires
+noted-at-requires c κs = search needs
 
-add-torn-up-3 : tie.Need-add-torn-up-3
-add-torn-up-3 c = search needs
+add-noted-at-3 : tie.Need-add-noted-at-3
+add-noted-at-3 c = search needs
 
-add-torn-up-4 : tie.Need-add-torn-up-4
-add-torn-up-4 c = search needs
+add-noted-at-4 : tie.Need-add-noted-at-4
+add-noted-at-4 c = search needs
 
-torn-up-requires-2 : tie.Need-torn-up-requires-2
-torn-up-requires-2 c κs = search needs
+noted-at-requires-2 : tie.Need-noted-at-requires-2
+noted-at-requires-2 c κs = search needs
 
 returns : tie.Need-returns
-returns c = torn-twice _ _ _ _ _ _ _ _ _ _ _ refl (c .before .torn-up .ensures) (c .torn-up2 .ensures)
+returns c = torn-twice _ _ _ _ _ _ _ _ _ _ _ refl (c .before .noted-at .ensures) (c .noted-at2 .ensures)
 
 pub missed-in-spec : {M : Type 1} → statement M
 missed-in-spec =
@@ -46,10 +46,10 @@ missed-in-spec =
     add-k
     mul-old
     element-copy-out-old
-    add-torn-up
-    add-torn-up-2
-    torn-up-requires
-    add-torn-up-3
-    add-torn-up-4
-    torn-up-requires-2
+    add-noted-at
+    add-noted-at-2
+    noted-at-requires
+    add-noted-at-3
+    add-noted-at-4
+    noted-at-requires-2
     returns)

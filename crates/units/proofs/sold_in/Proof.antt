@@ -63,7 +63,7 @@ loop-again c = let l = c .before .before .before .before .before .loop in
 
 returns : tie.Need-returns Inv-loop μ-loop
 unfolding soldIn
-returns c = let n : c .before .loop .b ≡ 256 = omega arith in rw (← n) (c .before .loop .inv .1)
+returns c = let n : c .before .loop .b ≡ 256 = omega arith in (rw (← n) (c .before .loop .inv .1), omega (arith, c .before .loop .inv .2))
 
 pub sold-in-spec : {M : Type 1} → statement M
 sold-in-spec =

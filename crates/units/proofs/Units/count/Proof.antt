@@ -2,10 +2,12 @@
 use mathlib.Core.Path.{refl, sym}
 use native.Mathlib.Omega.{arith}
 use Rattle.units.proofs.Numbers.{kind-past}
-use Rattle.units.proofs.Results.{count-past, count-there, column-from}
+use Rattle.units.proofs.Results.{count-past, count-there, sold-there, column-from}
 use borrow.Author.Needs.{needs}
 use Rattle.units.proofs.Units.count.Statement.{statement}
 use Rattle.units.proofs.Units.count.Tie as tie
+use Rattle.units.proofs.column_of.Reads as column-of-reads
+use Rattle.units.proofs.sold_in.Reads as sold-in-reads
 
 returns : tie.Need-returns
 returns c = count-past _ _ _ _ (c .if1 .taken)
@@ -18,6 +20,21 @@ column-of-requires c κs = search needs
 
 sold-in-requires : tie.Need-sold-in-requires
 sold-in-requires c κs = search needs
+
+add-wide16 : tie.Need-add-wide16
+add-wide16 c = search needs
+
+mul-wide16 : tie.Need-mul-wide16
+mul-wide16 c = search needs
+
+array-read-wide16 : tie.Need-array-read-wide16
+array-read-wide16 c = search needs
+
+wide16-requires : tie.Need-wide16-requires
+wide16-requires c κs = search needs
+
+add-result : tie.Need-add-result
+add-result c = search needs
 
 add-column-of : tie.Need-add-column-of
 add-column-of c = search needs
@@ -41,7 +58,7 @@ returns-2 : tie.Need-returns-2
 returns-2 c = count-there _ _ _ _ 0 _ (c .before .before .before .before .before .if1 .left) (c .before .before .match .keys1) (rw (← c .before .before .before .before .place .ensures .0) (c .column-of .ensures))
 
 returns-3 : tie.Need-returns-3
-returns-3 c = count-there _ _ _ _ 1 _ (c .before .before .before .before .before .if1 .left) (c .before .before .match .keys2) (c .sold-in .ensures)
+returns-3 c = sold-there _ _ _ _ _ _ _ (c .before .before .before .before .before .before .if1 .left) (c .before .before .before .match .keys2) (c .before .before .before .before .before .place .ensures .0) (c .before .sold-in .ensures .0) (c .wide16 .ensures .0)
 
 returns-4 : tie.Need-returns-4
 returns-4 c = count-there _ _ _ _ 2 _ (c .before .before .before .before .before .if1 .left) (c .before .before .match .keys3) (column-from _ 4 _ _ _ _ (c .before .before .before .before .place .ensures .0) (c .column-of2 .ensures))
@@ -63,6 +80,11 @@ count-spec =
     place-requires
     column-of-requires
     sold-in-requires
+    add-wide16
+    mul-wide16
+    array-read-wide16
+    wide16-requires
+    add-result
     add-column-of
     column-of-requires-2
     add-column-of-2

@@ -10,14 +10,14 @@ returns c = tear-past _ _ _ (c .if1 .taken)
 place-requires : tie.Need-place-requires
 place-requires c κs = search needs
 
-add-torn-up : tie.Need-add-torn-up
-add-torn-up c = search needs
+add-noted-at : tie.Need-add-noted-at
+add-noted-at c = search needs
 
-torn-up-requires : tie.Need-torn-up-requires
-torn-up-requires c κs = search needs
+noted-at-requires : tie.Need-noted-at-requires
+noted-at-requires c κs = search needs
 
 returns-2 : tie.Need-returns-2
-returns-2 c = tear-there _ _ _ _ _ (c .before .before .if1 .left) (c .before .place .ensures .0) (c .torn-up .ensures)
+returns-2 c = tear-there _ _ _ _ _ (c .before .before .if1 .left) (c .before .place .ensures .0) (c .noted-at .ensures)
 
 pub tear-spec : {M : Type 1} → statement M
-tear-spec = tie.close (tie.spec returns place-requires add-torn-up torn-up-requires returns-2)
+tear-spec = tie.close (tie.spec returns place-requires add-noted-at noted-at-requires returns-2)

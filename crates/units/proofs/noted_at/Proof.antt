@@ -1,9 +1,9 @@
--- `units::torn_up` meets its contract. Assumes nothing.
+-- `units::noted_at` meets its contract. Assumes nothing.
 use mathlib.Core.Path.{refl}
 use Rattle.units.proofs.Results.{torn-none, torn-some}
 use borrow.Author.Needs.{needs}
-use Rattle.units.proofs.torn_up.Statement.{statement}
-use Rattle.units.proofs.torn_up.Tie as tie
+use Rattle.units.proofs.noted_at.Statement.{statement}
+use Rattle.units.proofs.noted_at.Tie as tie
 
 mul-n : tie.Need-mul-n
 mul-n c = search needs
@@ -32,8 +32,8 @@ element-write-out c = search needs
 returns-2 : tie.Need-returns-2
 returns-2 c = torn-some _ _ _ _ _ _ _ _ refl (c .before .before .before .transfer .ensures) (c .before .reprice .ensures) (c .if1 .left)
 
-pub torn-up-spec : {M : Type 1} → statement M
-torn-up-spec =
+pub noted-at-spec : {M : Type 1} → statement M
+noted-at-spec =
     tie.close
     (tie.spec
     mul-n
