@@ -77,3 +77,5 @@ decode-encode (Wire.PAY m amount) w = λ k. some (Wire.PAY (one-read m (w .0) k)
 decode-encode (Wire.MOVE m) w = λ k. some (Wire.MOVE (one-read m w k))
 decode-encode (Wire.MISS m price) w = λ k. some (Wire.MISS (one-read m (w .0) k) (price-bytes price (w .1) k))
 decode-encode Wire.FINISH w = refl
+decode-encode (Wire.SALE pool m price) w =
+    λ k. some (Wire.SALE (one-read pool (w .0) k) (one-read m (w .1) k) (price-bytes price (w .2) k))

@@ -71,3 +71,4 @@ InWidth (Wire.PAY m amount) = (m < 2 ^ 8) × (amount < 2 ^ 32)
 InWidth (Wire.MOVE m) = m < 2 ^ 8
 InWidth (Wire.MISS m price) = (m < 2 ^ 8) × (price < 2 ^ 32)
 InWidth Wire.FINISH = Unit {0}
+InWidth (Wire.SALE pool m price) = (pool < 2 ^ 8) × (m < 2 ^ 8) × (price < 2 ^ 32)

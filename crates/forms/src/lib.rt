@@ -17,7 +17,7 @@ pub struct Tagged {
 }
 
 // The kinds of the numbers, eight for each tag.
-const KINDS: [u8; 112] = *b"\
+const KINDS: [u8; 120] = *b"\
     \x00\x00\x00\x00\x00\x00\x00\x00\
     \x01\x02\x03\x04\x04\x04\x04\x04\
     \x01\x02\x01\x00\x00\x00\x00\x00\
@@ -31,7 +31,8 @@ const KINDS: [u8; 112] = *b"\
     \x01\x04\x00\x00\x00\x00\x00\x00\
     \x01\x00\x00\x00\x00\x00\x00\x00\
     \x01\x05\x00\x00\x00\x00\x00\x00\
-    \x00\x00\x00\x00\x00\x00\x00\x00";
+    \x00\x00\x00\x00\x00\x00\x00\x00\
+    \x01\x01\x05\x00\x00\x00\x00\x00";
 
 // A byte as a place.
 fn place(b: u8) -> usize
@@ -44,7 +45,7 @@ fn place(b: u8) -> usize
 pub fn kind(tag: u8, i: usize) -> u8
     ensures { λ r. ⌜ r ≡ kindOf tag i ⌝ }
 {
-    if 14 <= tag {
+    if 15 <= tag {
         return 0;
     }
     if 8 <= i {
@@ -167,6 +168,11 @@ pub fn flat(call: Call) -> Tagged
         Call::Move { member } => flat_of(11, 1, one_wide(member), 0, 0, 0, 0, 0),
         Call::Miss { member, price } => flat_of(12, 2, one_wide(member), price, 0, 0, 0, 0),
         Call::Finish => flat_of(13, 0, 0, 0, 0, 0, 0, 0),
+        Call::Sale {
+            pool,
+            member,
+            price,
+        } => flat_of(14, 3, one_wide(pool), one_wide(member), price, 0, 0, 0),
         Call::Unknown => flat_of(0, 0, 0, 0, 0, 0, 0, 0),
     }
 }

@@ -78,9 +78,10 @@ keys =
     ∷ member ∷ nokey ∷ nokey ∷ nokey ∷ nokey ∷ nokey ∷ nokey ∷ nokey
     ∷ member ∷ price ∷ nokey ∷ nokey ∷ nokey ∷ nokey ∷ nokey ∷ nokey
     ∷ nokey ∷ nokey ∷ nokey ∷ nokey ∷ nokey ∷ nokey ∷ nokey ∷ nokey
+    ∷ pool ∷ member ∷ price ∷ nokey ∷ nokey ∷ nokey ∷ nokey ∷ nokey
     ∷ []
 
--- the names of the calls, by tag: HEAD, POOL, MEMBER, ROUND, BID, CLOSE, ALLOCATE, TEAR, CALL, PAY, MOVE, MISS, FINISH
+-- the names of the calls, by tag: HEAD, POOL, MEMBER, ROUND, BID, CLOSE, ALLOCATE, TEAR, CALL, PAY, MOVE, MISS, FINISH, SALE
 abbrev pub names : List (List ℕ)
 names =
     []
@@ -97,11 +98,12 @@ names =
     ∷ (77 ∷ 79 ∷ 86 ∷ 69 ∷ [])
     ∷ (77 ∷ 73 ∷ 83 ∷ 83 ∷ [])
     ∷ (70 ∷ 73 ∷ 78 ∷ 73 ∷ 83 ∷ 72 ∷ [])
+    ∷ (83 ∷ 65 ∷ 76 ∷ 69 ∷ [])
     ∷ []
 
 -- the key of a call's number i
 unfoldable pub keyOf : ℕ → ℕ → List ℕ
-keyOf tag i = if ltb tag 14 && ltb i 8 then getD keys (tag * 8 + i) [] else []
+keyOf tag i = if ltb tag 15 && ltb i 8 then getD keys (tag * 8 + i) [] else []
 
 unfoldable pub nameOf : ℕ → List ℕ
 nameOf tag = getD names tag []

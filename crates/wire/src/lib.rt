@@ -1,4 +1,4 @@
-// The calls of document 01 as values, and how a call is read from any bytes.
+// The calls of document 01 and SALE of document 02 as values, and how a call is read from any bytes.
 ghost use mathlib.Core.Path.{_≡_};
 ghost use mathlib.Core.Bool.{true};
 ghost use mathlib.Core.Option.{some};
@@ -43,7 +43,7 @@ impl Head {
     pub const MAX_HOUSE_MONEY: u32 = 4_000_000_000;
 }
 
-// The thirteen calls, and what bytes are that are none of them. Prices are held as cents + 1,000,000.
+// The thirteen calls and SALE, and what bytes are that are none of them. Prices are held as cents + 1,000,000.
 pub enum Call {
     Head(Head),
     Pool {
@@ -96,6 +96,11 @@ pub enum Call {
         price: u32,
     },
     Finish,
+    Sale {
+        pool: u8,
+        member: u8,
+        price: u32,
+    },
     Unknown,
 }
 
@@ -120,10 +125,10 @@ impl Call {
 }
 
 // The last tag.
-pub const LAST_TAG: u8 = 13;
+pub const LAST_TAG: u8 = 14;
 
 // The length of each tag's value; ROUND's is not read here.
-const LENGTHS: [u8; 13] = [27, 4, 13, 0, 8, 0, 5, 5, 0, 5, 1, 5, 0];
+const LENGTHS: [u8; 14] = [27, 4, 13, 0, 8, 0, 5, 5, 0, 5, 1, 5, 0, 6];
 
 // A byte as a wider number.
 fn wide(b: u8) -> u32
@@ -178,7 +183,7 @@ fn price_or_none(s: &[u8], at: usize) -> u32
 
 // Whether a value of this tag has its right length.
 fn right_length(tag: u8, n: usize) -> bool
-    requires { ⌜ (1 ≤ tag) × (tag ≤ 13) ⌝ }
+    requires { ⌜ (1 ≤ tag) × (tag ≤ 14) ⌝ }
     ensures { λ r. ⌜ r ≡ rightLength tag n ⌝ }
 {
     if tag == 4 {
@@ -302,9 +307,20 @@ fn read_miss(v: &[u8]) -> Call
     }
 }
 
+fn read_sale(v: &[u8]) -> Call
+    requires { ⌜ rightLength 14 (length (now v)) ≡ true ⌝ }
+    ensures { λ r. ⌜ asked r ≡ some (callOf 14 (now (v .entry))) ⌝ }
+{
+    Call::Sale {
+        pool: one(v, 0),
+        member: one(v, 1),
+        price: price_at(v, 2),
+    }
+}
+
 // The call that a value of its right length is, by its tag.
 fn read_value(tag: u8, v: &[u8]) -> Call
-    requires { ⌜ rightLength tag (length (now v)) ≡ true ⌝ }
+    requires { ⌜ (1 ≤ tag) × (tag ≤ 14) × (rightLength tag (length (now v)) ≡ true) ⌝ }
     ensures { λ r. ⌜ asked r ≡ some (callOf tag (now (v .entry))) ⌝ }
 {
     if tag == 1 {
@@ -343,7 +359,10 @@ fn read_value(tag: u8, v: &[u8]) -> Call
     if tag == 12 {
         return read_miss(v);
     }
-    Call::Finish
+    if tag == 13 {
+        return Call::Finish;
+    }
+    read_sale(v)
 }
 
 // The call that the bytes are, or `Unknown`: "Unknown tag, bytes that aren't exactly one field, or a wrong length".

@@ -130,11 +130,23 @@ enum-told-3 c = search needs
 flat-of-requires-11 : tie.Need-flat-of-requires-11
 flat-of-requires-11 c κs = search needs
 
-enum-told-4 : tie.Need-enum-told-4
-enum-told-4 c = search needs
+enum-known-call-11 : tie.Need-enum-known-call-11
+enum-known-call-11 c = search needs
+
+one-wide-requires-11 : tie.Need-one-wide-requires-11
+one-wide-requires-11 c κs = search needs
+
+one-wide-requires-12 : tie.Need-one-wide-requires-12
+one-wide-requires-12 c κs = search needs
 
 flat-of-requires-12 : tie.Need-flat-of-requires-12
 flat-of-requires-12 c κs = search needs
+
+enum-told-4 : tie.Need-enum-told-4
+enum-told-4 c = search needs
+
+flat-of-requires-13 : tie.Need-flat-of-requires-13
+flat-of-requires-13 c κs = search needs
 
 returns : tie.Need-returns
 unfolding flattened
@@ -190,7 +202,11 @@ returns-13 c = simp (c .before .enum-told3 .given .1, c .flat-of11 .ensures)
 
 returns-14 : tie.Need-returns-14
 unfolding flattened
-returns-14 c = simp (c .before .enum-told4 .given .1, c .flat-of12 .ensures)
+returns-14 c = simp (c .before .before .before .before .call11 .given .1, c .flat-of12 .ensures, c .before .one-wide12 .ensures, c .before .before .one-wide11 .ensures)
+
+returns-15 : tie.Need-returns-15
+unfolding flattened
+returns-15 c = simp (c .before .enum-told4 .given .1, c .flat-of13 .ensures)
 
 pub flat-spec : {M : Type 1} → statement M
 flat-spec =
@@ -238,8 +254,12 @@ flat-spec =
     flat-of-requires-10
     enum-told-3
     flat-of-requires-11
-    enum-told-4
+    enum-known-call-11
+    one-wide-requires-11
+    one-wide-requires-12
     flat-of-requires-12
+    enum-told-4
+    flat-of-requires-13
     returns
     returns-2
     returns-3
@@ -253,4 +273,5 @@ flat-spec =
     returns-11
     returns-12
     returns-13
-    returns-14)
+    returns-14
+    returns-15)

@@ -54,7 +54,8 @@ returns-5 c =
     sym (decode-length _ _ refl (omega arith) (omega arith) (omega arith) size (sym (c .before .right-length .ensures) ∙ not-true (c .before .right-length .result) (c .if5 .taken)))
 
 read-value-requires : tie.Need-read-value-requires
-read-value-requires c κs = sym (c .before .right-length .ensures) ∙ not-false (c .before .right-length .result) (c .if5 .left)
+read-value-requires c κs =
+    (omega arith, omega arith, sym (c .before .right-length .ensures) ∙ not-false (c .before .right-length .result) (c .if5 .left))
 
 returns-6 : tie.Need-returns-6
 returns-6 c =
