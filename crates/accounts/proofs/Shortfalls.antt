@@ -1,15 +1,16 @@
 -- The shortfalls of the members in a pool, and their units over the four pools, as the machine says them. Assumes nothing.
-use mathlib.Core.Path.{_≡_, sym, _∙_}
+use mathlib.Core.Path.{_≡_, sym, ap, _∙_}
+use mathlib.Core.Bool.{Bool, false}
 use mathlib.Core.List.{List}
-use Prim.Native.Nat.{ℕ, _+_, _*_, _≤_, _<_}
+use Prim.Native.Nat.{ℕ, _+_, _*_, _%_, _≤_, _<_}
 use native.Mathlib.Omega.{arith}
 use lib.Dec.{ltb}
 use lib.ListN.{length, getD}
 use borrow.Author.Tests.{lt-ltb}
-use Rattle.lists.specs.Lists.{if_then_else_, sum}
+use Rattle.lists.specs.Lists.{if_then_else_, sum, mapFrom}
 use Rattle.lists.proofs.Bools.{either}
-use Rattle.lists.proofs.Places.{length-tab, getD-tab, sum-tab}
-use Rattle.lists.proofs.Sums.{bound-past}
+use Rattle.lists.proofs.Places.{length-tab, getD-tab, sum-tab, mapFrom-tab}
+use Rattle.lists.proofs.Sums.{bound-past, sumTo-ext}
 use Rattle.sets.specs.Set.{member, ofMembers}
 use Rattle.splitting.specs.Split.{split, splitAmong}
 use Rattle.machine.specs.State as M
@@ -17,7 +18,7 @@ use Rattle.machine.specs.Calls.{shortfall, totalShortfall, wonByMember}
 use Rattle.accounts.specs.declared.members.Members.{Members}
 use Rattle.accounts.specs.declared.bids.Bids.{Bids}
 use Rattle.accounts.specs.Bids.{wonTable, viewBids}
-use Rattle.accounts.specs.Members.{shortfallAt, shortfallsOf, overPoolsAt, overPools, viewMembers}
+use Rattle.accounts.specs.Members.{shortfallAt, shortfallsOf, overPoolsAt, overPools, withoutPools, viewMembers}
 use Rattle.accounts.proofs.ViewMembers.{member-shown}
 use Rattle.accounts.proofs.Tables.{Bidden, won-table-at}
 use Rattle.accounts.proofs.OverMembers.{Over, over-sum, over-split, over-members}
@@ -31,11 +32,18 @@ module _ (x : Members) (m : ℕ) (l : m < 32) where
   pub allocated-shown : (p : ℕ) → p < 4 → getD (M.memberAt (viewMembers x) m .allocated) p 0 ≡ getD (x .allocated) (4 * m + p) 0
   allocated-shown p h = rw (member-shown x m l) (getD-tab 4 (λ p. getD (x .allocated) (4 * m + p) 0) p 0 h)
 
-  -- "expected units over all pools"
-  pub expected-over-pools : getD (overPools (x .expected)) m 0 ≡ sum (M.memberAt (viewMembers x) m .expected)
-  unfolding overPools overPoolsAt
-  expected-over-pools =
-      getD-tab 32 (overPoolsAt (x .expected)) m 0 l ∙ sym (rw (member-shown x m l) (sum-tab 4 (λ p. getD (x .expected) (4 * m + p) 0)))
+  -- "expected units over all pools", but for those left out
+  pub expected-over-pools : (out : List Bool) (s : ℕ → Bool) → ((p : ℕ) → p < 4 → getD out p false ≡ s p)
+      → getD (overPools (withoutPools (x .expected) out)) m 0 ≡ sum (mapFrom 0 (λ p n. if s p then 0 else n) (M.memberAt (viewMembers x) m .expected))
+  unfolding overPools overPoolsAt withoutPools
+  expected-over-pools out s same =
+      let one : ℕ → ℕ = λ p. if s p then 0 else getD (x .expected) (4 * m + p) 0 in
+      getD-tab 32 (overPoolsAt (withoutPools (x .expected) out)) m 0 l
+      ∙ sumTo-ext 4 _ one
+      (λ p k.
+      let pool : (4 * m + p) % 4 ≡ p = omega arith in
+      getD-tab 128 (λ j. if getD out (j % 4) false then 0 else getD (x .expected) j 0) (4 * m + p) 0 (omega arith) ∙ rw (pool, same p k))
+      ∙ sym (rw (member-shown x m l) (ap sum (mapFrom-tab 4 (λ p n. if s p then 0 else n) (λ p. getD (x .expected) (4 * m + p) 0)) ∙ sum-tab 4 one))
 
 -- ---- shortfalls
 

@@ -1,14 +1,17 @@
 -- A member's standing, as the machine has it, from the tables. Assumes nothing.
 use mathlib.Core.Path.{_≡_, _∙_}
+use mathlib.Core.Bool.{Bool, false}
+use mathlib.Core.List.{List}
 use Prim.Native.Nat.{ℕ, _≤_, _<_}
 use lib.ListN.{getD}
 use Rattle.lists.specs.Adding.{most64}
+use Rattle.machine.specs.Roll.{soldByAgreement}
 use Rattle.machine.specs.State as M
 use Rattle.machine.specs.Result.{worstReserve, standing}
 use Rattle.accounts.specs.declared.members.Members.{Members}
 use Rattle.accounts.specs.declared.rounds.Rounds.{Rounds}
 use Rattle.accounts.specs.declared.bids.Bids.{Bids}
-use Rattle.accounts.specs.Members.{overPools, viewMembers}
+use Rattle.accounts.specs.Members.{overPools, withoutPools, viewMembers}
 use Rattle.accounts.specs.Rounds.{worstsOf, viewRounds}
 use Rattle.accounts.specs.Bids.{wonTable, gainTable, viewBids}
 use Rattle.accounts.proofs.Shortfalls.{expected-over-pools}
@@ -31,8 +34,8 @@ pub W-shown : (c : M.Case) (x : Members) (b : Bids) (m : ℕ) → c .bids ≡ vi
 unfolding standing
 W-shown c x b m bids won few h l = rw won (won-over-pools b few h m l ∙ rw bids)
 
--- "expected units over all pools"
-pub expected-shown : (c : M.Case) (x : Members) (m : ℕ) → c .members ≡ viewMembers x → m < 32
-    → getD (overPools (x .expected)) m 0 ≡ standing c m .expected
+-- "expected units over all pools", but for those "in a pool so sold"
+pub expected-shown : (c : M.Case) (x : Members) (out : List Bool) (m : ℕ) → c .members ≡ viewMembers x → ((p : ℕ) → p < 4 → getD out p false ≡ soldByAgreement (c .roll) p) → m < 32
+    → getD (overPools (withoutPools (x .expected) out)) m 0 ≡ standing c m .expected
 unfolding standing
-expected-shown c x m members l = expected-over-pools x m l ∙ rw members
+expected-shown c x out m members same l = expected-over-pools x m l out (soldByAgreement (c .roll)) same ∙ rw members

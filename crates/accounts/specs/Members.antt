@@ -1,7 +1,7 @@
 -- The members, over the program's struct, and as the machine has them. What belongs to member m in pool p stands at place 4 × m + p.
-use mathlib.Core.Bool.{Bool}
+use mathlib.Core.Bool.{Bool, false}
 use mathlib.Core.List.{List, [], _∷_}
-use Prim.Native.Nat.{ℕ, _+_, _-_, _*_}
+use Prim.Native.Nat.{ℕ, _+_, _-_, _*_, _%_}
 use lib.Dec.{ltb}
 use lib.ListN.{getD, set, replicate}
 use Rattle.lists.specs.Lists.{if_then_else_, sumTo, tab, any}
@@ -49,6 +49,10 @@ overPoolsAt xs m = sumTo 4 (λ p. getD xs (4 * m + p) 0)
 
 unfoldable pub overPools : List ℕ → List ℕ
 overPools xs = tab 32 (overPoolsAt xs)
+
+-- by pool, with 0 in the pools that are left out
+unfoldable pub withoutPools : List ℕ → List Bool → List ℕ
+withoutPools xs out = tab 128 (λ k. if getD out (k % 4) false then 0 else getD xs k 0)
 
 -- ---- changes
 

@@ -6,7 +6,7 @@ ghost use lib.ListN.{length, getD};
 ghost use Rattle.lists.specs.Lists.{if_then_else_, sum};
 ghost use Rattle.lists.specs.Adding.{most16, most32, heldTo};
 ghost use Rattle.sets.specs.Set.{members};
-ghost use Rattle.accounts.specs.Members.{noMembers, owesOf, someoneOwesIn, shortfallsOf, overPools, overPoolsAt, putMember, addShares, withShares, withCalls, withPayment, withMove, withWon};
+ghost use Rattle.accounts.specs.Members.{noMembers, owesOf, someoneOwesIn, shortfallsOf, overPools, overPoolsAt, withoutPools, putMember, addShares, withShares, withCalls, withPayment, withMove, withWon};
 
 pub struct Members {
     pub given: u32,
@@ -143,6 +143,26 @@ pub fn over_pools(xs: [u16; 128]) -> [u64; 32]
         m += 1;
     }
     out
+}
+
+// Units, and 0 where they are left out.
+fn unless(out: bool, units: u16) -> u16
+    ensures { λ r. ⌜ r ≡ (if out then 0 else units) ⌝ }
+{
+    if out { 0 } else { units }
+}
+
+// The members' units by pool, with 0 in the pools that are left out.
+pub fn without_pools(xs: [u16; 128], out: [bool; 4]) -> [u16; 128]
+    ensures { λ r. ⌜ r ≡ withoutPools xs out ⌝ }
+{
+    let mut table = [0u16; 128];
+    let mut k: usize = 0;
+    while k < 128 {
+        table[k] = unless(out[k % 4], xs[k]);
+        k += 1;
+    }
+    table
 }
 
 // The shares of the members added in a pool.
