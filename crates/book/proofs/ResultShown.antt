@@ -21,7 +21,7 @@ use Rattle.machine.specs.Requirement.{firstTranche, secondTranche, requirement,
 use Rattle.machine.specs.Result.{standing, rank, payments, limits, sixCharges, charge, uncoveredRest, onContribution, onPayments}
 use Rattle.machine.proofs.Invariant.{CaseOk}
 use Rattle.machine.proofs.Bounds.{in-set-below, member-ok, D-small, W-small, expected-small, contributions-small, payments-small}
-use Rattle.accounts.specs.Members.{overPools}
+use Rattle.accounts.specs.Members.{overPools, withoutPools}
 use Rattle.accounts.specs.Rounds.{worstsOf}
 use Rattle.accounts.specs.Bids.{gainTable}
 use Rattle.accounts.proofs.ViewMembers.{member-shown}
@@ -29,12 +29,12 @@ use Rattle.accounts.proofs.OverMembers.{split-payments}
 use Rattle.accounts.proofs.Standings.{D-shown, W-shown, expected-shown}
 use Rattle.book.specs.declared.Stage.{Stage}
 use Rattle.book.specs.declared.Book.{Book}
-use Rattle.book.specs.Books.{requirementIn}
+use Rattle.book.specs.Books.{soldPools, requirementIn}
 use Rattle.book.specs.Results.{limitsIn, ranksIn, resultIn}
 use Rattle.book.specs.View.{viewOf}
 use Rattle.book.proofs.Sound.{Sound}
 use Rattle.book.proofs.Outputs.{shares-of, paid-outside, paid-le}
-use Rattle.book.proofs.Shown.{requirement-shown, contributions-shown, payments-shown, bid-pool, bidden}
+use Rattle.book.proofs.Shown.{requirement-shown, contributions-shown, payments-shown, sold-shown, bid-pool, bidden}
 
 -- standings with the same numbers
 standing-ext : (x y : Standing) → x .D ≡ y .D → x .W ≡ y .W → x .expected ≡ y .expected → x ≡ y
@@ -75,7 +75,7 @@ module _ (stage : Stage) (b : Book) (roll : List Entry) (s : Sound stage b roll)
   -- ---- ranks
 
   abbrev columns : ℕ → Standing
-  columns = standingAt (gainTable (b .bids) (worstsOf (b .rounds))) (overPools (b .members .won)) (overPools (b .members .expected))
+  columns = standingAt (gainTable (b .bids) (worstsOf (b .rounds))) (overPools (b .members .won)) (overPools (withoutPools (b .members .expected) (soldPools b)))
 
   standing-shown : (m : ℕ) → m < 32 → columns m ≡ standing (viewOf stage b roll) m
   standing-shown m l =
@@ -83,7 +83,7 @@ module _ (stage : Stage) (b : Book) (roll : List Entry) (s : Sound stage b roll)
       (D-shown (viewOf stage b roll) (b .head .pools) (b .rounds) (b .bids) m refl refl (s .bids .few) (ok .head .pools-most) (s .rounds .few)
       (bid-pool stage b roll s ok) l (omega (arith, D-small (viewOf stage b roll) ok m)))
       (W-shown (viewOf stage b roll) (b .members) (b .bids) m refl (s .won) (s .bids .few) (bidden stage b roll s ok) l)
-      (expected-shown (viewOf stage b roll) (b .members) m refl l)
+      (expected-shown (viewOf stage b roll) (b .members) (soldPools b) m refl (sold-shown stage b roll s ok) l)
 
   standing-within : (m : ℕ) → Within (standing (viewOf stage b roll) m)
   standing-within m = record {

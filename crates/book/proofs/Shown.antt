@@ -10,7 +10,7 @@ use lib.IntN.{subℕ}
 use lib.ListN.{length, getD}
 use borrow.Author.Tests.{lt-ltb, le-ltb, ne-eqb}
 use Rattle.lists.specs.Lists.{sum, count}
-use Rattle.lists.proofs.Bools.{and-false, lt-or-le}
+use Rattle.lists.proofs.Bools.{and-false, lt-or-le, ltb-same}
 use Rattle.lists.proofs.Each.{Each, each-more}
 use Rattle.lists.proofs.Sums.{sumTo-ext}
 use Rattle.lists.proofs.Counts.{count-none, any-count, any-sum}
@@ -18,17 +18,18 @@ use Rattle.sets.specs.Set.{member, members}
 use Rattle.auction.specs.Price.{zeroPrice}
 use Rattle.auction.proofs.Cents.{sub-same, sum-cents}
 use Rattle.machine.specs.Roll as M
-use Rattle.machine.specs.Roll.{Entry, openUnits, anyOpen, passedTo}
+use Rattle.machine.specs.Roll.{Entry, openUnits, anyOpen, passedTo, soldByAgreement}
 use Rattle.machine.specs.State as State
 use Rattle.machine.specs.State.{Case}
 use Rattle.machine.specs.Requirement.{requirement, contributions, prefunded, owes}
-use Rattle.machine.specs.Calls.{totalShortfall}
-use Rattle.machine.specs.Refusals.{nonePassed, someoneOwes}
+use Rattle.machine.specs.Calls.{totalShortfall, sold}
+use Rattle.machine.specs.Refusals.{nonePassed, someoneOwes, saleTooDear}
 use Rattle.machine.specs.Result.{payments}
 use Rattle.machine.specs.Run.{sumOfPrices}
 use Rattle.machine.proofs.Invariant.{CaseOk}
 use Rattle.machine.proofs.Bounds.{entry-pools, bid-ok, outside-nothing, won-by-member-small}
-use Rattle.units.specs.Shown.{openOf, zeroPrices}
+use Rattle.machine.proofs.Selling.{setup-prices, sale-adds}
+use Rattle.units.specs.Shown.{openOf, agreedOf, soldOf, zeroPrices}
 use Rattle.units.proofs.Kept as K
 use Rattle.units.proofs.Shown as T
 use Rattle.units.proofs.Read.{Listed, passed-read}
@@ -41,7 +42,8 @@ use Rattle.accounts.proofs.OverMembers as O
 use Rattle.accounts.proofs.Shortfalls as S
 use Rattle.book.specs.declared.Stage.{Stage}
 use Rattle.book.specs.declared.Book.{Book}
-use Rattle.book.specs.Books.{openIn, anyOpenIn, passedIn, pricesIn, requirementIn, overMembers, contributionsIn, prefundedIn, shortIn}
+use Rattle.book.specs.Stages.{letterOf}
+use Rattle.book.specs.Books.{openIn, anyOpenIn, soldPools, passedIn, pricesIn, tooDearIn, requirementIn, overMembers, contributionsIn, prefundedIn, shortIn}
 use Rattle.book.specs.View.{viewOf}
 use Rattle.book.proofs.Sound.{Sound}
 
@@ -80,6 +82,19 @@ module _ (stage : Stage) (b : Book) (roll : List Entry) (w : Sound stage b roll)
       ∙ ap (ltb 0) (sumTo-ext 4 (openIn b) (λ p. getD (b .units .counts) p 0) (λ p l. rw (lt-ltb p 4 l)))
       ∙ sym (T.any-open-shown (b .units) (c .bids) roll (w .units .kept))
 
+  -- ---- pools sold by agreement
+
+  pub sold-shown : (pool : ℕ) → pool < 4 → getD (soldPools b) pool false ≡ soldByAgreement roll pool
+  unfolding agreedOf
+  sold-shown pool l = at pool l ∙ rw (lt-ltb pool 4 l) (sym (T.agreed-shown (b .units) (c .bids) roll (w .units .kept) pool l))
+    where
+      at : (p : ℕ) → p < 4 → getD (soldPools b) p false ≡ soldOf (b .units) p
+      at zero l = refl
+      at (suc zero) l = refl
+      at (suc (suc zero)) l = refl
+      at (suc (suc (suc zero))) l = refl
+      at (suc (suc (suc (suc p)))) l = absurd (omega arith)
+
   -- ---- prices
 
   prices-shown : pricesIn b + zeroPrice * length (M.prices (c .bids) roll) ≡ zeroPrices + sum (M.prices (c .bids) roll)
@@ -88,6 +103,22 @@ module _ (stage : Stage) (b : Book) (roll : List Entry) (w : Sound stage b roll)
   pub requirement-shown : requirementIn b ≡ requirement (viewOf stage b roll)
   unfolding requirementIn requirement
   requirement-shown = omega (arith, prices-shown)
+
+  -- in setup, what 17 compares
+  pub too-dear-shown : letterOf stage ≡ 1 → (pool m price : ℕ) → tooDearIn b pool price ≡ saleTooDear (viewOf stage b roll) pool m price
+  unfolding tooDearIn saleTooDear
+  too-dear-shown setup pool m price =
+      let adds = sale-adds (c .bids) pool m price roll in
+      let early = setup-prices c ok setup in
+      let ps = M.agreedPrices (c .bids) roll in
+      let qs = M.agreedPrices (c .bids) (sold pool m price roll) in
+      let n = openUnits roll pool in
+      let held : pricesIn b + zeroPrice * length ps ≡ zeroPrices + sum ps = rw (← early) prices-shown in
+      rw (open-shown pool)
+      (ltb-same (b .head .margin + b .head .fund + pricesIn b + n * price) (b .head .hedge + b .head .other + zeroPrices + n * zeroPrice)
+      (b .head .margin + b .head .fund + sum qs) (b .head .hedge + b .head .other + zeroPrice * length qs)
+      (λ l. omega (arith, held, adds .many, adds .sums))
+      (λ l. omega (arith, held, adds .many, adds .sums)))
 
   -- in cents
   pub sum-of-prices-shown : subℕ (pricesIn b) zeroPrices ≡ sumOfPrices (viewOf stage b roll)

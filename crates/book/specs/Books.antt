@@ -1,18 +1,19 @@
 -- The program's book: what is read of it, and how each call changes it. Its parts are those of `accounts` and the units, counted.
 use mathlib.Core.Bool.{Bool}
 use mathlib.Core.List.{List, [], _∷_, map}
-use Prim.Native.Nat.{ℕ, _+_, _-_, min}
+use Prim.Native.Nat.{ℕ, _+_, _-_, _*_, min}
 use lib.Dec.{ltb}
 use lib.ListN.{getD, replicate}
 use Rattle.lists.specs.Lists.{sum, any, places}
 use Rattle.lists.specs.Adding.{most16, most32, heldTo}
 use Rattle.sets.specs.Set.{members}
 use Rattle.splitting.specs.Limits.{splitInto}
+use Rattle.auction.specs.Price.{zeroPrice}
 use Rattle.wire.specs.declared.Head.{Head}
 use Rattle.units.specs.declared.Units.{Units}
-use Rattle.units.specs.Steps.{noUnits, putUpUnits, sellUnits, allocateUnits, tearUnits, missUnits}
+use Rattle.units.specs.Steps.{noUnits, putUpUnits, sellUnits, allocateUnits, tearUnits, missUnits, saleUnits}
 use Rattle.units.specs.Groups.{moveUnits}
-use Rattle.units.specs.Shown.{openOf, passedOf, zeroPrices, pricesOf}
+use Rattle.units.specs.Shown.{openOf, soldOf, passedOf, zeroPrices, pricesOf}
 use Rattle.accounts.specs.declared.pools.Pools.{Pools}
 use Rattle.accounts.specs.declared.members.Members.{Members}
 use Rattle.accounts.specs.declared.rounds.Rounds.{Rounds}
@@ -50,6 +51,10 @@ openIn b pool = openOf (b .units) pool
 unfoldable pub anyOpenIn : Book → Bool
 anyOpenIn b = any (λ p. ltb 0 (openIn b p)) (places 4)
 
+-- which pools were sold by agreement
+abbrev pub soldPools : Book → List Bool
+soldPools b = soldOf (b .units) 0 ∷ soldOf (b .units) 1 ∷ soldOf (b .units) 2 ∷ soldOf (b .units) 3 ∷ []
+
 -- the units allocated or moved to a member
 abbrev pub passedIn : Book → ℕ → ℕ
 passedIn b m = passedOf (b .units) m
@@ -57,6 +62,14 @@ passedIn b m = passedOf (b .units) m
 -- the sum of the prices of all units not open, held above 0 by `zeroPrices`
 abbrev pub pricesIn : Book → ℕ
 pricesIn b = pricesOf (b .units)
+
+-- document 02, C-12: "hedge loss + other loss − the prices of all units so sold, this pool's included, passes margin and defaulter's fund together". In
+-- setup no other units have left (`setup-prices`)
+unfoldable pub tooDearIn : Book → ℕ → ℕ → Bool
+tooDearIn b pool price =
+    ltb
+    (b .head .margin + b .head .fund + pricesIn b + openIn b pool * price)
+    (b .head .hedge + b .head .other + zeroPrices + openIn b pool * zeroPrice)
 
 -- "hedge loss + other loss − the prices of all units not open, at least 0"
 unfoldable pub requirementIn : Book → ℕ
@@ -159,3 +172,7 @@ moveBook b m =
 -- MISS
 unfoldable pub missBook : Book → ℕ → ℕ → Book
 missBook b m price = withUnits b (missUnits (b .units) m price)
+
+-- SALE
+unfoldable pub saleBook : Book → ℕ → ℕ → ℕ → Book
+saleBook b pool m price = withUnits b (saleUnits (b .units) pool m price)

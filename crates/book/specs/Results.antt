@@ -5,12 +5,12 @@ use lib.ListN.{getD, replicate}
 use Rattle.splitting.specs.Limits.{splitInto}
 use Rattle.waterfall.specs.Charging.{charged, uncovered}
 use Rattle.waterfall.specs.Limits.{ranksOf, chargesOf}
-use Rattle.accounts.specs.Members.{overPools}
+use Rattle.accounts.specs.Members.{overPools, withoutPools}
 use Rattle.accounts.specs.Rounds.{worstsOf}
 use Rattle.accounts.specs.Bids.{gainTable}
 use Rattle.book.specs.declared.Book.{Book}
 use Rattle.book.specs.declared.Result.{Result}
-use Rattle.book.specs.Books.{requirementIn, overMembers, contributionsIn}
+use Rattle.book.specs.Books.{soldPools, requirementIn, overMembers, contributionsIn}
 
 -- "First tranche = floor(3 × house money / 5), the second the rest."
 abbrev pub firstTrancheIn : Book → ℕ
@@ -27,10 +27,10 @@ limitsIn b =
     ∷ overMembers b (b .members .paid)
     ∷ []
 
--- the rank of each of the 32 places
+-- the rank of each of the 32 places; document 02, C-12: "the units expected in a pool so sold, don't count for rank"
 unfoldable pub ranksIn : Book → List ℕ
 ranksIn b =
-    ranksOf (gainTable (b .bids) (worstsOf (b .rounds))) (overPools (b .members .won)) (overPools (b .members .expected)) (b .head .set)
+    ranksOf (gainTable (b .bids) (worstsOf (b .rounds))) (overPools (b .members .won)) (overPools (withoutPools (b .members .expected) (soldPools b))) (b .head .set)
 
 -- the loss, the six charges, the uncovered rest, and of each of the 32 places its rank and its charges
 unfoldable pub resultIn : Book → Result

@@ -1,4 +1,4 @@
-// The book of a case (document 01): all but its stage. It says how each call changes it, what is called and what is charged.
+// The book of a case (documents 01 and 02): all but its stage. It says how each call changes it, what is called and what is charged.
 ghost use mathlib.Core.Path.{_≡_};
 ghost use Prim.Native.Nat.{ℕ, _≤_};
 ghost use lib.ListN.{getD};
@@ -6,8 +6,8 @@ ghost use Rattle.lists.specs.Lists.{sum};
 ghost use Rattle.lists.specs.Adding.{most16};
 ghost use Rattle.accounts.specs.Members.{shortfallsOf};
 ghost use Rattle.book.specs.Stages.{letterOf, roundOf, nextRound};
-ghost use Rattle.book.specs.Books.{openIn, anyOpenIn, passedIn, pricesIn, requirementIn, contributionsIn, prefundedIn, shortIn, allocationIn, callsIn};
-ghost use Rattle.book.specs.Books.{newBook, poolBook, memberBook, roundBook, bidBook, closeBook, allocateBook, tearBook, callBook, payBook, moveBook, missBook};
+ghost use Rattle.book.specs.Books.{openIn, anyOpenIn, soldPools, passedIn, pricesIn, tooDearIn, requirementIn, contributionsIn, prefundedIn, shortIn, allocationIn, callsIn};
+ghost use Rattle.book.specs.Books.{newBook, poolBook, memberBook, roundBook, bidBook, closeBook, allocateBook, tearBook, callBook, payBook, moveBook, missBook, saleBook};
 ghost use Rattle.book.specs.Results.{limitsIn, ranksIn, resultIn};
 use accounts::bids::Bids;
 use accounts::members::Members;
@@ -147,6 +147,19 @@ impl Book {
         )
     }
 
+    // Which pools were sold by agreement.
+    pub fn sold_pools(self) -> [bool; 4]
+        ensures { λ r. ⌜ r ≡ soldPools self ⌝ }
+    {
+        let units = self.units;
+        [
+            0 < units.agreed_units(0),
+            0 < units.agreed_units(1),
+            0 < units.agreed_units(2),
+            0 < units.agreed_units(3),
+        ]
+    }
+
     // The units allocated or moved to a member.
     pub fn passed(self, m: u8) -> u64
         ensures { λ r. ⌜ r ≡ passedIn self m ⌝ }
@@ -161,6 +174,19 @@ impl Book {
     {
         let units = self.units;
         units.prices()
+    }
+
+    // Whether a SALE of a pool at a price is too dear: "hedge loss + other loss − the prices of all units so sold, this pool's included, passes margin and
+    // defaulter's fund together". In setup no other units have left. Both sides are added up, so that nothing is negative.
+    pub fn too_dear(self, pool: u8, price: u32) -> bool
+        ensures { λ r. ⌜ r ≡ tooDearIn self pool price ⌝ }
+    {
+        let head = self.head;
+        let n = lists::wide16(self.open_units(pool));
+        let funds = head.margin as u64 + head.fund as u64;
+        let losses = head.hedge as u64 + head.other as u64;
+        funds + self.prices() + n * lists::wide32(price)
+            < losses + Units::ZERO_PRICES + n * 1_000_000
     }
 
     // The requirement: "hedge loss + other loss − the prices of all units not open, at least 0".
@@ -344,6 +370,17 @@ impl Book {
         next
     }
 
+    // SALE
+    pub fn take_sale(self, pool: u8, m: u8, price: u32) -> Book
+        ensures { λ r. ⌜ r ≡ saleBook self pool m price ⌝ }
+    {
+        let units = self.units;
+        let sold = units.sell_pool(pool, m, price);
+        let mut next = self;
+        next.units = sold;
+        next
+    }
+
     // CALL
     pub fn take_call(self) -> Book
         ensures { λ r. ⌜ r ≡ callBook self ⌝ }
@@ -430,7 +467,8 @@ impl Book {
         let won = members.won;
         let expected = members.expected;
         let w = accounts::members::over_pools(won);
-        let e = accounts::members::over_pools(expected);
+        let counted = accounts::members::without_pools(expected, self.sold_pools());
+        let e = accounts::members::over_pools(counted);
         waterfall::ranks(gains, w, e, head.set)
     }
 

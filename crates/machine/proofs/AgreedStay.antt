@@ -64,7 +64,7 @@ passed-free m (Moved a) e = refl
 passed-free m (Torn price) e = refl
 passed-free m (Agreed a price) e = absurd (false≢true e)
 
-open-in-free : (pool : ℕ) (e : Entry) → openIn pool e ≡ true → isAgreed (e .state) ≡ false
+pub open-in-free : (pool : ℕ) (e : Entry) → openIn pool e ≡ true → isAgreed (e .state) ≡ false
 unfolding openIn isOpen
 open-in-free pool e o = open-free (e .state) (and-left _ _ o)
 

@@ -1,21 +1,23 @@
 -- Document 02, C-12: in S the units that have left are those sold by agreement, so that the test of 17 can be read from the requirement. Assumes nothing.
 use mathlib.Core.Path.{_≡_, refl, ap, _∙_}
-use mathlib.Core.Bool.{Bool, true, _||_, not, false≢true}
+use mathlib.Core.Bool.{Bool, true, false, _||_, not, false≢true}
 use mathlib.Core.List.{List, [], _∷_, map}
 use Prim.Native.Nat.{ℕ, _+_, _-_, _*_}
+use native.Mathlib.Nat.{zero-mul, suc-mul}
 use native.Mathlib.Omega.{arith}
 use lib.Dec.{eqb, ltb}
 use lib.ListN.{length}
-use Rattle.lists.specs.Lists.{if_then_else_, sum, keep}
-use Rattle.lists.proofs.Bools.{either, ltb-same}
+use Rattle.lists.specs.Lists.{if_then_else_, sum, keep, count, oneIf}
+use Rattle.lists.proofs.Bools.{cases, either, ltb-same}
 use Rattle.lists.proofs.Each.{Each, each-map}
 use Rattle.auction.specs.Price.{zeroPrice}
-use Rattle.machine.specs.Roll.{UnitState, Open, Sold, Allocated, Moved, Torn, Agreed, Entry, Bid, withState, kind, isOpen, isAgreed, openIn, changedIf, priceOf, prices, agreedPrices}
+use Rattle.machine.specs.Roll.{UnitState, Open, Sold, Allocated, Moved, Torn, Agreed, Entry, Bid, withState, kind, isOpen, isAgreed, openIn, changedIf, priceOf, prices, openUnits, agreedPrices}
 use Rattle.machine.specs.State.{Case, letter}
 use Rattle.machine.specs.Requirement.{requirement}
 use Rattle.machine.specs.Calls.{sold, afterSale}
 use Rattle.machine.specs.Refusals.{saleTooDear}
 use Rattle.machine.proofs.Invariant.{CaseOk}
+use Rattle.machine.proofs.AgreedStay.{open-in-free}
 
 -- open, or sold by agreement
 abbrev Early : Entry → Type 0
@@ -51,6 +53,46 @@ unfolding sold isAgreed isOpen kind
 sold-early pool m price roll h =
     each-map Early Early (changedIf (openIn pool) (Agreed m price))
     (λ e o. either Early (openIn pool e) {x = withState e (Agreed m price)} {y = e} refl o) roll h
+
+-- ---- the prices of units sold by agreement, entry by entry
+
+agreed-none : (bids : List Bid) → agreedPrices bids [] ≡ []
+unfolding agreedPrices keep
+agreed-none bids = refl
+
+agreed-more : (bids : List Bid) (e : Entry) (es : List Entry) → isAgreed (e .state) ≡ true → agreedPrices bids (e ∷ es) ≡ priceOf bids (e .state) ∷ agreedPrices bids es
+unfolding agreedPrices keep
+agreed-more bids e es h = rw h
+
+agreed-other : (bids : List Bid) (e : Entry) (es : List Entry) → isAgreed (e .state) ≡ false → agreedPrices bids (e ∷ es) ≡ agreedPrices bids es
+unfolding agreedPrices keep
+agreed-other bids e es h = rw h
+
+-- a SALE adds the open units of its pool, each at its price
+pub record Adds (bids : List Bid) (pool m price : ℕ) (roll : List Entry) : Type 0 where
+  pub many : length (agreedPrices bids (sold pool m price roll)) ≡ length (agreedPrices bids roll) + openUnits roll pool
+  pub sums : sum (agreedPrices bids (sold pool m price roll)) ≡ sum (agreedPrices bids roll) + openUnits roll pool * price
+
+pub sale-adds : (bids : List Bid) (pool m price : ℕ) (roll : List Entry) → Adds bids pool m price roll
+unfolding sold openUnits count sum oneIf isAgreed priceOf
+sale-adds bids pool m price [] = record { many = rw (agreed-none bids); sums = rw (agreed-none bids) (omega (arith, zero-mul price)) }
+sale-adds bids pool m price (e ∷ es) =
+    let rest = sale-adds bids pool m price es in
+    let next = map (changedIf (openIn pool) (Agreed m price)) es in
+    cases (openIn pool e) _
+    (λ t.
+    let was = agreed-other bids e es (open-in-free pool e t) in
+    let is = agreed-more bids (withState e (Agreed m price)) next refl in
+    record { many = rw (t, was, is) (omega (arith, rest .many)); sums = rw (t, was, is) (omega (arith, rest .sums, suc-mul (openUnits es pool) price)) })
+    (λ t. cases (isAgreed (e .state)) _
+    (λ a.
+    let was = agreed-more bids e es a in
+    let is = agreed-more bids e next a in
+    record { many = rw (t, was, is) (omega (arith, rest .many)); sums = rw (t, was, is) (omega (arith, rest .sums)) })
+    (λ a.
+    let was = agreed-other bids e es a in
+    let is = agreed-other bids e next a in
+    record { many = rw (t, was, is) (omega (arith, rest .many)); sums = rw (t, was, is) (omega (arith, rest .sums)) }))
 
 module _ (c : Case) (ok : CaseOk c) (setup : letter (c .stage) ≡ 1) where
   -- "the prices of all units so sold" are in S the prices of all units not open

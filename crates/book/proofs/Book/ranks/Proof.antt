@@ -13,6 +13,12 @@ gain-table-requires c κs = search needs
 over-pools-requires : tie.Need-over-pools-requires
 over-pools-requires c κs = search needs
 
+sold-pools-requires : tie.Need-sold-pools-requires
+sold-pools-requires c κs = search needs
+
+without-pools-requires : tie.Need-without-pools-requires
+without-pools-requires c κs = search needs
+
 over-pools-requires-2 : tie.Need-over-pools-requires-2
 over-pools-requires-2 c κs = search needs
 
@@ -24,9 +30,11 @@ unfolding ranksIn
 returns c = simp (
   c .ranks .ensures,
   c .before .over-pools2 .ensures,
-  c .before .before .over-pools .ensures,
-  c .before .before .before .before .before .gain-table .ensures,
-  c .before .before .before .before .before .before .worsts .ensures,
+  c .before .before .without-pools .ensures,
+  c .before .before .before .sold-pools .ensures,
+  c .before .before .before .before .over-pools .ensures,
+  c .before .before .before .before .before .before .before .gain-table .ensures,
+  c .before .before .before .before .before .before .before .before .worsts .ensures,
 )
 
 pub ranks-spec : {M : Type 1} → statement M
@@ -36,6 +44,8 @@ ranks-spec =
     worsts-requires
     gain-table-requires
     over-pools-requires
+    sold-pools-requires
+    without-pools-requires
     over-pools-requires-2
     ranks-requires
     returns)
