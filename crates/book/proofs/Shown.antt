@@ -52,6 +52,14 @@ none-counted : (n : ℕ) → eqb n 0 ≡ not (ltb 0 n)
 none-counted zero = refl
 none-counted (suc n) = rw (ne-eqb (suc n) 0 (λ e. absurd (omega arith)), lt-ltb 0 (suc n) (omega arith))
 
+-- whether any unit is open, from the units alone
+pub any-open-kept : (b : Book) (bids : List M.Bid) (roll : List Entry) → K.Kept (b .units) bids roll → anyOpenIn b ≡ anyOpen roll
+unfolding anyOpenIn openOf
+any-open-kept b bids roll kept =
+    any-sum 4 (openIn b)
+    ∙ ap (ltb 0) (sumTo-ext 4 (openIn b) (λ p. getD (b .units .counts) p 0) (λ p l. rw (lt-ltb p 4 l)))
+    ∙ sym (T.any-open-shown (b .units) bids roll kept)
+
 module _ (stage : Stage) (b : Book) (roll : List Entry) (w : Sound stage b roll) (ok : CaseOk (viewOf stage b roll)) where
   abbrev c : Case
   c = viewOf stage b roll
@@ -76,11 +84,7 @@ module _ (stage : Stage) (b : Book) (roll : List Entry) (w : Sound stage b roll)
       (lt-or-le pool 4)
 
   pub any-open-shown : anyOpenIn b ≡ anyOpen roll
-  unfolding anyOpenIn openOf
-  any-open-shown =
-      any-sum 4 (openIn b)
-      ∙ ap (ltb 0) (sumTo-ext 4 (openIn b) (λ p. getD (b .units .counts) p 0) (λ p l. rw (lt-ltb p 4 l)))
-      ∙ sym (T.any-open-shown (b .units) (c .bids) roll (w .units .kept))
+  any-open-shown = any-open-kept b (c .bids) roll (w .units .kept)
 
   -- ---- pools sold by agreement
 

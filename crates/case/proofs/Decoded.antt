@@ -13,7 +13,7 @@ use Rattle.lists.specs.Tests.{firstOf}
 use Rattle.lists.proofs.Bools.{either, by-test, and-left, and-right}
 use Rattle.lists.proofs.Each.{each-drop}
 use Rattle.lists.proofs.Places.{length-tab, tab-self}
-use Rattle.machine.specs.Wire.{Head, Call, HEAD, POOL, MEMBER, ROUND, BID, CLOSE, ALLOCATE, TEAR, CALL, PAY, MOVE, MISS, FINISH, number, price, rightLength, callOf, decode}
+use Rattle.machine.specs.Wire.{Head, Call, HEAD, POOL, MEMBER, ROUND, BID, CLOSE, ALLOCATE, TEAR, CALL, PAY, MOVE, MISS, FINISH, SALE, number, price, rightLength, callOf, decode}
 use Rattle.machine.specs.Roll.{Entry}
 use Rattle.machine.specs.State as M
 use Rattle.machine.specs.Refusals.{tests, refusal}
@@ -26,7 +26,7 @@ use Rattle.case.specs.declared.Case.{Case}
 use Rattle.case.specs.View.{view}
 use Rattle.case.specs.Claim.{Read}
 use Rattle.case.specs.Cases.{headFrom, caseAnswer, firstAnswer}
-use Rattle.refusals.proofs.AnswersShown.{head-answer, pool-answer, member-answer, round-answer, bid-answer, close-answer, allocate-answer, tear-answer, call-answer, pay-answer, move-answer, miss-answer, finish-answer}
+use Rattle.refusals.proofs.AnswersShown.{head-answer, pool-answer, member-answer, round-answer, bid-answer, close-answer, allocate-answer, tear-answer, call-answer, pay-answer, move-answer, miss-answer, finish-answer, sale-answer}
 
 -- ---- the bytes
 
@@ -45,6 +45,7 @@ read-fits (PAY m amount) r = tt
 read-fits (MOVE m) r = tt
 read-fits (MISS m price) r = tt
 read-fits FINISH r = tt
+read-fits (SALE pool m price) r = tt
 
 -- a ROUND's length is at most 16
 round-few : (tag : ℕ) (v : List ℕ) → rightLength tag (length v) ≡ true → eqb tag 4 ≡ true → length v / 4 ≤ 4
@@ -68,7 +69,8 @@ call-read tag v h right =
     (either Read (eqb tag 9) tt
     (either Read (eqb tag 10) tt
     (either Read (eqb tag 11) tt
-    (either Read (eqb tag 12) tt tt)))))))))))
+    (either Read (eqb tag 12) tt
+    (either Read (eqb tag 13) tt tt))))))))))))
 
 abbrev pub AllRead : Option Call → Type 0
 AllRead none = Unit {0}
@@ -80,8 +82,8 @@ decoded-read [] h = tt
 decoded-read (tag ∷ []) h = tt
 decoded-read (tag ∷ high ∷ []) h = tt
 decoded-read (tag ∷ high ∷ low ∷ v) h =
-    by-test AllRead (between 1 13 tag && eqb (high * 256 + low) (length v) && rightLength tag (length v)) {x = some (callOf tag v)} {y = none}
-    (λ t. call-read tag v (h .1 .1 .1) (and-right (between 1 13 tag && eqb (high * 256 + low) (length v)) (rightLength tag (length v)) t)) (λ f. tt)
+    by-test AllRead (between 1 14 tag && eqb (high * 256 + low) (length v) && rightLength tag (length v)) {x = some (callOf tag v)} {y = none}
+    (λ t. call-read tag v (h .1 .1 .1) (and-right (between 1 14 tag && eqb (high * 256 + low) (length v)) (rightLength tag (length v)) t)) (λ f. tt)
 
 -- ---- the answers
 
@@ -113,6 +115,7 @@ answer-shown c roll sound ok (PAY m amount) r = pay-answer (c .stage) (c .book) 
 answer-shown c roll sound ok (MOVE m) r = move-answer (c .stage) (c .book) roll sound ok m
 answer-shown c roll sound ok (MISS m price) r = miss-answer (c .stage) (c .book) roll sound ok m price
 answer-shown c roll sound ok FINISH r = finish-answer (c .stage) (c .book) roll sound ok
+answer-shown c roll sound ok (SALE pool m price) r = sale-answer (c .stage) (c .book) roll sound ok pool m price
 
 -- where none is held
 pub first-shown : (call : Call) → firstAnswer call ≡ refusal none call
@@ -130,3 +133,4 @@ first-shown (PAY m amount) = refl
 first-shown (MOVE m) = refl
 first-shown (MISS m price) = refl
 first-shown FINISH = refl
+first-shown (SALE pool m price) = refl

@@ -1,6 +1,6 @@
--- HEAD, POOL, MEMBER and ROUND, accepted: the program's case shows the machine's. Assumes nothing.
+-- HEAD, POOL, MEMBER, ROUND and SALE, accepted: the program's case shows the machine's. Assumes nothing.
 use mathlib.Core.Path.{_≡_, refl, sym, ap, _∙_}
-use mathlib.Core.Bool.{false, not}
+use mathlib.Core.Bool.{Bool, true, false, not}
 use mathlib.Core.List.{List, [], _∷_}
 use mathlib.Core.Option.{some}
 use Prim.Native.Nat.{ℕ, _^_, _<_}
@@ -8,21 +8,21 @@ use native.Mathlib.Omega.{arith}
 use lib.Dec.{leb, ltb}
 use lib.ListN.{length, getD, set}
 use borrow.Author.Tests.{leb-false, eqb-true, not-false}
-use Rattle.lists.specs.Lists.{sum, sumByKey, tab}
+use Rattle.lists.specs.Lists.{if_then_else_, sum, sumByKey, tab}
 use Rattle.lists.specs.Adding.{heldTo}
 use Rattle.lists.proofs.Bools.{either, or-left, or-right}
 use Rattle.lists.proofs.Places.{getD-tab, tab-of}
 use Rattle.lists.specs.Tests.{Passed}
 use Rattle.machine.specs.Wire as Wire
-use Rattle.machine.specs.Roll.{Entry}
+use Rattle.machine.specs.Roll.{Entry, anyOpen}
 use Rattle.machine.specs.State as M
 use Rattle.machine.specs.State.{letterOf}
-use Rattle.machine.specs.Calls.{newMember, afterPool, afterMember, afterRound, accepted}
+use Rattle.machine.specs.Calls.{newMember, afterPool, afterMember, afterRound, sold, afterSale, accepted}
 use Rattle.machine.specs.Refusals.{tests, notInCase, notInSet}
 use Rattle.machine.proofs.Invariant.{CaseOk}
 use Rattle.machine.proofs.Bounds.{in-set-below, member-ok}
 use Rattle.machine.proofs.Stages.{letter-some, letter-round, round-stage}
-use Rattle.units.proofs.Right.{new-right, pool-right, member-right, round-right}
+use Rattle.units.proofs.Right.{new-right, pool-right, member-right, round-right, sale-right}
 use Rattle.accounts.specs.Pools.{viewPools}
 use Rattle.accounts.specs.declared.members.Members.{Members}
 use Rattle.accounts.specs.Members.{noMembers, putMember, memberOf, viewMembers}
@@ -31,10 +31,12 @@ use Rattle.accounts.proofs.ViewPools as P
 use Rattle.accounts.proofs.ViewMembers as X
 use Rattle.accounts.proofs.ViewRounds as Y
 use Rattle.accounts.proofs.ViewBids as Z
-use Rattle.book.specs.Stages.{nextRound}
-use Rattle.book.specs.Books.{openIn, newBook, poolBook, memberBook, roundBook}
+use Rattle.book.specs.declared.Stage.{Stage}
+use Rattle.book.specs.declared.Stage.the-variants.{After}
+use Rattle.book.specs.Stages.{viewStage, nextRound}
+use Rattle.book.specs.Books.{anyOpenIn, openIn, newBook, poolBook, memberBook, roundBook, saleBook}
 use Rattle.book.proofs.Sound.{Sound}
-use Rattle.book.proofs.Shown.{open-shown}
+use Rattle.book.proofs.Shown.{open-shown, any-open-kept}
 use Rattle.case.specs.declared.Case.{Case}
 use Rattle.case.specs.Cases.{newCase, headFrom, caseAfter}
 use Rattle.case.specs.View.{view}
@@ -121,3 +123,18 @@ module _ (c : Case) (roll : List Entry) (s : Sound (c .stage) (c .book) roll) (o
       refl refl)
       (record { set = s .set; pools = s .pools; members = s .members; rounds = Y.put-long (b .rounds) _ _ (s .rounds); bids = s .bids; won = s .won })
       (round-right (view c roll) ok rs t (b .units) (s .units))
+
+  pub sale-shown : (pool m price : ℕ) → Passed (tests (some (view c roll)) (view c roll) (Wire.SALE pool m price)) → Shown c roll (Wire.SALE pool m price)
+  unfolding caseAfter accepted saleBook afterSale
+  sale-shown pool m price t =
+      let next = saleBook (c .book) pool m price in
+      let right = sale-right (view c roll) ok pool m price t (c .book .units) (s .units) in
+      let open' : anyOpenIn next ≡ anyOpen (sold pool m price roll) = any-open-kept next (view c roll .bids) (sold pool m price roll) (right .kept) in
+      shown-by c roll (Wire.SALE pool m price)
+      (case-ext _ _ (staged (anyOpenIn next) ∙ rw open') refl refl refl refl refl refl)
+      (record { set = s .set; pools = s .pools; members = s .members; rounds = s .rounds; bids = s .bids; won = s .won })
+      right
+    where
+      staged : (b : Bool) → viewStage (if b then c .stage else After 1) ≡ (if b then viewStage (c .stage) else M.After 1)
+      staged true = refl
+      staged false = refl

@@ -12,8 +12,8 @@ use Rattle.book.specs.declared.Book.{Book}
 use Rattle.book.specs.declared.Stage.{Stage}
 use Rattle.book.specs.declared.Stage.the-variants.{Setup, Bidding, After, CallsOut, Finished}
 use Rattle.book.specs.Stages.{roundOf, nextRound}
-use Rattle.book.specs.Books.{newBook, poolBook, memberBook, roundBook, bidBook, closeBook, allocateBook, tearBook, callBook, payBook, moveBook, missBook}
-use Rattle.refusals.specs.Answers.{headAnswer, poolAnswer, memberAnswer, roundAnswer, bidAnswer, closeAnswer, allocateAnswer, tearAnswer, callAnswer, payAnswer, moveAnswer, missAnswer, finishAnswer}
+use Rattle.book.specs.Books.{anyOpenIn, newBook, poolBook, memberBook, roundBook, bidBook, closeBook, allocateBook, tearBook, callBook, payBook, moveBook, missBook, saleBook}
+use Rattle.refusals.specs.Answers.{headAnswer, poolAnswer, memberAnswer, roundAnswer, bidAnswer, closeAnswer, allocateAnswer, tearAnswer, callAnswer, payAnswer, moveAnswer, missAnswer, finishAnswer, saleAnswer}
 use Rattle.case.specs.declared.Case.{Case}
 use Rattle.case.specs.declared.Outcome.{Outcome}
 use Rattle.case.specs.declared.Held.{Held}
@@ -54,6 +54,7 @@ caseAnswer c (Wire.PAY m amount) = payAnswer (c .stage) (c .book) m amount
 caseAnswer c (Wire.MOVE m) = moveAnswer (c .stage) (c .book) m
 caseAnswer c (Wire.MISS m price) = missAnswer (c .stage) (c .book) m price
 caseAnswer c Wire.FINISH = finishAnswer (c .stage) (c .book)
+caseAnswer c (Wire.SALE pool m price) = saleAnswer (c .stage) (c .book) pool m price
 
 -- the answer to a call, where none is held: only HEAD has a stage
 unfoldable pub firstAnswer : Wire.Call → ℕ
@@ -70,6 +71,7 @@ firstAnswer (Wire.PAY m amount) = 2
 firstAnswer (Wire.MOVE m) = 2
 firstAnswer (Wire.MISS m price) = 2
 firstAnswer Wire.FINISH = 2
+firstAnswer (Wire.SALE pool m price) = 2
 
 -- the answer to what is asked; bytes that are no call are answered 1
 unfoldable pub caseAnswerTo : Case → Option Wire.Call → ℕ
@@ -113,6 +115,9 @@ caseAfter c (Wire.PAY m amount) = caseOf (c .stage) (payBook (c .book) m amount)
 caseAfter c (Wire.MOVE m) = caseOf (c .stage) (moveBook (c .book) m)
 caseAfter c (Wire.MISS m price) = caseOf (c .stage) (missBook (c .book) m price)
 caseAfter c Wire.FINISH = caseOf Finished (c .book)
+caseAfter c (Wire.SALE pool m price) =
+    let b = saleBook (c .book) pool m price in
+    caseOf (if anyOpenIn b then c .stage else After 1) b
 
 -- the case after what is asked, if it is accepted
 unfoldable pub afterAsked : Case → Option Wire.Call → Case

@@ -1,4 +1,4 @@
-// The case (document 01): its stage and its book, and the thirteen calls. "Each call takes the case and hands the case back."
+// The case (documents 01 and 02): its stage and its book, and the fourteen calls. "Each call takes the case and hands the case back."
 ghost use mathlib.Core.Path.{_≡_};
 ghost use mathlib.Core.Bool.{Bool};
 ghost use mathlib.Core.List.{[], _∷_};
@@ -6,7 +6,7 @@ ghost use mathlib.Core.Option.{some};
 ghost use Prim.Native.Nat.{_<_, _^_};
 ghost use lib.IntN.{subℕ};
 ghost use lib.ListN.{set};
-ghost use Rattle.machine.specs.Wire.{POOL, MEMBER, BID, CLOSE, ALLOCATE, TEAR, CALL, PAY, MOVE, MISS, FINISH};
+ghost use Rattle.machine.specs.Wire.{POOL, MEMBER, BID, CLOSE, ALLOCATE, TEAR, CALL, PAY, MOVE, MISS, FINISH, SALE};
 ghost use Rattle.wire.specs.Asked.{asked};
 ghost use Rattle.wire.specs.declared.Call.the-variants.{Round};
 ghost use Rattle.units.specs.Shown.{countOf};
@@ -309,6 +309,24 @@ impl Case {
         Case::accepted(next, book)
     }
 
+    // SALE: "If no unit is open afterwards the stage becomes A1".
+    pub fn sale(self, pool: u8, m: u8, price: u32) -> Outcome
+        ensures { λ r. ⌜ r ≡ outcomeOf self (some (SALE pool m price)) ⌝ }
+    {
+        let stage = self.stage;
+        let book = self.book;
+        let answer = refusals::sale_answer(book, stage, pool, m, price);
+        if answer != 0 {
+            return self.declined(answer);
+        }
+        let sold = book.take_sale(pool, m, price);
+        if sold.any_open() {
+            return Case::accepted(stage, sold);
+        }
+        let next = Stage::After(1);
+        Case::accepted(next, sold)
+    }
+
     // ---- what is read of a case
 
     // How many units of a pool are open (0), sold (1), allocated (2), moved (3) or torn (4).
@@ -411,6 +429,11 @@ fn first_answer(call: Call) -> u8
             price: _,
         } => 2,
         Call::Finish => 2,
+        Call::Sale {
+            pool: _,
+            member: _,
+            price: _,
+        } => 2,
         Call::Unknown => 1,
     }
 }
@@ -452,6 +475,11 @@ fn answer_in(case: Case, call: Call) -> u8
         Call::Move { member } => refusals::move_answer(case.book, stage, member),
         Call::Miss { member, price } => refusals::miss_answer(case.book, stage, member, price),
         Call::Finish => refusals::finish_answer(case.book, stage),
+        Call::Sale {
+            pool,
+            member,
+            price,
+        } => refusals::sale_answer(case.book, stage, pool, member, price),
         Call::Unknown => 1,
     }
 }
@@ -501,6 +529,14 @@ pub fn after(case: Case, call: Call) -> Case
         Call::Finish => {
             let held = case;
             case_of(held.finish())
+        }
+        Call::Sale {
+            pool,
+            member,
+            price,
+        } => {
+            let held = case;
+            case_of(held.sale(pool, member, price))
         }
         Call::Unknown => case,
     }

@@ -20,7 +20,7 @@ use Rattle.lists.proofs.Places.{length-tab, getD-tab}
 use Rattle.sets.specs.Set.{member, members}
 use Rattle.sets.proofs.Bits.{member-high}
 use Rattle.sets.proofs.Members.{members-each, ext}
-use Rattle.machine.specs.Wire.{HEAD, POOL, MEMBER, ROUND, BID, CLOSE, ALLOCATE, TEAR, CALL, PAY, MOVE, MISS, FINISH}
+use Rattle.machine.specs.Wire.{HEAD, POOL, MEMBER, ROUND, BID, CLOSE, ALLOCATE, TEAR, CALL, PAY, MOVE, MISS, FINISH, SALE}
 use Rattle.machine.specs.Roll.{Entry}
 use Rattle.machine.specs.State.{Member, Case, memberAt, letter, letterOf}
 use Rattle.machine.specs.Refusals.{notInCase, notInSet, noneOpen, marked, notGiven, tests, refusal}
@@ -34,10 +34,10 @@ use Rattle.accounts.proofs.ViewPools as VP
 use Rattle.accounts.proofs.ViewBids as VB
 use Rattle.book.specs.declared.Stage.{Stage}
 use Rattle.book.specs.declared.Book.{Book}
-use Rattle.refusals.specs.Answers.{headAnswer, poolAnswer, memberAnswer, roundAnswer, bidAnswer, closeAnswer, allocateAnswer, tearAnswer, callAnswer, payAnswer, moveAnswer, missAnswer, finishAnswer}
+use Rattle.refusals.specs.Answers.{headAnswer, poolAnswer, memberAnswer, roundAnswer, bidAnswer, closeAnswer, allocateAnswer, tearAnswer, callAnswer, payAnswer, moveAnswer, missAnswer, finishAnswer, saleAnswer}
 use Rattle.book.specs.View.{viewOf}
 use Rattle.book.proofs.Sound.{Sound}
-use Rattle.book.proofs.Shown.{open-shown, any-open-shown, requirement-shown, prefunded-shown, short-shown, passed-shown, debt-shown, someone-owes-shown}
+use Rattle.book.proofs.Shown.{open-shown, any-open-shown, requirement-shown, prefunded-shown, short-shown, passed-shown, too-dear-shown, debt-shown, someone-owes-shown}
 
 -- where there is no case
 pub head-answer : (h : Head) → headAnswer h ≡ refusal none (HEAD (headOf h))
@@ -231,3 +231,17 @@ module _ (stage : Stage) (b : Book) (roll : List Entry) (w : Sound stage b roll)
       (λ e. same 13 _ _ (rw (requirement-shown stage b roll w ok, prefunded-shown stage b roll w ok))
       (λ e. same 15 _ _ (someone-owes-shown stage b roll w ok)
       (λ e. refl))))
+
+  -- ---- SALE
+
+  pub sale-answer : (pool m price : ℕ) → saleAnswer stage b pool m price ≡ refusal (some (viewOf stage b roll)) (SALE pool m price)
+  unfolding saleAnswer refusal tests notInCase notInSet noneOpen notGiven letterOf
+  sale-answer pool m price =
+      same 2 _ _ refl
+      (λ setup. same 3 _ _ refl
+      (λ e. same 4 _ _ refl
+      (λ e. same 5 _ _ refl
+      (λ e. same 8 _ _ (rw (open-shown stage b roll w ok pool))
+      (λ e. same 10 _ _ (rw (VP.length-view (b .pools), all-given-shown))
+      (λ e. same 17 _ _ (too-dear-shown stage b roll w ok (eqb-true (letter (c .stage)) 1 (not-false _ setup)) pool m price)
+      (λ e. refl)))))))

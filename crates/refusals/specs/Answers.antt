@@ -16,7 +16,7 @@ use Rattle.accounts.specs.Members.{owesOf, someoneOwesIn}
 use Rattle.book.specs.declared.Stage.{Stage}
 use Rattle.book.specs.declared.Book.{Book}
 use Rattle.book.specs.Stages.{letterOf, roundOf}
-use Rattle.book.specs.Books.{openIn, anyOpenIn, passedIn, requirementIn, prefundedIn, shortIn}
+use Rattle.book.specs.Books.{openIn, anyOpenIn, passedIn, tooDearIn, requirementIn, prefundedIn, shortIn}
 
 -- "expected units to 1,000, and 0 for a pool the case lacks": whether the case has the pool, and the units
 abbrev pub expectedOk : Bool → ℕ → Bool
@@ -133,4 +133,17 @@ finishAnswer stage b =
     ∷ (11, anyOpenIn b)
     ∷ (13, isIn stage 3 && ltb (prefundedIn b) (requirementIn b))
     ∷ (15, someoneOwesIn (b .members) (b .head .set))
+    ∷ [])
+
+-- document 02, C-12
+unfoldable pub saleAnswer : Stage → Book → ℕ → ℕ → ℕ → ℕ
+saleAnswer stage b pool m price =
+    firstOf
+    ((2, not (isIn stage 1))
+    ∷ (3, leb (b .head .pools) pool)
+    ∷ (4, not (member (b .head .set) m))
+    ∷ (5, not (priceOk price))
+    ∷ (8, eqb (openIn b pool) 0)
+    ∷ (10, ltb (b .pools .given) (b .head .pools) || not (eqb (b .members .given) (b .head .set)))
+    ∷ (17, tooDearIn b pool price)
     ∷ [])

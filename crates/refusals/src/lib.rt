@@ -1,4 +1,4 @@
-// Why a call is declined (document 01): for each call the first number of 01's list that applies, read off the stage and the book, or 0.
+// Why a call is declined (documents 01 and 02): for each call the first number of 01's list that applies, read off the stage and the book, or 0.
 ghost use mathlib.Core.Path.{_≡_};
 ghost use mathlib.Core.List.{[], _∷_};
 ghost use lib.ListN.{take};
@@ -6,7 +6,7 @@ ghost use Rattle.lists.specs.Lists.{between, all};
 ghost use Rattle.auction.specs.Price.{priceOk};
 ghost use Rattle.machine.specs.Refusals.{headOk, poolOk, memberOk, bidOk, paymentOk};
 ghost use Rattle.wire.specs.Asked.{headOf};
-ghost use Rattle.refusals.specs.Answers.{expectedOk, headAnswer, poolAnswer, memberAnswer, roundAnswer, bidAnswer, closeAnswer, allocateAnswer, tearAnswer, callAnswer, payAnswer, moveAnswer, missAnswer, finishAnswer};
+ghost use Rattle.refusals.specs.Answers.{expectedOk, headAnswer, poolAnswer, memberAnswer, roundAnswer, bidAnswer, closeAnswer, allocateAnswer, tearAnswer, callAnswer, payAnswer, moveAnswer, missAnswer, finishAnswer, saleAnswer};
 use book::Book;
 use book::Stage;
 use wire::Call;
@@ -327,4 +327,28 @@ pub fn finish_answer(book: Book, stage: Stage) -> u8
     let owing = members.someone_owes(head.set);
     let a15 = lists::decline_if(owing, 15, 0);
     lists::decline_if(lists::both(letter == 3, held < required), 13, a15)
+}
+
+pub fn sale_answer(book: Book, stage: Stage, pool: u8, m: u8, price: u32) -> u8
+    ensures { λ r. ⌜ r ≡ saleAnswer stage book pool m price ⌝ }
+{
+    let letter = book::letter(stage);
+    let head = book.head;
+    let pools = book.pools;
+    let members = book.members;
+    let in_set = sets::has(head.set, m);
+    let open = book.open_units(pool);
+    let dear = book.too_dear(pool, price);
+    let ok = price_ok(price);
+    let a17 = lists::decline_if(dear, 17, 0);
+    let a10 = lists::decline_if(
+        lists::either(pools.given < head.pools, members.given != head.set),
+        10,
+        a17,
+    );
+    let a8 = lists::decline_if(open == 0, 8, a10);
+    let a5 = lists::decline_if(!ok, 5, a8);
+    let a4 = lists::decline_if(!in_set, 4, a5);
+    let a3 = lists::decline_if(head.pools <= pool, 3, a4);
+    lists::decline_if(letter != 1, 2, a3)
 }
