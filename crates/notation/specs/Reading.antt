@@ -241,7 +241,7 @@ outcome s =
 unfoldable pub readLine : List ℕ → Read
 readLine line = outcome (step (scan begin 0 line) 10 (length line))
 
--- the call of document 01 that a line was read as
+-- the call that a line was read as
 unfoldable pub askedBy : Read → Option Wire.Call
 askedBy Nothing = none
 askedBy (Called call) = asked call
