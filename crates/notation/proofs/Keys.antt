@@ -187,3 +187,18 @@ pub key-12-1 : (s : Scan) (ns : List ℕ) (i : ℕ) → Settles s 12 1 ns → Be
 unfolding computing
 key-12-1 s ns i h =
     record { start = suc i; value = keyCode 12 1; is = ap (λ (t : Scan). scan t (suc i) (112 ∷ 114 ∷ 105 ∷ 99 ∷ 101 ∷ 32 ∷ [])) (space-step s 12 1 ns h i) }
+
+pub key-14-0 : (s : Scan) (ns : List ℕ) (i : ℕ) → Settles s 14 0 ns → Before (scan s i (separator (keyOf 14 0))) 14 0 ns
+unfolding computing
+key-14-0 s ns i h =
+    record { start = suc i; value = keyCode 14 0; is = ap (λ (t : Scan). scan t (suc i) (112 ∷ 111 ∷ 111 ∷ 108 ∷ 32 ∷ [])) (space-step s 14 0 ns h i) }
+
+pub key-14-1 : (s : Scan) (ns : List ℕ) (i : ℕ) → Settles s 14 1 ns → Before (scan s i (separator (keyOf 14 1))) 14 1 ns
+unfolding computing
+key-14-1 s ns i h =
+    record { start = suc i; value = keyCode 14 1; is = ap (λ (t : Scan). scan t (suc i) (109 ∷ 101 ∷ 109 ∷ 98 ∷ 101 ∷ 114 ∷ 32 ∷ [])) (space-step s 14 1 ns h i) }
+
+pub key-14-2 : (s : Scan) (ns : List ℕ) (i : ℕ) → Settles s 14 2 ns → Before (scan s i (separator (keyOf 14 2))) 14 2 ns
+unfolding computing
+key-14-2 s ns i h =
+    record { start = suc i; value = keyCode 14 2; is = ap (λ (t : Scan). scan t (suc i) (112 ∷ 114 ∷ 105 ∷ 99 ∷ 101 ∷ 32 ∷ [])) (space-step s 14 2 ns h i) }

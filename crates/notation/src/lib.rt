@@ -36,7 +36,7 @@ pub enum Read {
 }
 
 // Which key stands before the numbers of each call, eight for each tag; 0 is none.
-const KEYS: [u8; 112] = *b"\
+const KEYS: [u8; 120] = *b"\
     \x00\x00\x00\x00\x00\x00\x00\x00\
     \x01\x02\x03\x04\x05\x06\x07\x08\
     \x09\x0a\x0b\x00\x00\x00\x00\x00\
@@ -50,7 +50,8 @@ const KEYS: [u8; 112] = *b"\
     \x0c\x11\x00\x00\x00\x00\x00\x00\
     \x0c\x00\x00\x00\x00\x00\x00\x00\
     \x0c\x10\x00\x00\x00\x00\x00\x00\
-    \x00\x00\x00\x00\x00\x00\x00\x00";
+    \x00\x00\x00\x00\x00\x00\x00\x00\
+    \x09\x0c\x10\x00\x00\x00\x00\x00";
 
 // The keys as numbers.
 const CODES: [u64; 18] = [
@@ -260,7 +261,7 @@ fn with_digit(value: u64, d: u64) -> u64
 fn key(tag: u8, i: usize) -> u64
     ensures { λ r. ⌜ r ≡ keyCode tag i ⌝ }
 {
-    if 14 <= tag {
+    if 15 <= tag {
         return 0;
     }
     if 8 <= i {
@@ -275,7 +276,8 @@ fn key(tag: u8, i: usize) -> u64
 fn tag_named(v: u64) -> u8
     ensures { λ r. ⌜ r ≡ tagNamed v ⌝ }
 {
-    let t13 = lists::decline_if(v == 211232360, 13, 0);
+    let t14 = lists::decline_if(v == 624005, 14, 0);
+    let t13 = lists::decline_if(v == 211232360, 13, t14);
     let t12 = lists::decline_if(v == 435827, 12, t13);
     let t11 = lists::decline_if(v == 442053, 11, t12);
     let t10 = lists::decline_if(v == 16441, 10, t11);
@@ -803,6 +805,19 @@ fn bid_of(n: [u32; 8]) -> Call
     }
 }
 
+fn sale_of(n: [u32; 8]) -> Call
+    ensures { λ r. ⌜ r ≡ callOf 14 0 n ⌝ }
+{
+    let pool = one(n[0]);
+    let member = one(n[1]);
+    let price = n[2];
+    Call::Sale {
+        pool,
+        member,
+        price,
+    }
+}
+
 // The calls from CLOSE on.
 fn later_call(tag: u8, n: [u32; 8]) -> Call
     requires { ⌜ 6 ≤ tag ⌝ }
@@ -845,6 +860,9 @@ fn later_call(tag: u8, n: [u32; 8]) -> Call
     }
     if tag == 13 {
         return Call::Finish;
+    }
+    if tag == 14 {
+        return sale_of(n);
     }
     Call::Unknown
 }

@@ -121,6 +121,7 @@ tag-some (Wire.PAY m amount) e = omega arith
 tag-some (Wire.MOVE m) e = omega arith
 tag-some (Wire.MISS m price) e = omega arith
 tag-some Wire.FINISH e = omega arith
+tag-some (Wire.SALE pool m price) e = omega arith
 
 -- the line that is written of a call, or of none
 abbrev written : Option Wire.Call → List ℕ

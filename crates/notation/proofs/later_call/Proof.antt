@@ -1,9 +1,9 @@
 -- `notation::later_call` meets its contract. Assumes nothing.
-use mathlib.Core.Path.{sym}
+use mathlib.Core.Path.{sym, _∙_}
 use native.Mathlib.Omega.{arith}
 use borrow.Author.Tests.{ne-eqb}
 use Rattle.notation.specs.Reading.{callOf}
-use Rattle.notation.proofs.Codes.{call-6, call-7, call-8, call-9, call-10, call-11, call-12, call-13}
+use Rattle.notation.proofs.Codes.{call-6, call-7, call-8, call-9, call-10, call-11, call-12, call-13, call-by}
 use borrow.Author.Needs.{needs}
 use Rattle.notation.proofs.later_call.Statement.{statement}
 use Rattle.notation.proofs.later_call.Tie as tie
@@ -41,9 +41,15 @@ returns-7 c = rw (c .before .before .before .before .before .before .before .one
 returns-8 : tie.Need-returns-8
 returns-8 c = sym (call-13 _ 0 _ (c .if8 .taken))
 
+sale-of-requires : tie.Need-sale-of-requires
+sale-of-requires c κs = search needs
+
 returns-9 : tie.Need-returns-9
+returns-9 c = c .sale-of .ensures ∙ sym (call-by _ 0 _ 14 (c .before .if9 .taken))
+
+returns-10 : tie.Need-returns-10
 unfolding callOf
-returns-9 c = let t = c .before .before .before .before .before .before .before .before .before .args .tag in rw (ne-eqb t 1 (λ e. omega arith), ne-eqb t 2 (λ e. omega arith), ne-eqb t 3 (λ e. omega arith), ne-eqb t 4 (λ e. omega arith), ne-eqb t 5 (λ e. omega arith), ne-eqb _ 6 (c .before .before .before .before .before .before .before .if1 .left), ne-eqb _ 7 (c .before .before .before .before .before .before .if2 .left), ne-eqb _ 8 (c .before .before .before .before .before .if3 .left), ne-eqb _ 9 (c .before .before .before .before .if4 .left), ne-eqb _ 10 (c .before .before .before .if5 .left), ne-eqb _ 11 (c .before .before .if6 .left), ne-eqb _ 12 (c .before .if7 .left), ne-eqb _ 13 (c .if8 .left))
+returns-10 c = let t = c .before .before .before .before .before .before .before .before .before .before .args .tag in rw (ne-eqb t 1 (λ e. omega arith), ne-eqb t 2 (λ e. omega arith), ne-eqb t 3 (λ e. omega arith), ne-eqb t 4 (λ e. omega arith), ne-eqb t 5 (λ e. omega arith), ne-eqb _ 6 (c .before .before .before .before .before .before .before .before .if1 .left), ne-eqb _ 7 (c .before .before .before .before .before .before .before .if2 .left), ne-eqb _ 8 (c .before .before .before .before .before .before .if3 .left), ne-eqb _ 9 (c .before .before .before .before .before .if4 .left), ne-eqb _ 10 (c .before .before .before .before .if5 .left), ne-eqb _ 11 (c .before .before .before .if6 .left), ne-eqb _ 12 (c .before .before .if7 .left), ne-eqb _ 13 (c .before .if8 .left), ne-eqb _ 14 (c .if9 .left))
 
 pub later-call-spec : {M : Type 1} → statement M
 later-call-spec =
@@ -60,4 +66,6 @@ later-call-spec =
     returns-6
     returns-7
     returns-8
-    returns-9)
+    sale-of-requires
+    returns-9
+    returns-10)
