@@ -1,4 +1,4 @@
--- A call that is declined hands the case back unchanged; an accepted one hands back the case after it. Also ROUND's reserves, read one by one.
+-- A call that is declined hands the case back unchanged; an accepted one hands back the case after it. Also ROUND's reserves, read one by one, and SALE's stage.
 -- Assumes nothing.
 use mathlib.Core.Bool.{Bool, true, false, not}
 use mathlib.Core.List.{List, [], _∷_}
@@ -17,9 +17,10 @@ use Rattle.machine.specs.Wire as Wire
 use Rattle.wire.specs.declared.Head.{Head}
 use Rattle.wire.specs.Asked.{asked}
 use Rattle.wire.specs.declared.Call.the-variants.{Round}
-use Rattle.book.specs.declared.Stage.the-variants.{Bidding}
+use Rattle.book.specs.declared.Book.{Book}
+use Rattle.book.specs.declared.Stage.the-variants.{Bidding, After}
 use Rattle.book.specs.Stages.{roundOf, nextRound}
-use Rattle.book.specs.Books.{roundBook}
+use Rattle.book.specs.Books.{anyOpenIn, roundBook, saleBook}
 use Rattle.refusals.specs.Answers.{headAnswer}
 use Rattle.case.specs.declared.Case.{Case}
 use Rattle.case.specs.declared.Outcome.{Outcome}
@@ -126,3 +127,16 @@ pub head-accepted : (h : Head) (n : ℕ) → n ≡ headAnswer h → n ≡ 0 → 
     → _≡_ {A = Applied} (record { answer = 0; held = record { present = true; case = c } }) (headOutcome h)
 unfolding headOutcome
 head-accepted h n e z c is = let a : headAnswer h ≡ 0 = sym e ∙ z in rw (a, is)
+
+-- ---- SALE
+
+module _ (c : Case) (pool m price : ℕ) (b : Book) (is : b ≡ saleBook (c .book) pool m price) (any : Bool) (found : any ≡ anyOpenIn b) where
+  -- a unit is open after it
+  pub sale-open : any ≡ true → caseOf (c .stage) b ≡ caseAfter c (Wire.SALE pool m price)
+  unfolding caseAfter
+  sale-open t = rw (← is) (rw (sym found ∙ t))
+
+  -- none is
+  pub sale-shut : any ≡ false → caseOf (After 1) b ≡ caseAfter c (Wire.SALE pool m price)
+  unfolding caseAfter
+  sale-shut t = rw (← is) (rw (sym found ∙ t))

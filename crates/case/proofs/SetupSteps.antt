@@ -20,6 +20,7 @@ use Rattle.machine.specs.State.{letterOf}
 use Rattle.machine.specs.Calls.{newMember, afterPool, afterMember, afterRound, sold, afterSale, accepted}
 use Rattle.machine.specs.Refusals.{tests, notInCase, notInSet}
 use Rattle.machine.proofs.Invariant.{CaseOk}
+use Rattle.machine.proofs.CallsKept.{round-open}
 use Rattle.machine.proofs.Bounds.{in-set-below, member-ok}
 use Rattle.machine.proofs.Stages.{letter-some, letter-round, round-stage}
 use Rattle.units.proofs.Right.{new-right, pool-right, member-right, round-right, sale-right}
@@ -111,7 +112,7 @@ module _ (c : Case) (roll : List Entry) (s : Sound (c .stage) (c .book) roll) (o
       let stage = view c roll .stage in
       let most = ok .head .pools-most in
       let long : length rs ≡ b .head .pools = eqb-true (length rs) (b .head .pools) (not-false _ (rw (letter-some stage) at (t .0))) in
-      let from = round-stage stage (length (view c roll .rounds)) (ok .stage) (letter-round stage (t .1 .0)) in
+      let from = round-stage stage (length (view c roll .rounds)) (ok .stage) (round-open (view c roll) ok rs t) (letter-round stage (t .1 .0)) in
       let room : b .rounds .held < 2 = omega (arith, from .0, from .1, Y.length-view (b .head .pools) (b .rounds)) in
       shown-by c roll (Wire.ROUND rs)
       (case-ext _ _

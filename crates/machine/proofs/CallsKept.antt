@@ -247,6 +247,11 @@ module _ (c : Case) (ok : CaseOk c) where
         λ m l i. not-false _ (rw (getD-tab 32 (λ (k : ℕ). k) m 0 l) at (each-kept-at P (inSet (c .head)) (places 32) m 0 each (omega (arith, length-tab 32 (λ (k : ℕ). k))) (rw (getD-tab 32 (λ (k : ℕ). k) m 0 l) i))),
       )
 
+  -- where A has no round, no unit is open, and 8 declines ROUND
+  pub round-open : (reserves : List ℕ) → Passed (tests (some c) c (ROUND reserves)) → letter (c .stage) ≡ 3 → length (c .rounds) ≡ 0 → ⊥
+  unfolding tests letterOf
+  round-open reserves t a z = false≢true (sym (rw (a, all-shut (c .roll) (ok .units .sold-out a z)) at (t .1 .1 .1 .0)))
+
   pub round-ok : (reserves : List ℕ) → Passed (tests (some c) c (ROUND reserves)) → CaseOk (afterRound c reserves)
   unfolding tests afterRound newRound letterOf letter roundOf reserve
   round-ok reserves t =
@@ -254,9 +259,7 @@ module _ (c : Case) (ok : CaseOk c) where
       let n = c .head .pools in
       let next = newRound n (c .roll) reserves in
       let more = length-append (c .rounds) (next ∷ []) in
-      let from = round-stage (c .stage) (length (c .rounds)) (ok .stage) (λ a z. absurd (
-      false≢true (sym (rw (a, all-shut (c .roll) (ok .units .sold-out a z)) at (t .1 .1 .1 .0)))
-      )) (letter-round (c .stage) (t .1 .0)) in
+      let from = round-stage (c .stage) (length (c .rounds)) (ok .stage) (round-open reserves t) (letter-round (c .stage) (t .1 .0)) in
       let complete = round-complete (t .1 .1 .1 .1 .0) in
       record {
         head = ok .head;

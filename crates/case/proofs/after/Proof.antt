@@ -123,6 +123,15 @@ finish-requires c κs = search needs
 case-of-requires-12 : tie.Need-case-of-requires-12
 case-of-requires-12 c κs = search needs
 
+enum-known-call-11 : tie.Need-enum-known-call-11
+enum-known-call-11 c = search needs
+
+sale-requires : tie.Need-sale-requires
+sale-requires c κs = search needs
+
+case-of-requires-13 : tie.Need-case-of-requires-13
+case-of-requires-13 c κs = search needs
+
 enum-told-4 : tie.Need-enum-told-4
 enum-told-4 c = search needs
 
@@ -184,8 +193,12 @@ unfolding asked firstAnswerTo firstAnswer
 returns-13 c = rw (c .before .before .enum-told3 .given .1) (λ present e. c .case-of12 .ensures ∙ handed (c .before .before .before .before .args .case) _ (λ z. absurd (omega arith)) _ (c .before .finish .ensures) present e)
 
 returns-14 : tie.Need-returns-14
+unfolding asked firstAnswerTo firstAnswer
+returns-14 c = rw (c .before .before .before .call12 .given .1) (λ present e. c .case-of13 .ensures ∙ handed (c .before .before .before .before .before .args .case) _ (λ z. absurd (omega arith)) _ (c .before .sale .ensures) present e)
+
+returns-15 : tie.Need-returns-15
 unfolding asked afterAsked
-returns-14 c = λ present e. rw (c .enum-told4 .given .1)
+returns-15 c = λ present e. rw (c .enum-told4 .given .1)
 
 pub after-spec : {M : Type 1} → statement M
 after-spec =
@@ -229,6 +242,9 @@ after-spec =
     enum-told-3
     finish-requires
     case-of-requires-12
+    enum-known-call-11
+    sale-requires
+    case-of-requires-13
     enum-told-4
     returns
     returns-2
@@ -243,4 +259,5 @@ after-spec =
     returns-11
     returns-12
     returns-13
-    returns-14)
+    returns-14
+    returns-15)

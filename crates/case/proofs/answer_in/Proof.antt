@@ -82,6 +82,12 @@ enum-told-4 c = search needs
 finish-answer-requires : tie.Need-finish-answer-requires
 finish-answer-requires c κs = search needs
 
+enum-known-call-10 : tie.Need-enum-known-call-10
+enum-known-call-10 c = search needs
+
+sale-answer-requires : tie.Need-sale-answer-requires
+sale-answer-requires c κs = search needs
+
 enum-told-5 : tie.Need-enum-told-5
 enum-told-5 c = search needs
 
@@ -138,7 +144,11 @@ returns-13 c = simp (c .before .enum-told4 .given .1, c .finish-answer .ensures)
 
 returns-14 : tie.Need-returns-14
 unfolding asked caseAnswerTo caseAnswer
-returns-14 c = simp (c .enum-told5 .given .1)
+returns-14 c = simp (c .before .before .call10 .given .1, c .sale-answer .ensures)
+
+returns-15 : tie.Need-returns-15
+unfolding asked caseAnswerTo caseAnswer
+returns-15 c = simp (c .enum-told5 .given .1)
 
 pub answer-in-spec : {M : Type 1} → statement M
 answer-in-spec =
@@ -169,6 +179,8 @@ answer-in-spec =
     miss-answer-requires
     enum-told-4
     finish-answer-requires
+    enum-known-call-10
+    sale-answer-requires
     enum-told-5
     returns
     returns-2
@@ -183,4 +195,5 @@ answer-in-spec =
     returns-11
     returns-12
     returns-13
-    returns-14)
+    returns-14
+    returns-15)

@@ -57,6 +57,9 @@ enum-told-11 c = search needs
 enum-told-12 : tie.Need-enum-told-12
 enum-told-12 c = search needs
 
+enum-told-13 : tie.Need-enum-told-13
+enum-told-13 c = search needs
+
 returns : tie.Need-returns
 unfolding asked firstAnswerTo firstAnswer
 returns c = simp (c .before .before .call .given .1, c .head-answer .ensures)
@@ -114,6 +117,10 @@ returns-14 : tie.Need-returns-14
 unfolding asked firstAnswerTo firstAnswer
 returns-14 c = simp (c .enum-told12 .given .1)
 
+returns-15 : tie.Need-returns-15
+unfolding asked firstAnswerTo firstAnswer
+returns-15 c = simp (c .enum-told13 .given .1)
+
 pub first-answer-spec : {M : Type 1} → statement M
 first-answer-spec =
     tie.close
@@ -135,6 +142,7 @@ first-answer-spec =
     enum-told-10
     enum-told-11
     enum-told-12
+    enum-told-13
     returns
     returns-2
     returns-3
@@ -148,4 +156,5 @@ first-answer-spec =
     returns-11
     returns-12
     returns-13
-    returns-14)
+    returns-14
+    returns-15)
