@@ -5,6 +5,7 @@ pub mod WorkedDebts
 pub mod WorkedRanks
 pub mod WorkedStages
 pub mod WorkedRanges
+pub mod WorkedSales
 pub mod Answers
 pub mod Tables
 pub mod RollChanges
