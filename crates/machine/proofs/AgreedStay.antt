@@ -55,7 +55,7 @@ open-free (Moved m) e = refl
 open-free (Torn price) e = refl
 open-free (Agreed m price) e = absurd (false≢true e)
 
-passed-free : (m : ℕ) (s : UnitState) → passedTo m s ≡ true → isAgreed s ≡ false
+pub passed-free : (m : ℕ) (s : UnitState) → passedTo m s ≡ true → isAgreed s ≡ false
 unfolding passedTo isAgreed
 passed-free m Open e = refl
 passed-free m (Sold bid) e = refl

@@ -18,6 +18,7 @@ pub mod Setters
 pub mod CallsKept
 pub mod Reached
 pub mod Selling
+pub mod SoldOut
 pub mod Bounds
 pub mod RollSteps
 pub mod AgreedStay
