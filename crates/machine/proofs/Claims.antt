@@ -12,7 +12,7 @@ use Rattle.lists.specs.Lists.{if_then_else_, sum, count, all, keep}
 use Rattle.lists.proofs.Each.{Each, each-at}
 use Rattle.lists.specs.Tests.{Passed, First}
 use Rattle.auction.specs.Price.{priceLimit, priceOk, cents, atLeast0}
-use Rattle.machine.specs.Wire.{Call, ROUND, ALLOCATE, CALL, FINISH, number, price, signed, decode}
+use Rattle.machine.specs.Wire.{Call, ROUND, ALLOCATE, CALL, FINISH, SALE, number, price, signed, decode}
 use Rattle.machine.specs.Roll.{Entry, Sold, Allocated, Moved, Agreed, noBid, isAgreed, openUnits, priceOf, prices, agreedPrices}
 use Rattle.machine.specs.State.{Finished, Case, State, theCase, letter, letterOf, roundOf, withStage, noPool, noMember, noRound, inSet, memberList, memberAt}
 use Rattle.machine.specs.Requirement.{requirement, contributions, prefunded}
@@ -95,6 +95,11 @@ module _ (s : State) (bytes : List ℕ) where
   pub agreed-stay : (i : ℕ) → i < length (S.rollOf s) → isAgreed (getD (S.rollOf s) i noEntry .state) ≡ true
       → getD (S.rollOf (step s bytes .state)) i noEntry ≡ getD (S.rollOf s) i noEntry
   agreed-stay = G.agreed-stay s bytes
+
+  -- and no call but SALE sells another: the units sold by agreement are those that were, in number and by pool, member and price
+  pub agreed-kept : ((pool m price : ℕ) → decode bytes ≡ some (SALE pool m price) → ⊥)
+      → keep (λ e. isAgreed (e .state)) (S.rollOf (step s bytes .state)) ≡ keep (λ e. isAgreed (e .state)) (S.rollOf s)
+  agreed-kept = G.agreed-kept s bytes
 
 -- "ALLOCATE is accepted at most once in a pool": after one, no later one is
 pub allocate-once : (calls more : List (List ℕ)) (one two : List ℕ) (pool price later : ℕ)

@@ -2,10 +2,12 @@
 -- from it; every figure is worked out by hand. Assumes nothing.
 use mathlib.Core.Path.{_≡_, refl}
 use mathlib.Core.List.{List, [], _∷_, _++_}
+use mathlib.Core.Option.{none}
 use Prim.Native.Nat.{ℕ, _-_}
 use lib.IntN.{ℤ, negℤ, pos}
 use Rattle.auction.specs.Price.{zeroPrice}
-use Rattle.machine.specs.Run.{sumOfPrices}
+use Rattle.machine.specs.Run.{runFrom, sumOfPrices}
+use Rattle.machine.specs.Table.{letterIn, A1}
 use Rattle.machine.specs.Computing.{computing}
 use Rattle.machine.proofs.Examples.{caseAfter, answersAfter, Example, _says_, AllHold}
 use Rattle.machine.proofs.CallBytes.{−_, head, pool, member, round, bid, close, allocate, tear, call, pay, move, miss, finish, sale}
@@ -357,6 +359,11 @@ soldOut =
           ∷ (m ∷ 1 ∷ 1 ∷ 0 ∷ 0 ∷ [])
           ∷ [];
     }
+
+-- it is A1 without a round
+pub sold-out-reached : (letterIn (runFrom none allSold) ≡ A1) × (caseAfter allSold .rounds ≡ [])
+unfolding computing
+sold-out-reached = (refl, refl)
 
 -- One pool is sold by agreement, the other in two rounds.
 abbrev pub otherPool : Worked
