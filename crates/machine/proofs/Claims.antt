@@ -13,7 +13,7 @@ use Rattle.lists.proofs.Each.{Each, each-at}
 use Rattle.lists.specs.Tests.{Passed, First}
 use Rattle.auction.specs.Price.{priceLimit, priceOk, cents, atLeast0}
 use Rattle.machine.specs.Wire.{Call, ROUND, ALLOCATE, CALL, FINISH, SALE, number, price, signed, decode}
-use Rattle.machine.specs.Roll.{Entry, Sold, Allocated, Moved, Agreed, noBid, isAgreed, openUnits, priceOf, prices, agreedPrices}
+use Rattle.machine.specs.Roll.{Entry, Sold, Allocated, Moved, Agreed, noBid, withState, isAgreed, openUnits, priceOf, prices, agreedPrices}
 use Rattle.machine.specs.State.{Finished, Case, State, theCase, letter, letterOf, roundOf, withStage, noPool, noMember, noRound, inSet, memberList, memberAt}
 use Rattle.machine.specs.Requirement.{requirement, contributions, prefunded}
 use Rattle.machine.specs.Calls.{reserve, inAuction, bidsAfter, wonByMember, shortfall, totalShortfall, allocation, calls, afterClose, afterAllocate, afterSale, accepted}
@@ -33,6 +33,7 @@ use Rattle.machine.proofs.RollSteps as S
 use Rattle.machine.proofs.AgreedStay as G
 use Rattle.machine.proofs.Selling as E
 use Rattle.machine.proofs.SoldOut as O
+use Rattle.machine.proofs.WholePools as W
 use Rattle.machine.proofs.Bounds as B
 use Rattle.machine.proofs.Bytes as Y
 use Rattle.machine.proofs.Prices as P
@@ -242,6 +243,14 @@ module _ (calls : List (List ℕ)) (c : Case) (here : runFrom none calls ≡ som
   pub sale-by-requirement : letter (c .stage) ≡ 1 → (pool m price : ℕ)
       → saleTooDear c pool m price ≡ ltb (c .head .margin + c .head .fund) (requirement (afterSale c pool m price))
   sale-by-requirement = E.sale-by-requirement c in-order
+
+  -- C-12: SALE "sells the whole pool to one member": every unit of it, and no other
+  pub sale-whole : (bytes : List ℕ) (pool m price : ℕ) → decode bytes ≡ some (SALE pool m price) → step (some c) bytes .answer ≡ 0
+      → S.rollOf (step (some c) bytes .state) ≡ map (λ e. if eqb (e .pool) pool then withState e (Agreed m price) else e) (c .roll)
+  sale-whole bytes pool m price is e =
+      let zero = sym (A.call-answer (some c) bytes (SALE pool m price) is) ∙ e in
+      ap S.rollOf (A.call-accepted (some c) bytes (SALE pool m price) is zero)
+      ∙ W.sale-whole c (W.whole-pools calls c here) pool m price (A.accepted-passed (some c) (SALE pool m price) zero)
 
   -- C-12: A without a round, where no unit was left open by the last SALE. Every unit is sold by agreement, and the requirement is within margin and fund, so
   -- that no layer after them (2, counted from 0) is charged

@@ -19,6 +19,7 @@ pub mod CallsKept
 pub mod Reached
 pub mod Selling
 pub mod SoldOut
+pub mod WholePools
 pub mod Bounds
 pub mod RollSteps
 pub mod AgreedStay

@@ -59,40 +59,40 @@ module _
     (moved-new : (k m : ℕ) → New k (Moved m))
     (torn-new : (k price : ℕ) → New k (Torn price))
   where
-  none-added : (roll new : List Entry) → Changes New roll new → Changes New (putUpAll [] roll) new
-  none-added roll new h = rw (append-nil roll) h
+    none-added : (roll new : List Entry) → Changes New roll new → Changes New (putUpAll [] roll) new
+    none-added roll new h = rw (append-nil roll) h
 
-  same-roll : (s : State) → Changes New (putUpAll [] (rollOf s)) (rollOf s)
-  same-roll s = none-added (rollOf s) (rollOf s) (changes-none New (rollOf s))
+    same-roll : (s : State) → Changes New (putUpAll [] (rollOf s)) (rollOf s)
+    same-roll s = none-added (rollOf s) (rollOf s) (changes-none New (rollOf s))
 
-  pub roll-changes : (s : State) (call : Call) → ((pool m price : ℕ) → call ≡ SALE pool m price → (k : ℕ) → New k (Agreed m price))
-      → Passed (tests s (theCase s) call) → Changes New (putUpAll (putUpBy call) (rollOf s)) (accepted (theCase s) call .roll)
-  unfolding accepted afterPool afterMember afterRound afterBid afterClose afterAllocate afterTear afterCall afterPay afterMove afterMiss sold afterSale putUp moveAll tests letterOf
-  roll-changes none (HEAD h) agreed t = tt
-  roll-changes (some c) (HEAD h) agreed t = absurd (false≢true (sym (letter-some (c .stage)) ∙ not-false _ (t .0)))
-  roll-changes s (POOL pool units mark) agreed t = rw (map-replicate openEntry units pool) (changes-none New (putUp pool units (rollOf s)))
-  roll-changes s (MEMBER m contribution expected) agreed t = same-roll s
-  roll-changes s (ROUND reserves) agreed t = same-roll s
-  roll-changes s (BID pool m units price) agreed t = same-roll s
-  roll-changes s CLOSE agreed t =
-      let c = theCase s in
-      let round = roundOf (c .stage) in
-      let bids = bidsAfter c round in
-      none-added (c .roll) _ (changes-sell New bids (λ i l. sold-new (getD bids i noBid .pool) i) round 0 bids (c .roll) refl)
-  roll-changes s (ALLOCATE pool price) agreed t =
-      let c = theCase s in
-      let ms = memberList (c .head) in
-      none-added (c .roll) _ (changes-shares New pool price (allocation c pool) ms (c .roll) (each-always _ (λ m. allocated-new pool m price) ms))
-  roll-changes s (TEAR pool price) agreed t = none-added (rollOf s) _ (changes-torn New (openIn pool) price (rollOf s) (λ k. torn-new k price))
-  roll-changes s CALL agreed t = same-roll s
-  roll-changes s (PAY m amount) agreed t = same-roll s
-  roll-changes s (MOVE m) agreed t =
-      let c = theCase s in
-      none-added (c .roll) _ (changes-move New (c .bids) m (λ k. moved-new k m) (length (c .roll)) (owes (c .members) m) (c .roll))
-  roll-changes s (MISS m price) agreed t =
-      none-added (rollOf s) _ (changes-torn New (λ e. passedTo m (e .state)) price (rollOf s) (λ k. torn-new k price))
-  roll-changes s FINISH agreed t = same-roll s
-  roll-changes s (SALE pool m price) agreed t = none-added (rollOf s) _ (changes-changed New (openIn pool) (Agreed m price) (rollOf s) (agreed pool m price refl))
+    pub roll-changes : (s : State) (call : Call) → ((pool m price : ℕ) → call ≡ SALE pool m price → (k : ℕ) → New k (Agreed m price))
+        → Passed (tests s (theCase s) call) → Changes New (putUpAll (putUpBy call) (rollOf s)) (accepted (theCase s) call .roll)
+    unfolding accepted afterPool afterMember afterRound afterBid afterClose afterAllocate afterTear afterCall afterPay afterMove afterMiss sold afterSale putUp moveAll tests letterOf
+    roll-changes none (HEAD h) agreed t = tt
+    roll-changes (some c) (HEAD h) agreed t = absurd (false≢true (sym (letter-some (c .stage)) ∙ not-false _ (t .0)))
+    roll-changes s (POOL pool units mark) agreed t = rw (map-replicate openEntry units pool) (changes-none New (putUp pool units (rollOf s)))
+    roll-changes s (MEMBER m contribution expected) agreed t = same-roll s
+    roll-changes s (ROUND reserves) agreed t = same-roll s
+    roll-changes s (BID pool m units price) agreed t = same-roll s
+    roll-changes s CLOSE agreed t =
+        let c = theCase s in
+        let round = roundOf (c .stage) in
+        let bids = bidsAfter c round in
+        none-added (c .roll) _ (changes-sell New bids (λ i l. sold-new (getD bids i noBid .pool) i) round 0 bids (c .roll) refl)
+    roll-changes s (ALLOCATE pool price) agreed t =
+        let c = theCase s in
+        let ms = memberList (c .head) in
+        none-added (c .roll) _ (changes-shares New pool price (allocation c pool) ms (c .roll) (each-always _ (λ m. allocated-new pool m price) ms))
+    roll-changes s (TEAR pool price) agreed t = none-added (rollOf s) _ (changes-torn New (openIn pool) price (rollOf s) (λ k. torn-new k price))
+    roll-changes s CALL agreed t = same-roll s
+    roll-changes s (PAY m amount) agreed t = same-roll s
+    roll-changes s (MOVE m) agreed t =
+        let c = theCase s in
+        none-added (c .roll) _ (changes-move New (c .bids) m (λ k. moved-new k m) (length (c .roll)) (owes (c .members) m) (c .roll))
+    roll-changes s (MISS m price) agreed t =
+        none-added (rollOf s) _ (changes-torn New (λ e. passedTo m (e .state)) price (rollOf s) (λ k. torn-new k price))
+    roll-changes s FINISH agreed t = same-roll s
+    roll-changes s (SALE pool m price) agreed t = none-added (rollOf s) _ (changes-changed New (openIn pool) (Agreed m price) (rollOf s) (agreed pool m price refl))
 
 -- no state given is open
 abbrev Shut : ℕ → UnitState → Type 0

@@ -19,19 +19,16 @@ use Rattle.auction.specs.Price.{priceOk}
 use Rattle.waterfall.specs.Charging.{charged}
 use Rattle.machine.specs.Wire.{Call, HEAD, POOL, MEMBER, ROUND, BID, CLOSE, ALLOCATE, TEAR, CALL, PAY, MOVE, MISS, FINISH, SALE}
 use Rattle.machine.specs.Roll.{Entry, isOpen, isAgreed, anyOpen, passedTo}
-use Rattle.machine.specs.State.{Stage, Setup, Bidding, After, CallsOut, Finished, Member, Case, State, theCase, noMember, memberList, memberAt, letter, letterOf, roundOf}
+use Rattle.machine.specs.State.{Stage, Setup, Bidding, After, CallsOut, Finished, Member, Case, noMember, memberList, memberAt, letter, letterOf, roundOf}
 use Rattle.machine.specs.Requirement.{requirement, prefunded, owes}
 use Rattle.machine.specs.Calls.{accepted, afterPool, afterMember, afterRound, afterBid, afterClose, afterAllocate, afterTear, afterCall, afterPay, afterMove, afterMiss, sold, afterSale}
 use Rattle.machine.specs.Refusals.{tests, refusal, noneOpen, nonePassed, someoneOwes}
-use Rattle.machine.specs.Machine.{step}
 use Rattle.machine.specs.Result.{limits, sixCharges, charge}
 use Rattle.machine.specs.Run.{runFrom}
-use Rattle.machine.proofs.Answers.{step-cases}
 use Rattle.machine.proofs.Invariant.{StageOk, Uncalled, CaseOk}
 use Rattle.machine.proofs.Stages.{letter-some, letter-is, bidding-stage}
 use Rattle.machine.proofs.Setters.{all-shut}
-use Rattle.machine.proofs.Reached.{Fits, next-ok, decode-fits, first-call}
-use Rattle.machine.proofs.CallsKept.{head-ok}
+use Rattle.machine.proofs.Reached.{reached-too}
 use Rattle.machine.proofs.AgreedStay.{passed-free}
 use Rattle.machine.proofs.Selling.{Early, sold-early, sale-by-requirement}
 
@@ -177,26 +174,7 @@ module _ (c : Case) (ok : CaseOk c) (so : SoldOut c) where
   sold-call FINISH t a z = absurd (omega arith)
   sold-call (SALE pool m price) t a z = sold-sale pool m price t a z
 
--- ---- lists of calls
-
--- a case in order of which it holds
-abbrev Both : State → Type 0
-Both none = Unit {0}
-Both (some c) = CaseOk c × SoldOut c
-
-both-accepted : (s : State) → Both s → (call : Call) → Fits call → Passed (tests s (theCase s) call) → Both (some (accepted (theCase s) call))
-unfolding accepted tests letter
-both-accepted none b call f t =
-    first-call (λ call. Passed (tests none (theCase none) call) → Both (some (accepted (theCase none) call)))
-    (λ h u. (head-ok h (not-false _ (u .1 .0)), λ a z. absurd (omega arith))) call t t
-both-accepted (some c) b call f t = (next-ok c (b .0) call f t, sold-call c (b .0) (b .1) call t)
-
-both-run : (s : State) → Both s → (calls : List (List ℕ)) → Both (runFrom s calls)
-unfolding runFrom
-both-run s b [] = b
-both-run s b (bytes ∷ rest) =
-    both-run (step s bytes .state) (step-cases (λ n. Both) s bytes (λ n h. b) (λ call e t. both-accepted s b call (decode-fits bytes call e) t)) rest
-
 -- after every list of calls
 pub sold-out : (calls : List (List ℕ)) (c : Case) → runFrom none calls ≡ some c → SoldOut c
-sold-out calls c here = (rw here at (both-run none tt calls)) .1
+unfolding letter
+sold-out = reached-too SoldOut (λ h a z. absurd (omega arith)) sold-call

@@ -504,14 +504,15 @@ allWrong = sale 2 5 1_000_001 ∷ []
 abbrev pub orders : List Example
 orders =
     -- "SALE (tag 14: pool 1, member 1, price 4)": no case, so declined by 2; then a byte too few, one too many, a tail behind the field, and a tag that is not
-    -- known: declined by 1
+    -- known, with six bytes and with none: declined by 1
     (answersAfter []
     ((14 ∷ 0 ∷ 6 ∷ 0 ∷ 0 ∷ 0 ∷ 0 ∷ 0 ∷ 0 ∷ [])
     ∷ (14 ∷ 0 ∷ 5 ∷ 0 ∷ 0 ∷ 0 ∷ 0 ∷ 0 ∷ [])
     ∷ (14 ∷ 0 ∷ 7 ∷ 0 ∷ 0 ∷ 0 ∷ 0 ∷ 0 ∷ 0 ∷ 0 ∷ [])
     ∷ (14 ∷ 0 ∷ 6 ∷ 0 ∷ 0 ∷ 0 ∷ 0 ∷ 0 ∷ 0 ∷ 0 ∷ [])
     ∷ (15 ∷ 0 ∷ 6 ∷ 0 ∷ 0 ∷ 0 ∷ 0 ∷ 0 ∷ 0 ∷ [])
-    ∷ []) says 2 ∷ 1 ∷ 1 ∷ 1 ∷ 1 ∷ [])
+    ∷ (15 ∷ 0 ∷ 0 ∷ [])
+    ∷ []) says 2 ∷ 1 ∷ 1 ∷ 1 ∷ 1 ∷ 1 ∷ [])
     -- the same in S
     ∷ (answersAfter given
     ((14 ∷ 0 ∷ 6 ∷ 0 ∷ 0 ∷ 0 ∷ 0 ∷ 0 ∷ 0 ∷ [])
