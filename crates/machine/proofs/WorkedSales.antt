@@ -262,8 +262,8 @@ missed =
 -- ---- rank
 
 -- "Such units, and the units expected in a pool so sold, don't count for rank": for nobody's, the buyer's or another's.
-abbrev pub expectedInVain : Worked
-expectedInVain =
+abbrev pub expectedNotCounted : Worked
+expectedNotCounted =
     record {
       calls =
           -- two pools, members 0 and 1
@@ -422,7 +422,7 @@ sales =
     ∷ passedOver
     ∷ passedOverDone
     ∷ missed
-    ∷ expectedInVain
+    ∷ expectedNotCounted
     ∷ notWon
     ∷ soldOut
     ∷ otherPool
