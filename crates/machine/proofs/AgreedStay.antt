@@ -1,6 +1,7 @@
 -- Document 02, C-12: a unit sold by agreement is "never moved: MOVE passes over it", and no other call changes it, in any state: it stays sold by
--- agreement, to its member and at its price. Assumes nothing.
-use mathlib.Core.Path.{_≡_, refl, sym, _∙_}
+-- agreement, to its member and at its price; and no call but SALE sells another. Assumes nothing.
+use mathlib.Core.Path.{_≡_, refl, sym, ap, _∙_}
+use mathlib.Core.Logic.{⊎-elim}
 use mathlib.Core.Bool.{Bool, true, false, _&&_, _||_, not, false≢true}
 use mathlib.Core.List.{List, [], _∷_, map, append-nil}
 use mathlib.Core.Option.{Option, none, some}
@@ -8,13 +9,13 @@ use Prim.Native.Nat.{ℕ, zero, suc, _-_, _<_}
 use lib.Dec.{eqb}
 use lib.ListN.{length, getD, set, drop, List·getD-append}
 use borrow.Author.Tests.{not-false}
-use Rattle.lists.specs.Lists.{if_then_else_}
-use Rattle.lists.proofs.Bools.{either, by-test, and-left, and-right}
+use Rattle.lists.specs.Lists.{if_then_else_, keep}
+use Rattle.lists.proofs.Bools.{cases, either, by-test, and-left, and-right}
 use Rattle.lists.proofs.Each.{drop-step, map-replicate}
 use Rattle.lists.proofs.Pairs.{Pairs, pairs-same, pairs-trans, pairs-map, pairs-changeFirst, pairs-set, pairs-at}
 use Rattle.lists.specs.Tests.{Passed}
 use Rattle.auction.specs.Price.{zeroPrice}
-use Rattle.machine.specs.Wire.{Call, HEAD, POOL, MEMBER, ROUND, BID, CLOSE, ALLOCATE, TEAR, CALL, PAY, MOVE, MISS, FINISH, SALE}
+use Rattle.machine.specs.Wire.{Call, HEAD, POOL, MEMBER, ROUND, BID, CLOSE, ALLOCATE, TEAR, CALL, PAY, MOVE, MISS, FINISH, SALE, decode}
 use Rattle.machine.specs.Roll.{UnitState, Open, Sold, Allocated, Moved, Torn, Agreed, Entry, Bid, withState, kind, isAgreed, isOpen, openIn, giveLowest, changedIf, priceOf, passedTo, putUp}
 use Rattle.machine.specs.State.{State, theCase, letterOf, memberList, roundOf}
 use Rattle.machine.specs.Requirement.{owes}
@@ -23,8 +24,8 @@ use Rattle.machine.specs.Calls.{giveShares, sell, accepted, afterPool, a
 use Rattle.machine.specs.Refusals.{tests}
 use Rattle.machine.specs.Machine.{step}
 use Rattle.machine.proofs.Answers.{step-cases}
-use Rattle.machine.proofs.RollChanges.{noEntry}
-use Rattle.machine.proofs.RollSteps.{putUpBy, openEntry, putUpAll, rollOf}
+use Rattle.machine.proofs.RollChanges.{Becomes, Changes, noEntry}
+use Rattle.machine.proofs.RollSteps.{putUpBy, openEntry, putUpAll, rollOf, roll-changes}
 use Rattle.machine.proofs.Stages.{letter-some}
 
 -- f is e where e is sold by agreement
@@ -55,7 +56,7 @@ open-free (Moved m) e = refl
 open-free (Torn price) e = refl
 open-free (Agreed m price) e = absurd (false≢true e)
 
-passed-free : (m : ℕ) (s : UnitState) → passedTo m s ≡ true → isAgreed s ≡ false
+pub passed-free : (m : ℕ) (s : UnitState) → passedTo m s ≡ true → isAgreed s ≡ false
 unfolding passedTo isAgreed
 passed-free m Open e = refl
 passed-free m (Sold bid) e = refl
@@ -195,3 +196,48 @@ agreed-stay s bytes i l a =
     let added = map openEntry (putUpBy call) in
     let here = List·getD-append (rollOf s) added noEntry i l in
     pairs-at Stays (putUpAll (putUpBy call) (rollOf s)) (accepted (theCase s) call .roll) i noEntry (stays noEntry) (agreed-call s call t) (rw here a) ∙ here)
+
+-- ---- SALE alone sells by agreement
+
+abbrev agreedIn : List Entry → List Entry
+agreedIn roll = keep (λ e. isAgreed (e .state)) roll
+
+abbrev Other : ℕ → UnitState → Type 0
+Other pool s = isAgreed s ≡ false
+
+-- an entry that stays where it is sold by agreement, and becomes nothing that is so, is so exactly if it was
+same-agreed : (e f : Entry) → Stays e f → Becomes Other e f → isAgreed (f .state) ≡ isAgreed (e .state)
+same-agreed e f stay become =
+    cases (isAgreed (e .state)) _ (λ a. ap (λ (x : Entry). isAgreed (x .state)) (stay a))
+    (λ a. ⊎-elim (λ x. ap (λ (z : Entry). isAgreed (z .state)) x) (λ x. ap (λ (z : Entry). isAgreed (z .state)) (x .2) ∙ x .1 ∙ sym a) become)
+
+same-entry : (b : Bool) (e f : Entry) (es : List Entry) → (b ≡ true → f ≡ e) → (if b then f ∷ es else es) ≡ (if b then e ∷ es else es)
+same-entry true e f es h = rw (h refl)
+same-entry false e f es h = refl
+
+kept-agreed : (old new : List Entry) → AllStay old new → Changes Other old new → agreedIn new ≡ agreedIn old
+unfolding keep
+kept-agreed [] [] stay become = refl
+kept-agreed [] (f ∷ fs) stay become = absurd stay
+kept-agreed (e ∷ es) [] stay become = absurd stay
+kept-agreed (e ∷ es) (f ∷ fs) stay become =
+    rw (same-agreed e f (stay .0) (become .0), kept-agreed es fs (stay .1) (become .1)) (same-entry (isAgreed (e .state)) e f (agreedIn es) (stay .0))
+
+-- no unit put up is sold by agreement
+put-up-agreed : (added : List ℕ) (roll : List Entry) → agreedIn (putUpAll added roll) ≡ agreedIn roll
+unfolding keep isAgreed
+put-up-agreed [] [] = refl
+put-up-agreed (pool ∷ added) [] = put-up-agreed added []
+put-up-agreed added (e ∷ es) = ap (λ (l : List Entry). if isAgreed (e .state) then e ∷ l else l) (put-up-agreed added es)
+
+-- any bytes but a SALE's, in any state: the entries sold by agreement are those that were
+pub agreed-kept : (s : State) (bytes : List ℕ) → ((pool m price : ℕ) → decode bytes ≡ some (SALE pool m price) → ⊥)
+    → agreedIn (rollOf (step s bytes .state)) ≡ agreedIn (rollOf s)
+unfolding isAgreed
+agreed-kept s bytes other =
+    step-cases (λ n next. agreedIn (rollOf next) ≡ agreedIn (rollOf s)) s bytes (λ n h. refl)
+    (λ call e t.
+    let old = putUpAll (putUpBy call) (rollOf s) in
+    let changes = roll-changes Other (λ k i. refl) (λ k m price. refl) (λ k m. refl) (λ k price. refl) s call
+    (λ pool m price is k. absurd (other pool m price (e ∙ ap (λ (x : Call). some x) is))) t in
+    kept-agreed old (accepted (theCase s) call .roll) (agreed-call s call t) changes ∙ put-up-agreed (putUpBy call) (rollOf s))

@@ -19,7 +19,7 @@ infix 30 −_
 abbrev pub −_ : ℕ → ℕ
 − n = 2 ^ 32 - n
 
--- ---- the thirteen calls, in the order of the column "value (bytes)"
+-- ---- the thirteen calls, in the order of the column "value (bytes)", and SALE
 
 -- the member set is a number: bit i is member i
 abbrev pub head : (pools least set hedge other margin fund house : ℕ) → List ℕ
@@ -62,3 +62,7 @@ miss member price = 12 ∷ 0 ∷ 5 ∷ member ∷ four price
 
 abbrev pub finish : List ℕ
 finish = 13 ∷ 0 ∷ 0 ∷ []
+
+-- document 02, C-12: "SALE (tag 14: pool 1, member 1, price 4)"
+abbrev pub sale : (pool member price : ℕ) → List ℕ
+sale pool member price = 14 ∷ 0 ∷ 6 ∷ pool ∷ member ∷ four price

@@ -8,12 +8,12 @@ use lib.Dec.{eqb, ltb}
 use lib.IntN.{pos, negsuc, _-ℤ_}
 use lib.ListN.{length, getD}
 use lib.Signed.{leZ}
-use Rattle.lists.specs.Lists.{sum, count, keep}
+use Rattle.lists.specs.Lists.{if_then_else_, sum, count, all, keep}
 use Rattle.lists.proofs.Each.{Each, each-at}
 use Rattle.lists.specs.Tests.{Passed, First}
 use Rattle.auction.specs.Price.{priceLimit, priceOk, cents, atLeast0}
-use Rattle.machine.specs.Wire.{Call, ALLOCATE, FINISH, number, price, signed, decode}
-use Rattle.machine.specs.Roll.{Entry, Sold, Allocated, Moved, Agreed, noBid, isAgreed, openUnits, priceOf, prices, agreedPrices}
+use Rattle.machine.specs.Wire.{Call, ROUND, ALLOCATE, CALL, FINISH, SALE, number, price, signed, decode}
+use Rattle.machine.specs.Roll.{Entry, Sold, Allocated, Moved, Agreed, noBid, withState, isAgreed, openUnits, priceOf, prices, agreedPrices}
 use Rattle.machine.specs.State.{Finished, Case, State, theCase, letter, letterOf, roundOf, withStage, noPool, noMember, noRound, inSet, memberList, memberAt}
 use Rattle.machine.specs.Requirement.{requirement, contributions, prefunded}
 use Rattle.machine.specs.Calls.{reserve, inAuction, bidsAfter, wonByMember, shortfall, totalShortfall, allocation, calls, afterClose, afterAllocate, afterSale, accepted}
@@ -32,6 +32,8 @@ use Rattle.machine.proofs.Reached as R
 use Rattle.machine.proofs.RollSteps as S
 use Rattle.machine.proofs.AgreedStay as G
 use Rattle.machine.proofs.Selling as E
+use Rattle.machine.proofs.SoldOut as O
+use Rattle.machine.proofs.WholePools as W
 use Rattle.machine.proofs.Bounds as B
 use Rattle.machine.proofs.Bytes as Y
 use Rattle.machine.proofs.Prices as P
@@ -94,6 +96,11 @@ module _ (s : State) (bytes : List ℕ) where
   pub agreed-stay : (i : ℕ) → i < length (S.rollOf s) → isAgreed (getD (S.rollOf s) i noEntry .state) ≡ true
       → getD (S.rollOf (step s bytes .state)) i noEntry ≡ getD (S.rollOf s) i noEntry
   agreed-stay = G.agreed-stay s bytes
+
+  -- and no call but SALE sells another: the units sold by agreement are those that were, in number and by pool, member and price
+  pub agreed-kept : ((pool m price : ℕ) → decode bytes ≡ some (SALE pool m price) → ⊥)
+      → keep (λ e. isAgreed (e .state)) (S.rollOf (step s bytes .state)) ≡ keep (λ e. isAgreed (e .state)) (S.rollOf s)
+  agreed-kept = G.agreed-kept s bytes
 
 -- "ALLOCATE is accepted at most once in a pool": after one, no later one is
 pub allocate-once : (calls more : List (List ℕ)) (one two : List ℕ) (pool price later : ℕ)
@@ -236,6 +243,46 @@ module _ (calls : List (List ℕ)) (c : Case) (here : runFrom none calls ≡ som
   pub sale-by-requirement : letter (c .stage) ≡ 1 → (pool m price : ℕ)
       → saleTooDear c pool m price ≡ ltb (c .head .margin + c .head .fund) (requirement (afterSale c pool m price))
   sale-by-requirement = E.sale-by-requirement c in-order
+
+  -- C-12: SALE "sells the whole pool to one member": every unit of it, and no other
+  pub sale-whole : (bytes : List ℕ) (pool m price : ℕ) → decode bytes ≡ some (SALE pool m price) → step (some c) bytes .answer ≡ 0
+      → S.rollOf (step (some c) bytes .state) ≡ map (λ e. if eqb (e .pool) pool then withState e (Agreed m price) else e) (c .roll)
+  sale-whole bytes pool m price is e =
+      let zero = sym (A.call-answer (some c) bytes (SALE pool m price) is) ∙ e in
+      ap S.rollOf (A.call-accepted (some c) bytes (SALE pool m price) is zero)
+      ∙ W.sale-whole c (W.whole-pools calls c here) pool m price (A.accepted-passed (some c) (SALE pool m price) zero)
+
+  -- C-12: A without a round, where no unit was left open by the last SALE. Every unit is sold by agreement, and the requirement is within margin and fund, so
+  -- that no layer after them (2, counted from 0) is charged
+  module _ (after : letter (c .stage) ≡ 3) (no-round : length (c .rounds) ≡ 0) where
+    so : O.SoldOut c
+    so = O.sold-out calls c here
+
+    pub sold-out-agreed : Each (λ e. isAgreed (e .state) ≡ true) (c .roll)
+    sold-out-agreed = so after no-round .0
+
+    pub sold-out-requirement : requirement c ≤ c .head .margin + c .head .fund
+    sold-out-requirement = so after no-round .1
+
+    pub sold-out-charges : (layer : ℕ) → 2 ≤ layer → charge c layer ≡ 0
+    sold-out-charges = O.layers-unused c in-order so after no-round
+
+    -- "a ROUND is declined by 8", after 1 and 5; CALL is declined by 12; FINISH is accepted, and nothing else is
+    module _ (bytes : List ℕ) where
+      pub sold-out-round : (reserves : List ℕ) → decode bytes ≡ some (ROUND reserves)
+          → step (some c) bytes .answer ≡ (if eqb (length reserves) (c .head .pools) then (if all priceOk reserves then 8 else 5) else 1)
+      sold-out-round reserves is = A.call-answer (some c) bytes (ROUND reserves) is ∙ O.round-answer c in-order so after no-round reserves
+
+      pub sold-out-call : decode bytes ≡ some CALL → step (some c) bytes .answer ≡ 12
+      sold-out-call is = A.call-answer (some c) bytes CALL is ∙ O.call-answer c in-order so after no-round
+
+      pub sold-out-finish : decode bytes ≡ some FINISH → step (some c) bytes .answer ≡ 0
+      sold-out-finish is = A.call-answer (some c) bytes FINISH is ∙ O.finish-answer c in-order so after no-round
+
+      pub sold-out-only-finish : step (some c) bytes .answer ≡ 0 → decode bytes ≡ some FINISH
+      sold-out-only-finish =
+          A.step-cases (λ n next. n ≡ 0 → decode bytes ≡ some FINISH) (some c) bytes (λ n h z. absurd (h z))
+          (λ call is t z. is ∙ ap (λ (x : Call). some x) (O.only-finish c in-order so after no-round call t))
 
   -- the largest sums of money
   pub requirement-small : requirement c ≤ 8_000_000_000

@@ -5,6 +5,7 @@ pub mod WorkedDebts
 pub mod WorkedRanks
 pub mod WorkedStages
 pub mod WorkedRanges
+pub mod WorkedSales
 pub mod Answers
 pub mod Tables
 pub mod RollChanges
@@ -17,6 +18,8 @@ pub mod Setters
 pub mod CallsKept
 pub mod Reached
 pub mod Selling
+pub mod SoldOut
+pub mod WholePools
 pub mod Bounds
 pub mod RollSteps
 pub mod AgreedStay

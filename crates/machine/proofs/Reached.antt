@@ -12,7 +12,7 @@ use Rattle.lists.proofs.Bools.{either}
 use Rattle.lists.proofs.Places.{length-tab}
 use Rattle.lists.specs.Tests.{Passed}
 use Rattle.machine.specs.Wire.{Head, Call, HEAD, POOL, MEMBER, ROUND, BID, CLOSE, ALLOCATE, TEAR, CALL, PAY, MOVE, MISS, FINISH, SALE, number, rightLength, callOf, decode}
-use Rattle.machine.specs.State.{Case, State, theCase, letterOf}
+use Rattle.machine.specs.State.{Case, State, newCase, theCase, letterOf}
 use Rattle.machine.specs.Calls.{accepted}
 use Rattle.machine.specs.Refusals.{tests}
 use Rattle.machine.specs.Machine.{step}
@@ -133,3 +133,28 @@ runFrom-ok s ok (bytes ∷ rest) = runFrom-ok (step s bytes .state) (step-ok s o
 -- after every list of calls, from no case on
 pub reached : (calls : List (List ℕ)) → StateOk (runFrom none calls)
 reached calls = runFrom-ok none tt calls
+
+-- what holds of the case that HEAD makes, and is kept by every accepted call, holds after every list of calls too
+module _
+    (P : Case → Type 0)
+    (first : (h : Head) → P (newCase h))
+    (next : (c : Case) → CaseOk c → P c → (call : Call) → Passed (tests (some c) c call) → P (accepted c call))
+  where
+    abbrev Both : State → Type 0
+    Both none = Unit {0}
+    Both (some c) = CaseOk c × P c
+
+    both-accepted : (s : State) → Both s → (call : Call) → Fits call → Passed (tests s (theCase s) call) → Both (some (accepted (theCase s) call))
+    unfolding accepted tests
+    both-accepted none b call f t =
+        first-call (λ call. Passed (tests none (theCase none) call) → Both (some (accepted (theCase none) call))) (λ h u. (head-ok h (not-false _ (u .1 .0)), first h)) call t t
+    both-accepted (some c) b call f t = (next-ok c (b .0) call f t, next c (b .0) (b .1) call t)
+
+    both-run : (s : State) → Both s → (calls : List (List ℕ)) → Both (runFrom s calls)
+    unfolding runFrom
+    both-run s b [] = b
+    both-run s b (bytes ∷ rest) =
+        both-run (step s bytes .state) (step-cases (λ n. Both) s bytes (λ n h. b) (λ call e t. both-accepted s b call (decode-fits bytes call e) t)) rest
+
+    pub reached-too : (calls : List (List ℕ)) (c : Case) → runFrom none calls ≡ some c → P c
+    reached-too calls c here = (rw here at (both-run none tt calls)) .1

@@ -6,14 +6,14 @@ use mathlib.Core.Option.{Option, none, some}
 use Prim.Native.Nat.{ℕ, _+_, _≤_}
 use native.Mathlib.Omega.{arith}
 use lib.Dec.{eqb}
-use lib.ListN.{length, replicate}
+use lib.ListN.{length, getD, replicate}
 use borrow.Author.Tests.{ne-eqb, not-false}
 use Rattle.lists.specs.Lists.{if_then_else_, count}
 use Rattle.lists.proofs.Counts.{count-append, count-of-map}
 use Rattle.lists.proofs.Each.{each-always, map-append, map-replicate}
 use Rattle.lists.specs.Tests.{Passed}
 use Rattle.machine.specs.Wire.{Call, HEAD, POOL, MEMBER, ROUND, BID, CLOSE, ALLOCATE, TEAR, CALL, PAY, MOVE, MISS, FINISH, SALE, decode}
-use Rattle.machine.specs.Roll.{UnitState, Open, Agreed, Entry, kind, isOpen, openIn, openUnits, putUp, passedTo}
+use Rattle.machine.specs.Roll.{UnitState, Open, Sold, Allocated, Moved, Torn, Agreed, Entry, noBid, kind, isOpen, openIn, openUnits, putUp, passedTo}
 use Rattle.machine.specs.State.{State, theCase, letterOf, memberList, roundOf}
 use Rattle.machine.specs.Requirement.{owes}
 use Rattle.machine.specs.Move.{moveAll}
@@ -48,40 +48,59 @@ openEntry pool = record { pool = pool; state = Open }
 abbrev pub putUpAll : List ℕ → List Entry → List Entry
 putUpAll added roll = roll ++ map openEntry added
 
-abbrev Shut : ℕ → UnitState → Type 0
-Shut pool s = Closed s
-
-none-added : (roll new : List Entry) → Changes Shut roll new → Changes Shut (putUpAll [] roll) new
-none-added roll new h = rw (append-nil roll) h
-
 abbrev pub rollOf : State → List Entry
 rollOf s = theCase s .roll
 
--- an accepted call, in any state: HEAD is accepted only where there is no roll yet
+-- an accepted call, in any state, for any claim about the states given: HEAD is accepted only where there is no roll yet, and SALE alone sells by agreement
+module _
+    (New : ℕ → UnitState → Type 0)
+    (sold-new : (k i : ℕ) → New k (Sold i))
+    (allocated-new : (k m price : ℕ) → New k (Allocated m price))
+    (moved-new : (k m : ℕ) → New k (Moved m))
+    (torn-new : (k price : ℕ) → New k (Torn price))
+  where
+    none-added : (roll new : List Entry) → Changes New roll new → Changes New (putUpAll [] roll) new
+    none-added roll new h = rw (append-nil roll) h
+
+    same-roll : (s : State) → Changes New (putUpAll [] (rollOf s)) (rollOf s)
+    same-roll s = none-added (rollOf s) (rollOf s) (changes-none New (rollOf s))
+
+    pub roll-changes : (s : State) (call : Call) → ((pool m price : ℕ) → call ≡ SALE pool m price → (k : ℕ) → New k (Agreed m price))
+        → Passed (tests s (theCase s) call) → Changes New (putUpAll (putUpBy call) (rollOf s)) (accepted (theCase s) call .roll)
+    unfolding accepted afterPool afterMember afterRound afterBid afterClose afterAllocate afterTear afterCall afterPay afterMove afterMiss sold afterSale putUp moveAll tests letterOf
+    roll-changes none (HEAD h) agreed t = tt
+    roll-changes (some c) (HEAD h) agreed t = absurd (false≢true (sym (letter-some (c .stage)) ∙ not-false _ (t .0)))
+    roll-changes s (POOL pool units mark) agreed t = rw (map-replicate openEntry units pool) (changes-none New (putUp pool units (rollOf s)))
+    roll-changes s (MEMBER m contribution expected) agreed t = same-roll s
+    roll-changes s (ROUND reserves) agreed t = same-roll s
+    roll-changes s (BID pool m units price) agreed t = same-roll s
+    roll-changes s CLOSE agreed t =
+        let c = theCase s in
+        let round = roundOf (c .stage) in
+        let bids = bidsAfter c round in
+        none-added (c .roll) _ (changes-sell New bids (λ i l. sold-new (getD bids i noBid .pool) i) round 0 bids (c .roll) refl)
+    roll-changes s (ALLOCATE pool price) agreed t =
+        let c = theCase s in
+        let ms = memberList (c .head) in
+        none-added (c .roll) _ (changes-shares New pool price (allocation c pool) ms (c .roll) (each-always _ (λ m. allocated-new pool m price) ms))
+    roll-changes s (TEAR pool price) agreed t = none-added (rollOf s) _ (changes-torn New (openIn pool) price (rollOf s) (λ k. torn-new k price))
+    roll-changes s CALL agreed t = same-roll s
+    roll-changes s (PAY m amount) agreed t = same-roll s
+    roll-changes s (MOVE m) agreed t =
+        let c = theCase s in
+        none-added (c .roll) _ (changes-move New (c .bids) m (λ k. moved-new k m) (length (c .roll)) (owes (c .members) m) (c .roll))
+    roll-changes s (MISS m price) agreed t =
+        none-added (rollOf s) _ (changes-torn New (λ e. passedTo m (e .state)) price (rollOf s) (λ k. torn-new k price))
+    roll-changes s FINISH agreed t = same-roll s
+    roll-changes s (SALE pool m price) agreed t = none-added (rollOf s) _ (changes-changed New (openIn pool) (Agreed m price) (rollOf s) (agreed pool m price refl))
+
+-- no state given is open
+abbrev Shut : ℕ → UnitState → Type 0
+Shut pool s = Closed s
+
 roll-step : (s : State) (call : Call) → Passed (tests s (theCase s) call) → Changes Shut (putUpAll (putUpBy call) (rollOf s)) (accepted (theCase s) call .roll)
-unfolding accepted afterPool afterMember afterRound afterBid afterClose afterAllocate afterTear afterCall afterPay afterMove afterMiss sold afterSale putUp moveAll kind tests letterOf
-roll-step none (HEAD h) t = tt
-roll-step (some c) (HEAD h) t = absurd (false≢true (sym (letter-some (c .stage)) ∙ not-false _ (t .0)))
-roll-step s (POOL pool units mark) t = rw (map-replicate openEntry units pool) (changes-none Shut (putUp pool units (rollOf s)))
-roll-step s (MEMBER m contribution expected) t = none-added (rollOf s) (rollOf s) (changes-none Shut (rollOf s))
-roll-step s (ROUND reserves) t = none-added (rollOf s) (rollOf s) (changes-none Shut (rollOf s))
-roll-step s (BID pool m units price) t = none-added (rollOf s) (rollOf s) (changes-none Shut (rollOf s))
-roll-step s CLOSE t =
-    let c = theCase s in
-    let round = roundOf (c .stage) in
-    none-added (c .roll) _ (changes-sell Shut (bidsAfter c round) (λ i l. refl) round 0 (bidsAfter c round) (c .roll) refl)
-roll-step s (ALLOCATE pool price) t =
-    let c = theCase s in
-    none-added (c .roll) _ (changes-shares Shut pool price (allocation c pool) (memberList (c .head)) (c .roll) (each-always _ (λ m. refl) (memberList (c .head))))
-roll-step s (TEAR pool price) t = none-added (rollOf s) _ (changes-torn Shut (openIn pool) price (rollOf s) (λ k. refl))
-roll-step s CALL t = none-added (rollOf s) (rollOf s) (changes-none Shut (rollOf s))
-roll-step s (PAY m amount) t = none-added (rollOf s) (rollOf s) (changes-none Shut (rollOf s))
-roll-step s (MOVE m) t =
-    let c = theCase s in
-    none-added (c .roll) _ (changes-move Shut (c .bids) m (λ k. refl) (length (c .roll)) (owes (c .members) m) (c .roll))
-roll-step s (MISS m price) t = none-added (rollOf s) _ (changes-torn Shut (λ e. passedTo m (e .state)) price (rollOf s) (λ k. refl))
-roll-step s FINISH t = none-added (rollOf s) (rollOf s) (changes-none Shut (rollOf s))
-roll-step s (SALE pool m price) t = none-added (rollOf s) _ (changes-changed Shut (openIn pool) (Agreed m price) (rollOf s) (λ k. refl))
+unfolding kind
+roll-step s call t = roll-changes Shut (λ k i. refl) (λ k m price. refl) (λ k m. refl) (λ k price. refl) s call (λ pool m price e k. refl) t
 
 module _ (s : State) (call : Call) (t : Passed (tests s (theCase s) call)) where
   -- the entries keep their pools, and those put up follow

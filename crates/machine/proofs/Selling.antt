@@ -20,7 +20,7 @@ use Rattle.machine.proofs.Invariant.{CaseOk}
 use Rattle.machine.proofs.AgreedStay.{open-in-free}
 
 -- open, or sold by agreement
-abbrev Early : Entry → Type 0
+abbrev pub Early : Entry → Type 0
 Early e = (isOpen e || isAgreed (e .state)) ≡ true
 
 early-kept : (e : Entry) → Early e → not (isOpen e) ≡ isAgreed (e .state)
@@ -48,7 +48,7 @@ early-prices : (bids : List Bid) (roll : List Entry) → Each Early roll → pri
 unfolding prices agreedPrices
 early-prices bids roll h = ap (map (λ (e : Entry). priceOf bids (e .state))) (early-keeps roll h)
 
-sold-early : (pool m price : ℕ) (roll : List Entry) → Each Early roll → Each Early (sold pool m price roll)
+pub sold-early : (pool m price : ℕ) (roll : List Entry) → Each Early roll → Each Early (sold pool m price roll)
 unfolding sold isAgreed isOpen kind
 sold-early pool m price roll h =
     each-map Early Early (changedIf (openIn pool) (Agreed m price))

@@ -777,13 +777,13 @@ pub worked-hold : AllShow worked
 unfolding computing
 worked-hold = (refl, (refl, (refl, (refl, (refl, (refl, (refl, (refl, (refl, (refl, (refl, (refl, (refl, tt)))))))))))))
 
--- what members hold in the list `moves`: "units sold to its bids, allocated or moved to it, by pool and price"
-abbrev held : Worked → ℕ → ℕ → ℕ → ℕ
+-- what a member holds of a pool at a price after a list: "units sold to its bids, allocated or moved to it, by pool and price"
+abbrev pub held : Worked → ℕ → ℕ → ℕ → ℕ
 held x = holding (caseAfter (x .calls) .bids) (caseAfter (x .calls) .roll)
 
 pub holdings-hold :
     AllHold
-    -- after the first MOVE, in pool 1: member 3 holds one at 0 and its two at −8, member 0 one at −5, member 1 none; in pool 0 members 0 and 1 one each at −5
+    -- after the first MOVE of the list `moves`, in pool 1: member 3 holds one at 0 and its two at −8, member 0 one at −5, member 1 none; in pool 0 members 0 and 1 one each at −5
     ((held moves 3 1 zeroPrice ∷ held moves 3 1 (zeroPrice - 8) ∷ held moves 0 1 (zeroPrice - 5) ∷ held moves 1 1 (zeroPrice - 5)
     ∷ held moves 0 0 (zeroPrice - 5) ∷ held moves 1 0 (zeroPrice - 5) ∷ [] says 1 ∷ 2 ∷ 1 ∷ 0 ∷ 1 ∷ 1 ∷ [])
     -- at the end: member 0 holds four of pool 0 at 0 and one at −8, member 1 one of each pool at 0 and nothing at −9, member 3 its two at −8 of pool 1 and nothing at 0
