@@ -583,16 +583,11 @@ impl Counts {
             // A bid that won nothing may stand below the reserve.
             bid.won * u64::try_from(above_worst).unwrap_or(0)
         };
+        let counted = (0..POOLS).filter(|&p| self.pool[p].agreed.is_none());
         Standing {
             premium: own.map(premium).sum(),
             won: self.member[member].won.iter().sum(),
-            expected: self
-                .pool
-                .iter()
-                .zip(self.member[member].expected)
-                .filter(|(p, _)| p.agreed.is_none())
-                .map(|(_, e)| e)
-                .sum(),
+            expected: counted.map(|p| self.member[member].expected[p]).sum(),
         }
     }
 
