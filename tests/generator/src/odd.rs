@@ -61,7 +61,7 @@ impl Writer {
     }
 
     /// A field of the right length whose numbers are each valid, at an end or past it.
-    fn odd_field(&mut self, tag: u8) -> Vec<u8> {
+    pub fn odd_field(&mut self, tag: u8) -> Vec<u8> {
         match tag {
             write::HEAD => self.odd_head(),
             write::POOL => {

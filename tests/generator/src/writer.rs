@@ -152,6 +152,12 @@ impl Writer {
 
     /// POOLs and MEMBERs in any mix, then SALEs, then the first ROUND.
     fn set_up(&mut self) {
+        if self.plan.has_sales && self.plan.noise > 0 && self.rng.chance(8) {
+            // Often before all is given.
+            let early = self.odd_field(write::SALE);
+            self.put(early);
+            return;
+        }
         let pool = self.model.pools_given();
         let pool_left = pool < self.plan.head.pools;
         let members = members_of(self.plan.head.set & !self.members_given);
