@@ -1,5 +1,6 @@
 //! Holds the two models against each other, call by call and in all that they can be asked.
 
+use crate::pairs::place;
 use crate::tally::Tally;
 use model::field::{exactly_one, price_at};
 use model::{Counts, Ledger, Roll, print, stream, write};
@@ -17,8 +18,9 @@ pub fn difference(calls: &[Vec<u8>], tally: &mut Tally) -> Option<ModelDifferenc
     let mut roll = Roll::default();
     let mut counts = Counts::default();
     let mut prices = BTreeSet::from([0]);
+    let mut had_round = false;
     for (call, bytes) in calls.iter().enumerate() {
-        let place = roll.stage();
+        let place = place(roll.stage(), had_round);
         let before = (roll.clone(), counts.clone());
         let answers = (roll.call(bytes), counts.call(bytes));
         let differs = |what: String| Some(ModelDifference { call, what });
@@ -26,6 +28,7 @@ pub fn difference(calls: &[Vec<u8>], tally: &mut Tally) -> Option<ModelDifferenc
             return differs(format!("answer: roll {}, counts {}", answers.0, answers.1));
         }
         tally.count(bytes.first().copied().unwrap_or(0), answers.0, place);
+        had_round |= answers.0 == 0 && bytes[0] == write::ROUND;
         tally.bytes += bytes.len() as u64;
         if answers.0 != 0 && before != (roll.clone(), counts.clone()) {
             return differs("a declined call left something changed".to_string());
@@ -97,6 +100,7 @@ fn prices_of(bytes: &[u8]) -> Option<i64> {
     match field.tag {
         write::BID => Some(price_at(field.value, 4)),
         write::ALLOCATE | write::TEAR | write::MISS => Some(price_at(field.value, 1)),
+        write::SALE => Some(price_at(field.value, 2)),
         _ => None,
     }
 }

@@ -1,8 +1,9 @@
 //! Runs the program on an input and holds its text against the model's.
 
+use crate::pairs::place;
 use crate::tally::Tally;
 use generator::fields;
-use model::{Ledger, print};
+use model::{Ledger, print, write};
 use std::io::{Read, Write};
 use std::path::{Path, PathBuf};
 use std::process::{Child, Command, Stdio};
@@ -98,9 +99,12 @@ fn first_difference(program: &[u8], model: &[u8]) -> LineDifference {
 /// Counts the answers that the model gives to the fields of an input.
 pub fn tally<L: Ledger + Default>(input: &[u8], tally: &mut Tally) {
     let mut ledger = L::default();
+    let mut had_round = false;
     for field in fields(input) {
-        let place = ledger.stage();
-        tally.count(field[0], ledger.call(&field), place);
+        let place = place(ledger.stage(), had_round);
+        let answer = ledger.call(&field);
+        had_round |= (field[0], answer) == (write::ROUND, 0);
+        tally.count(field[0], answer, place);
     }
     tally.inputs += 1;
     tally.bytes += input.len() as u64;

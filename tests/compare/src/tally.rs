@@ -15,7 +15,7 @@ pub struct Tally {
 impl Tally {
     /// Counts one call, by the stage it was made in.
     pub fn count(&mut self, tag: u8, answer: u8, place: Place) {
-        let known = (1..=13).contains(&tag);
+        let known = (1..=14).contains(&tag);
         if !known {
             self.unknown_tags.insert(tag);
         }
@@ -45,8 +45,8 @@ impl Tally {
     /// Prints the table; gives how many reachable pairs were missed, and how many of them in some stage.
     pub fn report(&self) -> (usize, usize) {
         println!("compared {} lists, {} calls, {} bytes", self.inputs, self.calls, self.bytes);
-        println!("answers hit, by call and number (unknown: {} of 243 tags):", self.unknown_tags.len());
-        for tag in 0..=13 {
+        println!("answers hit, by call and number (unknown: {} of 242 tags):", self.unknown_tags.len());
+        for tag in 0..=14 {
             let of_tag = REACHABLE.iter().filter(|pair| pair.tag == tag);
             let counts = of_tag.map(|pair| format!("{}: {}", pair.answer, self.pair_hits(tag, pair.answer)));
             println!("  {tag:>2} {:<9}{}", tag_name(tag), counts.collect::<Vec<_>>().join("  "));
@@ -95,7 +95,8 @@ impl Tally {
 
 /// The list of reachable pairs and of those that only look so, as PAIRS.md holds it.
 pub fn pairs_text() -> String {
-    let mut text = "# Answers that calls can get\n\nReachable, with the stages (\"none\" is no case):\n\n".to_string();
+    let mut text = "# Answers that calls can get\n\n".to_string();
+    text += "Reachable, with the stages (\"none\" is no case, A0 is A1 without a round, by SALE):\n\n";
     text += "| call | answer | why | stages |\n|---|---|---|---|\n";
     for pair in REACHABLE {
         let places: Vec<&str> = pair.places.iter().map(|&place| place_name(place)).collect();
@@ -119,6 +120,18 @@ mod tests {
     #[test]
     fn the_written_list_is_the_one_in_use() {
         assert_eq!(include_str!("../../PAIRS.md"), pairs_text());
+    }
+
+    #[test]
+    fn no_pair_is_both_reachable_and_not_in_a_stage() {
+        for (tag, answer, stage, _) in UNREACHABLE_IN {
+            let pair = REACHABLE.iter().find(|pair| (pair.tag, pair.answer) == (*tag, *answer));
+            let pair = pair.expect("other stages reach it");
+            // A stands for both rounds.
+            let named =
+                |place: &&Place| place_name(**place) == *stage || *stage == "A" && place_name(**place).starts_with('A');
+            assert_eq!(pair.places.iter().find(named), None, "{} {answer} in {stage}", tag_name(*tag));
+        }
     }
 
     #[test]

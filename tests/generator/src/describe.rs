@@ -53,6 +53,7 @@ pub fn describe(bytes: &[u8]) -> String {
         (11, 1) => format!("MOVE member {}", value[0]),
         (12, 5) => format!("MISS member {} price {}", value[0], price_at(value, 1)),
         (13, 0) => "FINISH".to_string(),
+        (14, 6) => format!("SALE pool {} member {} price {}", value[0], value[1], price_at(value, 2)),
         (tag, length) => format!("tag {tag} with {length} bytes: {}", hex(value)),
     }
 }

@@ -22,15 +22,28 @@ pub fn profile_of(seed: u64) -> Profile {
     Profile::draw(&mut Rng::new(seed ^ 0x70726F66696C65))
 }
 
+/// Percent of the seeds whose lists have SALEs among their calls.
+const WITH_SALES: u64 = 45;
+
+fn has_sales(seed: u64) -> bool {
+    Rng::new(seed ^ 0x73616C6573).chance(WITH_SALES)
+}
+
 /// A list of calls; some of them may be byte strings that are not exactly one field.
 pub fn calls(seed: u64, profile: Profile) -> Vec<Vec<u8>> {
-    Writer::new(seed, profile, true).write()
+    Writer::new(seed, profile, true, has_sales(seed)).write()
+}
+
+/// A list of the calls of document 01 only. It stays the same for a seed when requests bring calls, so that what was made from
+/// it stands.
+pub fn calls_of_01(seed: u64, profile: Profile) -> Vec<Vec<u8>> {
+    Writer::new(seed, profile, true, false).write()
 }
 
 /// The bytes of an input: whole fields, then perhaps one that the input's end cuts off.
 pub fn input(seed: u64, profile: Profile) -> Vec<u8> {
     let mut rng = Rng::new(seed ^ 0x656E64696E67);
-    let mut bytes = Writer::new(seed, profile, false).write().concat();
+    let mut bytes = Writer::new(seed, profile, false, has_sales(seed)).write().concat();
     if profile == Profile::Damage {
         damage::edit(&mut rng, &mut bytes);
     }

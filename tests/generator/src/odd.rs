@@ -10,6 +10,11 @@ impl Writer {
     pub fn odd_call(&mut self) {
         let bytes = match self.rng.below(20) {
             0 | 1 => self.last().cloned().unwrap_or_default(),
+            2 if self.plan.has_sales && self.rng.chance(50) => {
+                let tag = self.odd_tag();
+                let field = self.odd_field(tag);
+                damage::under_an_unknown_tag(&mut self.rng, field)
+            }
             2 => damage::unknown_tag(&mut self.rng),
             3..=5 => {
                 let tag = self.odd_tag();
@@ -36,6 +41,9 @@ impl Writer {
     fn odd_tag(&mut self) -> u8 {
         let allowed: &[u8] = match self.model.stage() {
             None => &[write::HEAD, write::HEAD, write::ROUND],
+            Some(Stage::Setup) if self.plan.has_sales => {
+                &[write::POOL, write::MEMBER, write::ROUND, write::SALE, write::SALE]
+            }
             Some(Stage::Setup) => &[write::POOL, write::MEMBER, write::ROUND],
             Some(Stage::Bidding(_)) => &[write::BID],
             Some(Stage::After(_)) => {
@@ -44,11 +52,16 @@ impl Writer {
             Some(Stage::CallsOut) => &[write::PAY, write::MOVE, write::MISS, write::FINISH],
             Some(Stage::Finished) => &[],
         };
-        if allowed.is_empty() || self.rng.chance(40) { self.rng.between(1, 13) as u8 } else { self.rng.pick(allowed) }
+        let last = if self.plan.has_sales { write::SALE } else { write::FINISH };
+        if allowed.is_empty() || self.rng.chance(40) {
+            self.rng.between(1, last.into()) as u8
+        } else {
+            self.rng.pick(allowed)
+        }
     }
 
     /// A field of the right length whose numbers are each valid, at an end or past it.
-    fn odd_field(&mut self, tag: u8) -> Vec<u8> {
+    pub fn odd_field(&mut self, tag: u8) -> Vec<u8> {
         match tag {
             write::HEAD => self.odd_head(),
             write::POOL => {
@@ -67,6 +80,11 @@ impl Writer {
             }
             write::MOVE => write::move_units(self.odd_member()),
             write::MISS => write::miss(self.odd_member(), self.odd_price()),
+            write::SALE => {
+                let pool = self.odd_pool();
+                let price = if self.rng.chance(40) { self.sale_price(pool) } else { self.odd_price() };
+                write::sale(pool, self.odd_member(), price)
+            }
             _ => write::field(tag, &[]),
         }
     }

@@ -61,6 +61,14 @@ pub struct Plan {
     pub miss: u64,
     /// Percent of the debts that end by a MOVE.
     pub moves: u64,
+    /// Whether SALE is among the calls of the list.
+    pub has_sales: bool,
+    /// The pools that are meant to be sold by agreement, as a set.
+    pub to_sell: u8,
+    /// SALEs that are tried at most, some of them to be declined.
+    pub sales: usize,
+    /// Odd calls written in A1 where no round was opened.
+    pub linger: usize,
     /// The list ends with this many calls at the latest.
     pub limit: usize,
     /// Calls written after FINISH.
@@ -97,6 +105,10 @@ impl Plan {
             tear: rng.pick(&[5, 20]),
             miss: rng.pick(&[5, 20]),
             moves: rng.pick(&[20, 50, 80]),
+            has_sales: false,
+            to_sell: 0,
+            sales: 0,
+            linger: 0,
             limit: 600,
             tail: if rng.chance(20) { rng.between(1, 15) as usize } else { 0 },
             cut: rng.chance(15),
@@ -268,7 +280,7 @@ fn some_prices(rng: &mut Rng, most: i64, low: i64, high: i64) -> Vec<i32> {
 }
 
 /// Mostly at or just beside a price that bids take.
-fn draw_reserves(rng: &mut Rng, prices: &[i32]) -> [[i32; 4]; 2] {
+pub fn draw_reserves(rng: &mut Rng, prices: &[i32]) -> [[i32; 4]; 2] {
     let lowest = *prices.iter().min().expect("some price is drawn");
     let mut reserve = || {
         let reserve = match rng.below(8) {

@@ -1,6 +1,6 @@
 //! What each profile asks for on top of the general draw of a plan.
 
-use crate::plan::{Demand, Plan, Target, draw_set};
+use crate::plan::{Demand, Plan, Target, draw_reserves, draw_set};
 use crate::profile::Profile;
 use crate::rng::Rng;
 
@@ -30,6 +30,43 @@ impl Plan {
             Profile::Short => self.limit = rng.below(20) as usize,
             Profile::Long => self.suit_long(rng),
         }
+    }
+
+    /// A list with SALEs: mostly one pool is sold and the rest goes to auction, or all are sold, or SALE is only an odd call.
+    pub fn suit_sales(&mut self, rng: &mut Rng, profile: Profile) {
+        self.has_sales = true;
+        let kind = rng.below(8);
+        if kind >= 3 && self.head.pools == 1 && profile != Profile::Single {
+            self.head.pools = rng.pick(&[2, 2, 3]);
+        }
+        let pools = u64::from(self.head.pools.clamp(1, 4));
+        self.to_sell = match kind {
+            0 => 0,
+            1 | 2 => (1 << pools) - 1,
+            3 => rng.below(1 << pools) as u8,
+            _ => 1 << rng.below(pools),
+        };
+        self.sales = 2 + 2 * self.to_sell.count_ones() as usize;
+        self.linger = if rng.chance(50) { rng.between(1, 25) as usize } else { 0 };
+        let costly = !matches!(profile, Profile::EmptyMoves | Profile::Edges);
+        if costly && rng.chance(60) {
+            // Margin and fund bear what is sold by agreement, so CALL needs a loss on the rest.
+            self.prices.iter_mut().for_each(|price| *price = -price.abs().max(1));
+            self.placing_price = rng.pick(&self.prices);
+            self.reserves = draw_reserves(rng, &self.prices);
+        }
+        if profile == Profile::Edges && rng.chance(40) {
+            self.suit_largest_sales(rng);
+        }
+    }
+
+    /// Losses, margin and fund at their ends, so that the limit of 17 lies past 32 bits.
+    fn suit_largest_sales(&mut self, rng: &mut Rng) {
+        let h = &mut self.head;
+        (h.hedge_loss, h.other_loss) = (2_000_000_000, 2_000_000_000);
+        (h.margin, h.fund) = (4_000_000_000, 500_000_000);
+        self.units = std::array::from_fn(|_| rng.pick(&[250, 400, 500, 1000]));
+        self.prices = vec![-1_000_000, -999_999, rng.pick(&[-500_000, 1_000_000])];
     }
 
     fn suit_ties(&mut self, rng: &mut Rng) {

@@ -5,7 +5,7 @@ use crate::profile::Profile;
 use crate::rng::Rng;
 use model::roll::Entry;
 use model::write::{self, Head};
-use model::{Ledger, Roll, Stage, field};
+use model::{Ledger, Roll, Stage, field, split};
 
 pub struct Writer {
     pub rng: Rng,
@@ -19,14 +19,20 @@ pub struct Writer {
     members_given: u32,
     /// The bids still to write in this round, the next one last.
     bids: Vec<Vec<u8>>,
+    /// How many ROUNDs were accepted.
+    rounds: usize,
     aimed: bool,
 }
 
 impl Writer {
-    pub fn new(seed: u64, profile: Profile, loose: bool) -> Writer {
+    pub fn new(seed: u64, profile: Profile, loose: bool, has_sales: bool) -> Writer {
         let mut rng = Rng::new(seed);
+        let mut plan = Plan::draw(&mut rng, profile);
+        if has_sales {
+            plan.suit_sales(&mut rng, profile);
+        }
         Writer {
-            plan: Plan::draw(&mut rng, profile),
+            plan,
             rng,
             model: Roll::default(),
             loose,
@@ -35,6 +41,7 @@ impl Writer {
             head_at: None,
             members_given: 0,
             bids: Vec::new(),
+            rounds: 0,
             aimed: false,
         }
     }
@@ -72,7 +79,10 @@ impl Writer {
                 self.head_at = Some(self.calls.len());
             }
             write::MEMBER => self.members_given |= 1 << bytes[3],
-            write::ROUND => self.bids = self.draw_bids(),
+            write::ROUND => {
+                self.rounds += 1;
+                self.bids = self.draw_bids();
+            }
             _ => {}
         }
     }
@@ -95,6 +105,11 @@ impl Writer {
                 self.odd_call();
             }
             return goes_on;
+        }
+        if stage == Some(Stage::After(1)) && self.rounds == 0 && self.plan.linger > 0 {
+            self.plan.linger -= 1;
+            self.odd_call();
+            return true;
         }
         if self.rng.chance(self.noise_in(stage)) {
             self.odd_call();
@@ -135,8 +150,14 @@ impl Writer {
 
     // Stage S
 
-    /// POOLs and MEMBERs in any mix, then the first ROUND.
+    /// POOLs and MEMBERs in any mix, then SALEs, then the first ROUND.
     fn set_up(&mut self) {
+        if self.plan.has_sales && self.plan.noise > 0 && self.rng.chance(8) {
+            // Often before all is given.
+            let early = self.odd_field(write::SALE);
+            self.put(early);
+            return;
+        }
         let pool = self.model.pools_given();
         let pool_left = pool < self.plan.head.pools;
         let members = members_of(self.plan.head.set & !self.members_given);
@@ -146,9 +167,85 @@ impl Writer {
         } else if !members.is_empty() {
             let member = self.rng.pick(&members);
             self.put(self.member_field(member));
-        } else {
+        } else if !self.sell() {
             self.put(write::round(&self.reserves(1)));
         }
+    }
+
+    /// One more SALE that the plan wants; false where there is none. Not all of them are meant to be accepted.
+    fn sell(&mut self) -> bool {
+        let mut pools = self.open_pools();
+        pools.retain(|pool| self.plan.to_sell >> pool & 1 == 1);
+        if pools.is_empty() || self.plan.sales == 0 {
+            return false;
+        }
+        self.plan.sales -= 1;
+        let pool = self.rng.pick(&pools);
+        let price = self.rng.pick(&self.plan.prices);
+        let price = if self.plan.sales < pools.len() {
+            // The last tries are to be accepted.
+            self.least_sale_price(pool).clamp(price.into(), 1_000_000) as i32
+        } else if self.rng.chance(65) && self.bring_the_limit_to(pool, price) {
+            price
+        } else {
+            self.sale_price(pool)
+        };
+        let member = self.any_member();
+        self.put(write::sale(pool, member, price));
+        true
+    }
+
+    /// The lowest price at which the pool can be sold by agreement; it may lie outside of the range of prices.
+    fn least_sale_price(&self, pool: u8) -> i64 {
+        let units = (self.model.counts(pool)[0] as i64).max(1);
+        let needed = above_margin_and_fund(&self.plan.head) - self.model.sum_of_prices();
+        needed.div_euclid(units) + i64::from(needed.rem_euclid(units) > 0)
+    }
+
+    /// A price at the limit of 17 or beside it, or one that bids take.
+    pub fn sale_price(&mut self, pool: u8) -> i32 {
+        let least = self.least_sale_price(pool);
+        let price = match self.rng.below(8) {
+            0..=2 => least,
+            3 | 4 => least - 1,
+            5 => least + self.rng.between(1, 20),
+            _ => self.rng.pick(&self.plan.prices).into(),
+        };
+        price.clamp(-1_000_000, 1_000_000) as i32
+    }
+
+    /// Changes HEAD so that a SALE of the pool at this price meets the limit of 17 exactly, stays below it or passes it; false
+    /// where an answer so far would change by that.
+    fn bring_the_limit_to(&mut self, pool: u8, price: i32) -> bool {
+        let Some(at) = self.head_at else {
+            return false;
+        };
+        let of_pool = self.model.counts(pool)[0] as i64 * i64::from(price);
+        let left = match self.rng.below(10) {
+            0..=5 => 0,
+            6 => -1,
+            7 => -self.rng.between(1, of_pool.abs() + 5),
+            8 => self.rng.between(1, 3),
+            _ => self.rng.between(0, of_pool.abs() + 50),
+        };
+        let above = self.model.sum_of_prices() + of_pool - left;
+        let mut head = self.plan.head;
+        let losses = i64::from(head.margin) + i64::from(head.fund) + above;
+        let losses = if losses < 0 { self.rng.between(0, 50) } else { losses.min(4_000_000_000) };
+        let ready = losses - above;
+        if !(0..=4_000_000_000).contains(&ready) {
+            return false;
+        }
+        self.give_losses(&mut head, losses);
+        head.fund = i64::from(head.fund).min(ready) as u32;
+        head.margin = (ready - i64::from(head.fund)) as u32;
+        let mut calls = self.calls.clone();
+        calls[at] = write::head(&head);
+        let same = self.rewrite(calls);
+        if same {
+            self.plan.head = head;
+        }
+        same
     }
 
     pub fn member_field(&self, member: u8) -> Vec<u8> {
@@ -423,6 +520,9 @@ impl Writer {
         let Some(at) = self.head_at else {
             return;
         };
+        if self.answers_depend_on_losses() {
+            return self.aim_beside_sales(at);
+        }
         let mut head = self.plan.head;
         let Some(mut losses) = self.wanted_losses(&head) else {
             return;
@@ -432,17 +532,75 @@ impl Writer {
             (head.margin, head.fund, head.house) = (0, 0, 0);
             losses = self.wanted_losses(&head).unwrap_or(0);
         }
-        let losses = losses.clamp(0, 4_000_000_000);
+        self.give_losses(&mut head, losses.clamp(0, 4_000_000_000));
+        let mut calls = self.calls.clone();
+        calls[at] = write::head(&head);
+        if self.rewrite(calls) {
+            self.plan.head = head;
+        }
+    }
+
+    /// Sets both losses so that together they are this much.
+    fn give_losses(&mut self, head: &mut Head, losses: i64) {
         let low = (losses - 2_000_000_000).max(0);
         head.hedge_loss = self.rng.between(low, losses.min(2_000_000_000)) as u32;
         head.other_loss = (losses - i64::from(head.hedge_loss)) as u32;
-        let mut calls = self.calls.clone();
-        calls[at] = write::head(&head);
+    }
+
+    /// Puts other calls in place of those written so far; false, and nothing changed, where an answer would be another.
+    fn rewrite(&mut self, calls: Vec<Vec<u8>>) -> bool {
         let mut model = Roll::default();
         let answers: Vec<u8> = calls.iter().map(|bytes| model.call(bytes)).collect();
-        if answers == self.answers {
+        let same = answers == self.answers;
+        if same {
             self.calls = calls;
             self.model = model;
+        }
+        same
+    }
+
+    /// Whether a SALE came as far as the limit of 17.
+    fn answers_depend_on_losses(&self) -> bool {
+        let mut answered = self.calls.iter().zip(&self.answers);
+        answered.any(|(bytes, answer)| bytes.first() == Some(&write::SALE) && matches!(answer, 0 | 17))
+    }
+
+    /// The same after SALEs, whose answers depend on losses, margin and fund: house money and contributions change instead, on
+    /// which no answer so far depends.
+    fn aim_beside_sales(&mut self, at: usize) {
+        // What margin and fund leave of the requirement.
+        let left = above_margin_and_fund(&self.plan.head) - self.model.sum_of_prices();
+        if left <= 1 || self.plan.target == Target::Free {
+            return;
+        }
+        let mut house = self.rng.between(0, left / 2);
+        let mut contributions = match self.plan.target {
+            Target::Free => return,
+            Target::Zero | Target::Prefunded => {
+                house = self.rng.between(0, 2 * left);
+                self.rng.between(0, 2 * left)
+            }
+            Target::Verge => left - house + self.rng.between(-1, 1),
+            Target::Called => self.rng.between((left - house) / 2, left - house - 1),
+            Target::Uncovered => self.rng.between(0, (left - house) / 2),
+        };
+        let mut calls = self.calls.clone();
+        let given =
+            (0..calls.len()).filter(|&call| calls[call].first() == Some(&write::MEMBER) && self.answers[call] == 0);
+        let given: Vec<usize> = given.collect();
+        let old: Vec<u64> = given.iter().map(|&call| field::u32_at(&calls[call], 4).into()).collect();
+        let shares = split(contributions as u64, &old);
+        for (&call, &share) in given.iter().zip(&shares) {
+            let share = share.min(500_000_000) as u32;
+            contributions -= i64::from(share);
+            calls[call][4..8].copy_from_slice(&share.to_be_bytes());
+            self.plan.contributions[usize::from(calls[call][3])] = share;
+        }
+        // What no member can carry goes to the house.
+        house = (house + contributions).min(4_000_000_000);
+        let head = Head { house: house as u32, ..self.plan.head };
+        calls[at] = write::head(&head);
+        if self.rewrite(calls) {
             self.plan.head = head;
         }
     }
@@ -502,6 +660,12 @@ impl Writer {
         }
         by_rank.into_iter().rev().filter(|&sum| sum > 0).collect()
     }
+}
+
+/// Both losses less margin and defaulter's fund.
+fn above_margin_and_fund(head: &Head) -> i64 {
+    let losses = i64::from(head.hedge_loss) + i64::from(head.other_loss);
+    losses - i64::from(head.margin) - i64::from(head.fund)
 }
 
 /// The numbers of an accepted HEAD.

@@ -1,7 +1,8 @@
 //! What the generator promises of its lists.
 
-use generator::{Profile, calls, fields, input, profile_of, timing};
-use model::{Counts, Ledger, Stage};
+use generator::{Profile, calls, calls_of_01, fields, input, profile_of, timing};
+use model::roll::Entry;
+use model::{Counts, Ledger, Roll, Stage, write};
 
 fn last_stage(list: &[Vec<u8>]) -> Option<Stage> {
     let mut ledger = Counts::default();
@@ -34,6 +35,67 @@ fn most_lists_reach_the_last_stage() {
         let finished = (0..40).filter(|&seed| last_stage(&calls(seed, profile)) == Some(Stage::Finished));
         let finished = finished.count();
         assert!(finished >= 20, "{profile:?}: {finished} of 40");
+    }
+}
+
+/// What a list with an accepted SALE goes through.
+#[derive(Default)]
+struct Sales {
+    lists: usize,
+    sold_whole: usize,
+    finished_after_a_round: usize,
+    declined_by_17: usize,
+    /// MOVEs and MISSes with units so sold at a negative price beside them.
+    moves: usize,
+    misses: usize,
+}
+
+impl Sales {
+    fn count(&mut self, list: &[Vec<u8>]) {
+        let mut ledger = Roll::default();
+        let mut had_round = false;
+        for bytes in list {
+            let answer = ledger.call(bytes);
+            let tag = bytes.first().copied().unwrap_or(0);
+            self.declined_by_17 += usize::from((tag, answer) == (write::SALE, 17));
+            had_round |= (tag, answer) == (write::ROUND, 0);
+            let so_sold = |entry: &Entry| matches!(entry, Entry::SoldByAgreement { price, .. } if *price < 0);
+            if answer == 0 && (0..4).flat_map(|pool| ledger.entries(pool)).any(so_sold) {
+                self.moves += usize::from(tag == write::MOVE);
+                self.misses += usize::from(tag == write::MISS);
+            }
+        }
+        let sold = |pool| matches!(ledger.entries(pool).first(), Some(Entry::SoldByAgreement { .. }));
+        if (0..4).any(sold) {
+            self.lists += 1;
+            self.sold_whole += usize::from(!had_round && ledger.stage() != Some(Stage::Setup));
+            self.finished_after_a_round += usize::from(had_round && ledger.stage() == Some(Stage::Finished));
+        }
+    }
+}
+
+#[test]
+fn a_share_of_the_lists_sells_by_agreement_in_every_profile() {
+    for profile in Profile::ALL.into_iter().filter(|&profile| profile != Profile::Short && profile != Profile::Long) {
+        let mut sales = Sales::default();
+        (0..200).for_each(|seed| sales.count(&calls(seed, profile)));
+        let Sales { lists, sold_whole, finished_after_a_round, declined_by_17, .. } = sales;
+        assert!(
+            lists >= 40 && sold_whole >= 8 && declined_by_17 >= 8,
+            "{profile:?}: {lists} {sold_whole} {declined_by_17}"
+        );
+        assert!(finished_after_a_round >= 15 || profile == Profile::Single, "{profile:?}: {finished_after_a_round}");
+        let (moves, misses) = (sales.moves, sales.misses);
+        assert!(moves >= 30 || profile != Profile::Moves, "{profile:?}: {moves} {misses}");
+        assert!(moves >= 10 && misses >= 10 || profile != Profile::Misses, "{profile:?}: {moves} {misses}");
+    }
+}
+
+#[test]
+fn the_lists_of_01_have_no_sale() {
+    for seed in 0..300 {
+        let list = calls_of_01(seed, profile_of(seed));
+        assert!(!list.iter().any(|bytes| bytes.first() == Some(&write::SALE)), "seed {seed}");
     }
 }
 

@@ -146,6 +146,7 @@ fn price_in(bytes: &[u8]) -> Option<i64> {
     match field.tag {
         write::BID => Some(price_at(field.value, 4)),
         write::ALLOCATE | write::TEAR | write::MISS => Some(price_at(field.value, 1)),
+        write::SALE => Some(price_at(field.value, 2)),
         _ => None,
     }
 }

@@ -1,6 +1,6 @@
 //! The ledger held as counts only: no list of units, and no call that sweeps over units.
 //!
-//! It is the speed baseline, and a second writing of document 01 against which the roll is compared. Refusals are checked call by
+//! It is the speed baseline, and a second writing of document 01 and of C-12 against which the roll is compared. Refusals are checked call by
 //! call in the order of their numbers.
 
 use crate::auction::allot;
@@ -60,6 +60,15 @@ struct Pool {
     torn: u64,
     /// ALLOCATE is accepted at most once in a pool, so all its allocated units have one price.
     allocated_price: i64,
+    /// A pool that was sold by agreement was sold whole, to one member.
+    agreed: Option<Agreed>,
+}
+
+#[derive(Clone, Copy, Debug, PartialEq, Eq)]
+struct Agreed {
+    member: usize,
+    price: i64,
+    units: u64,
 }
 
 #[derive(Clone, Copy, Debug, Default, PartialEq, Eq)]
@@ -114,6 +123,7 @@ impl Counts {
             7 | 8 | 10 | 12 => length == 5,
             11 => length == 1,
             6 | 9 | 13 => length == 0,
+            14 => length == 6,
             _ => false,
         }
     }
@@ -256,6 +266,43 @@ impl Counts {
         }
         self.round_begins = self.bids.len();
         self.stage = Some(Stage::Bidding(round));
+        0
+    }
+
+    fn sell_by_agreement(&mut self, value: &[u8]) -> u8 {
+        if self.stage != Some(Stage::Setup) {
+            return 2;
+        }
+        let (number, member, price) = (usize::from(value[0]), usize::from(value[1]), price_at(value, 2));
+        if number >= self.pools {
+            return 3;
+        }
+        if !self.has_member(member) {
+            return 4;
+        }
+        if !price_fits(price) {
+            return 5;
+        }
+        let units = self.pool[number].open;
+        if units == 0 {
+            return 8;
+        }
+        if self.pools_given < self.pools || self.members_given != self.set {
+            return 10;
+        }
+        // In stage S no unit has left but by agreement.
+        let prices = self.prices + units as i64 * price;
+        if self.losses - prices > (self.margin + self.fund) as i64 {
+            return 17;
+        }
+        self.prices = prices;
+        let pool = &mut self.pool[number];
+        pool.open = 0;
+        pool.sold = units;
+        pool.agreed = Some(Agreed { member, price, units });
+        if !self.any_open() {
+            self.stage = Some(Stage::After(1));
+        }
         0
     }
 
@@ -536,10 +583,11 @@ impl Counts {
             // A bid that won nothing may stand below the reserve.
             bid.won * u64::try_from(above_worst).unwrap_or(0)
         };
+        let counted = (0..POOLS).filter(|&p| self.pool[p].agreed.is_none());
         Standing {
             premium: own.map(premium).sum(),
             won: self.member[member].won.iter().sum(),
-            expected: self.member[member].expected.iter().sum(),
+            expected: counted.map(|p| self.member[member].expected[p]).sum(),
         }
     }
 
@@ -595,7 +643,8 @@ impl Counts {
         let allocated = |p: &Pool| p.allocated as i64 * p.allocated_price;
         let allocated: i64 = self.pool.iter().map(allocated).sum();
         let torn: i64 = self.torn.iter().map(|t| t.units as i64 * t.price).sum();
-        sold + allocated + torn
+        let agreed: i64 = self.pool.iter().filter_map(|p| p.agreed).map(|a| a.units as i64 * a.price).sum();
+        sold + allocated + torn + agreed
     }
 }
 
@@ -665,7 +714,8 @@ impl Ledger for Counts {
             10 => self.pay(value),
             11 => self.move_units(value),
             12 => self.miss(value),
-            _ => self.finish(),
+            13 => self.finish(),
+            _ => self.sell_by_agreement(value),
         }
     }
 
@@ -694,7 +744,8 @@ impl Ledger for Counts {
         let at_price = self.pool[p].allocated_price == price_cents;
         let allocated = u64::from(at_price) * self.member[m].allocated[p];
         let moved = u64::from(price_cents == 0) * self.member[m].moved[p];
-        sold + allocated + moved
+        let agreed = self.pool[p].agreed.filter(|a| (a.member, a.price) == (m, price_cents)).map_or(0, |a| a.units);
+        sold + allocated + moved + agreed
     }
 
     fn holdings(&self, member: u8) -> Vec<(u8, i64, u64)> {
@@ -708,6 +759,8 @@ impl Ledger for Counts {
             let price = self.pool[p].allocated_price;
             lots.push((p as u8, price, self.member[m].allocated[p]));
             lots.push((p as u8, 0, self.member[m].moved[p]));
+            let agreed = self.pool[p].agreed.filter(|a| a.member == m);
+            lots.extend(agreed.map(|a| (p as u8, a.price, a.units)));
         }
         lots.retain(|&(.., units)| units > 0);
         lots.sort_by_key(|&(pool, price, _)| (pool, Reverse(price)));

@@ -44,7 +44,7 @@ pub trait Ledger {
     /// Open, sold, allocated, moved, torn; all 0 for a pool not given.
     fn counts(&self, pool: u8) -> [u64; 5];
 
-    /// Units sold to the member's bids, allocated or moved to it, in one pool at one price.
+    /// Units sold to the member's bids or to it by agreement, allocated or moved to it, in one pool at one price.
     fn holding(&self, member: u8, pool: u8, price_cents: i64) -> u64;
 
     /// All its holdings (pool, price, units), by pool, then by price from high to low, each price once.

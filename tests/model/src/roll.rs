@@ -1,4 +1,4 @@
-//! The ledger as an explicit unit roll, one entry a unit, by the letter of document 01 and as plain as it can be.
+//! The ledger as an explicit unit roll, one entry a unit, by the letter of document 01 and C-12 of document 02, and as plain as it can be.
 //!
 //! This is the model to believe: above each function stands the sentence that it follows. It uses no code of `split`, `auction`
 //! or `counts`.
@@ -10,10 +10,13 @@ use std::cmp::Reverse;
 use std::collections::{BTreeMap, BTreeSet};
 
 /// "A pool of N units has N entries, each open, sold (bid), allocated (member, price), moved (member) or torn (price)."
+///
+/// C-12: "The roll gains the entry sold by agreement"; its member and price are those of SALE.
 #[derive(Clone, Copy, Debug, PartialEq, Eq)]
 pub enum Entry {
     Open,
     Sold { bid: usize },
+    SoldByAgreement { member: u8, price: i64 },
     Allocated { member: u8, price: i64 },
     Moved { member: u8 },
     Torn { price: i64 },
@@ -74,7 +77,7 @@ pub struct Bid {
 }
 
 /// "A call is a tagged field: tag (1 byte), length (2), value."
-// One of the thirteen calls is itself named CALL.
+// One of the fourteen calls is itself named CALL.
 #[allow(clippy::enum_variant_names)]
 #[derive(Clone, Debug, PartialEq, Eq)]
 enum Call {
@@ -91,6 +94,7 @@ enum Call {
     Move { member: u8 },
     Miss { member: u8, price: i64 },
     Finish,
+    Sale { pool: u8, member: u8, price: i64 },
 }
 
 /// "1. Unknown tag, bytes that aren't exactly one field, or a wrong length (ROUND: 4 × pools; with no case 4, 8, 12 or 16)."
@@ -127,6 +131,8 @@ fn read(bytes: &[u8], pools: Option<u8>) -> Option<Call> {
         (11, 1) => Call::Move { member: value[0] },
         (12, 5) => Call::Miss { member: value[0], price: field::price_at(value, 1) },
         (13, 0) => Call::Finish,
+        // "SALE (tag 14: pool 1, member 1, price 4)"
+        (14, 6) => Call::Sale { pool: value[0], member: value[1], price: field::price_at(value, 2) },
         _ => return None,
     };
     Some(call)
@@ -178,9 +184,10 @@ fn is_out_of_range(call: &Call, pools: u8) -> bool {
         Call::Round { reserves } => reserves.iter().any(|&r| price_is_out_of_range(r)),
         // "bid units 1 to 1,000"
         Call::Bid(bid) => !(1..=1_000).contains(&bid.units) || price_is_out_of_range(bid.price),
-        Call::Allocate { price, .. } | Call::Tear { price, .. } | Call::Miss { price, .. } => {
-            price_is_out_of_range(*price)
-        }
+        Call::Allocate { price, .. }
+        | Call::Tear { price, .. }
+        | Call::Miss { price, .. }
+        | Call::Sale { price, .. } => price_is_out_of_range(*price),
         // "a payment 1 to 10^9"
         Call::Pay { amount, .. } => !(1..=1_000_000_000).contains(amount),
         Call::Close | Call::Call | Call::Move { .. } | Call::Finish => false,
@@ -233,7 +240,7 @@ impl Roll {
             None => declines_without_a_case(number, call),
             Some(case) => case.declines(number, call),
         };
-        (2..=16).find(declines).unwrap_or(0)
+        (2..=17).find(declines).unwrap_or(0)
     }
 
     fn take(&mut self, call: Call) {
@@ -291,6 +298,7 @@ impl Case {
             14 => self.pays_too_much_or_owes_nothing(call),
             15 => matches!(call, Call::Finish) && self.set().iter().any(|&m| self.owes(m) > 0),
             16 => matches!(call, Call::Miss { member, .. } if !self.was_given_units(*member)),
+            17 => matches!(call, Call::Sale { pool, price, .. } if self.sale_passes_the_limit(*pool, *price)),
             _ => false,
         }
     }
@@ -300,7 +308,8 @@ impl Case {
         use Stage::*;
         match call {
             Call::Head(_) => false,
-            Call::Pool(_) | Call::Member(_) => self.stage == Setup,
+            // "SALE ... in stage S"
+            Call::Pool(_) | Call::Member(_) | Call::Sale { .. } => self.stage == Setup,
             Call::Round { .. } => self.stage == Setup || self.stage == After(1),
             Call::Bid(_) | Call::Close => matches!(self.stage, Bidding(_)),
             Call::Allocate { .. } | Call::Tear { .. } | Call::Call => {
@@ -317,7 +326,7 @@ impl Case {
         match call {
             Call::Pool(pool) => not_in_the_case(pool.number) || usize::from(pool.number) != self.pools.len(),
             Call::Bid(bid) => not_in_the_case(bid.pool),
-            Call::Allocate { pool, .. } | Call::Tear { pool, .. } => not_in_the_case(*pool),
+            Call::Allocate { pool, .. } | Call::Tear { pool, .. } | Call::Sale { pool, .. } => not_in_the_case(*pool),
             _ => false,
         }
     }
@@ -328,7 +337,10 @@ impl Case {
         match call {
             Call::Member(m) => not_in_the_set(m.number) || self.members.contains_key(&m.number),
             Call::Bid(bid) => not_in_the_set(bid.member),
-            Call::Pay { member, .. } | Call::Move { member } | Call::Miss { member, .. } => not_in_the_set(*member),
+            Call::Pay { member, .. }
+            | Call::Move { member }
+            | Call::Miss { member, .. }
+            | Call::Sale { member, .. } => not_in_the_set(*member),
             _ => false,
         }
     }
@@ -338,11 +350,17 @@ impl Case {
         matches!(call, Call::Bid(bid) if bid.units < self.head.least_bid.into())
     }
 
-    /// "8. BID, ALLOCATE or TEAR finds no open unit in the pool, or the second ROUND none anywhere."
+    /// "8. BID, ALLOCATE or TEAR finds no open unit in the pool, or the second ROUND none anywhere." C-12: "Pool, member, range, open
+    /// unit and missing setup are checked as for other calls, with their old numbers", and "the stage becomes A1, where a ROUND is
+    /// declined by 8".
+    ///
+    /// A pool of the case that is not given yet has no entry, so no open unit.
     fn finds_no_open_unit(&self, call: &Call) -> bool {
         match call {
             Call::Bid(bid) => self.open_units(bid.pool) == 0,
-            Call::Allocate { pool, .. } | Call::Tear { pool, .. } => self.open_units(*pool) == 0,
+            Call::Allocate { pool, .. } | Call::Tear { pool, .. } | Call::Sale { pool, .. } => {
+                self.open_units(*pool) == 0
+            }
             Call::Round { .. } => self.stage == Stage::After(1) && !self.open_units_anywhere(),
             _ => false,
         }
@@ -353,11 +371,11 @@ impl Case {
         matches!(call, Call::Allocate { pool, .. } if self.pools[usize::from(*pool)].mark == 1)
     }
 
-    /// "10. ALLOCATE finds no shortfall, or ROUND a pool or member not given."
+    /// "10. ALLOCATE finds no shortfall, or ROUND a pool or member not given." C-12: "when all pools and members are given".
     fn finds_no_shortfall_or_one_not_given(&self, call: &Call) -> bool {
         match call {
             Call::Allocate { pool, .. } => self.shortfalls(*pool).iter().all(|&s| s == 0),
-            Call::Round { .. } => {
+            Call::Round { .. } | Call::Sale { .. } => {
                 self.pools.len() < self.head.pools.into() || self.set().iter().any(|m| !self.members.contains_key(m))
             }
             _ => false,
@@ -384,6 +402,17 @@ impl Case {
         all.copied().any(|entry| is_given_to(entry, member))
     }
 
+    /// "17, last of all, where hedge loss + other loss − the prices of all units so sold, this pool's included, passes margin and
+    /// defaulter's fund together."
+    fn sale_passes_the_limit(&self, pool: u8, price: i64) -> bool {
+        let losses = i64::from(self.head.hedge_loss) + i64::from(self.head.other_loss);
+        let limit = i64::from(self.head.margin) + i64::from(self.head.fund);
+        let so_sold = self.roll.iter().flatten().filter(|entry| is_sold_by_agreement(**entry));
+        let so_far: i64 = so_sold.map(|&entry| price_of(entry, &self.bids)).sum();
+        let this_pool = self.open_units(pool) as i64 * price;
+        losses - (so_far + this_pool) > limit
+    }
+
     // The calls
 
     fn take(&mut self, call: Call) {
@@ -403,6 +432,7 @@ impl Case {
             Call::Move { member } => self.move_units(member),
             Call::Miss { member, price } => self.miss(member, price),
             Call::Finish => self.stage = Stage::Finished,
+            Call::Sale { pool, member, price } => self.sale(pool, member, price),
         }
     }
 
@@ -553,7 +583,7 @@ impl Case {
 
     /// "only such units move, in pools of either mark. Allocated units go first: lowest price, then higher pool, then higher
     /// member. Sold units follow: lowest price, then later bid. The member's own units count." and "within one bid or member the
-    /// highest first"
+    /// highest first". C-12: "MOVE passes over it and ends as if it weren't there."
     fn next_to_move(&self) -> Option<(usize, usize)> {
         let mut allocated = Vec::new();
         let mut sold = Vec::new();
@@ -584,6 +614,16 @@ impl Case {
             if is_given_to(*entry, member) {
                 *entry = Entry::Torn { price };
             }
+        }
+    }
+
+    /// "sells the whole pool to one member", and "If no unit is open afterwards the stage becomes A1"
+    fn sale(&mut self, pool: u8, member: u8, price: i64) {
+        for entry in &mut self.roll[usize::from(pool)] {
+            *entry = Entry::SoldByAgreement { member, price };
+        }
+        if !self.open_units_anywhere() {
+            self.stage = Stage::After(1);
         }
     }
 
@@ -635,10 +675,11 @@ impl Case {
             + self.contributions().iter().sum::<u64>()
     }
 
-    /// "holdings (units sold to its bids, allocated or moved to it, by pool and price)"
+    /// "holdings (units sold to its bids, allocated or moved to it, by pool and price)"; C-12: "among its member's holdings"
     fn is_held_by(&self, entry: Entry, member: u8) -> bool {
         match entry {
             Entry::Sold { bid } => self.bids[bid].member == member,
+            Entry::SoldByAgreement { member: buyer, .. } => buyer == member,
             _ => is_given_to(entry, member),
         }
     }
@@ -650,16 +691,18 @@ impl Case {
         let pool = usize::from(pool);
         let rounds = self.rounds.iter().filter(|r| r.had_open_units[pool]);
         let worst = rounds.map(|round| round.reserves[pool]).min();
-        worst.expect("every pool has open units at the first ROUND")
+        worst.expect("a pool that took a bid had open units at its ROUND")
     }
 
     /// "Units won are those given at CLOSE; later moves don't lower them. ... D sums units won × (price − worst reserve) over all
-    /// pools, W is units won, excess is W less expected units over all pools."
+    /// pools, W is units won, excess is W less expected units over all pools." C-12: "Such units, and the units expected in a pool
+    /// so sold, don't count for rank."
     fn performance(&self, member: u8) -> Performance {
         let bids = self.bids.iter().filter(|b| b.member == member);
         let premium = |b: &Bid| b.won as i128 * i128::from(b.price - self.worst_reserve(b.pool));
         let won: u64 = bids.clone().map(|b| b.won).sum();
-        let expected: u64 = self.members[&member].expected.iter().sum();
+        let counted = (0..self.head.pools).filter(|&pool| self.count(pool, is_sold_by_agreement) == 0);
+        let expected: u64 = counted.map(|pool| self.members[&member].expected[usize::from(pool)]).sum();
         Performance { d: bids.map(premium).sum(), w: won.into(), excess: i128::from(won) - i128::from(expected) }
     }
 
@@ -728,8 +771,13 @@ fn price_of(entry: Entry, bids: &[Bid]) -> i64 {
     match entry {
         Entry::Open | Entry::Moved { .. } => 0,
         Entry::Sold { bid } => bids[bid].price,
-        Entry::Allocated { price, .. } | Entry::Torn { price } => price,
+        Entry::SoldByAgreement { price, .. } | Entry::Allocated { price, .. } | Entry::Torn { price } => price,
     }
+}
+
+/// "all units so sold"
+fn is_sold_by_agreement(entry: Entry) -> bool {
+    matches!(entry, Entry::SoldByAgreement { .. })
 }
 
 /// "units allocated or moved to the member"
@@ -827,14 +875,14 @@ impl Ledger for Roll {
         self.case.as_ref().map_or(0, |case| case.pools.len() as u8)
     }
 
-    /// "per pool the five counts"
+    /// "per pool the five counts"; C-12: "counted as sold"
     fn counts(&self, pool: u8) -> [u64; 5] {
         let Some(case) = &self.case else {
             return [0; 5];
         };
         [
             case.count(pool, |e| e == Entry::Open),
-            case.count(pool, |e| matches!(e, Entry::Sold { .. })),
+            case.count(pool, |e| matches!(e, Entry::Sold { .. } | Entry::SoldByAgreement { .. })),
             case.count(pool, |e| matches!(e, Entry::Allocated { .. })),
             case.count(pool, |e| matches!(e, Entry::Moved { .. })),
             case.count(pool, |e| matches!(e, Entry::Torn { .. })),

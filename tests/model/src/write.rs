@@ -14,6 +14,7 @@ pub const PAY: u8 = 10;
 pub const MOVE: u8 = 11;
 pub const MISS: u8 = 12;
 pub const FINISH: u8 = 13;
+pub const SALE: u8 = 14;
 
 /// A field of any tag and value; a value past 65,535 bytes has no field.
 pub fn field(tag: u8, value: &[u8]) -> Vec<u8> {
@@ -100,6 +101,12 @@ pub fn miss(member: u8, price: i32) -> Vec<u8> {
 
 pub fn finish() -> Vec<u8> {
     field(FINISH, &[])
+}
+
+pub fn sale(pool: u8, member: u8, price: i32) -> Vec<u8> {
+    let mut value = vec![pool, member];
+    value.extend(price.to_be_bytes());
+    field(SALE, &value)
 }
 
 fn byte_and_four(first: u8, rest: [u8; 4]) -> [u8; 5] {

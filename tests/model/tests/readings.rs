@@ -2,28 +2,9 @@
 
 mod common;
 
-use common::{accepted, both, feed, head_of, lines};
+use common::{NONE, accepted, both, feed, head_of, lines, ranks, setup};
 use model::write::*;
 use model::{Counts, Ledger, Roll, print};
-
-/// HEAD and some pools (units, mark); members 0 and up with contribution and expected units follow.
-fn setup(h: &Head, pools: &[(u16, u8)], members: &[(u32, [u16; 4])]) -> Vec<Vec<u8>> {
-    let mut calls = vec![head(h)];
-    for (number, &(units, mark)) in pools.iter().enumerate() {
-        calls.push(pool(number as u8, units, mark));
-    }
-    for (number, &(contribution, expected)) in members.iter().enumerate() {
-        calls.push(member(number as u8, contribution, expected));
-    }
-    calls
-}
-
-fn ranks(ledger: &dyn Ledger) -> Vec<u64> {
-    let members = ledger.result().unwrap().members;
-    members.iter().map(|m| m.rank).collect()
-}
-
-const NONE: [u16; 4] = [0; 4];
 
 #[test]
 fn a_sold_out_pool_keeps_its_first_reserve() {

@@ -1,20 +1,30 @@
 //! The inputs of the program crate `cases`, and what the model prints for them: K9, annexure 1 of document 000, the example of document 01 cut off at
-//! every byte, and lists that give every answer to every call that can get it.
+//! every byte, lists that give every answer to every call of document 01 that can get it, and lists of sales by agreement.
 
-use generator::{calls, fields, profile_of};
-use model::write::{Head, bid, close, example, finish, head, member, pool, round};
+use generator::{calls_of_01, fields, profile_of};
+use model::write::{
+    ALLOCATE, FINISH, Head, SALE, allocate, bid, call, close, example, field, finish, head, member, miss, move_units,
+    pay, pool, round, sale, tear,
+};
 use model::{Ledger, Roll, print};
 use std::collections::BTreeSet;
 use std::io::{self, Write};
 use std::process::ExitCode;
 
-/// How many pairs of call and answer there are (PAIRS.md), without the unknown tag.
+/// How many pairs of call and answer there are (PAIRS.md) for the calls of document 01, without the unknown tag.
 const PAIRS: usize = 74;
+
+/// The answers that SALE can get.
+const SALE_ANSWERS: [u8; 9] = [0, 1, 2, 3, 4, 5, 8, 10, 17];
 
 fn main() -> ExitCode {
     let output = match std::env::args().nth(1).as_deref() {
-        Some("--input") => inputs().iter().flat_map(|input| [&(input.len() as u32).to_be_bytes()[..], input].concat()).collect(),
-        Some("--text") => inputs().iter().flat_map(|input| [&print::<Roll>(input)[..], b"--\n"].concat()).collect::<Vec<u8>>(),
+        Some("--input") => {
+            inputs().iter().flat_map(|input| [&(input.len() as u32).to_be_bytes()[..], input].concat()).collect()
+        }
+        Some("--text") => {
+            inputs().iter().flat_map(|input| [&print::<Roll>(input)[..], b"--\n"].concat()).collect::<Vec<u8>>()
+        }
         _ => {
             eprintln!("usage: checked --input | checked --text");
             return ExitCode::from(2);
@@ -32,7 +42,136 @@ fn inputs() -> Vec<Vec<u8>> {
     all.extend((0..=example.len()).map(|length| example[..length].to_vec()));
     let seen = all.iter().flat_map(|input| pairs_of(input)).collect();
     all.extend(every_pair(seen));
+    all.extend(sales());
     all
+}
+
+/// Sales by agreement: every answer of SALE, A1 without a round, units so sold that MOVE and MISS pass over, and ranks beside them.
+fn sales() -> Vec<Vec<u8>> {
+    let lists = [declined_sales(), sold_whole(), passed_over(), nothing_to_move(), ranked_beside_a_sale()]
+        .map(|list| list.concat());
+    let seen: BTreeSet<(u8, u8)> = lists.iter().flat_map(|input| pairs_of(input)).collect();
+    let missed: Vec<u8> = SALE_ANSWERS.into_iter().filter(|&answer| !seen.contains(&(SALE, answer))).collect();
+    assert!(missed.is_empty(), "SALE never answered {missed:?}");
+    lists.to_vec()
+}
+
+/// Every reason to decline a SALE in turn, and the limit of 17: 30 lost, and 90 for both pools, are margin and fund together. One cent more is declined.
+fn declined_sales() -> Vec<Vec<u8>> {
+    let h = Head { hedge_loss: 20, other_loss: 10, margin: 80, fund: 40, house: 500, ..head_of(3, 2) };
+    vec![
+        sale(0, 0, -10),
+        field(SALE, &[0; 5]),
+        head(&h),
+        pool(0, 3, 0),
+        pool(1, 1, 1),
+        member(1, 100, [0; 4]),
+        sale(3, 2, 1_000_001),
+        sale(2, 2, 1_000_001),
+        sale(2, 0, 1_000_001),
+        sale(2, 0, -1_000_000),
+        sale(0, 0, -1_000_000),
+        pool(2, 5, 0),
+        sale(0, 0, -1_000_000),
+        member(0, 100, [0; 4]),
+        sale(0, 0, -1_000_000),
+        sale(0, 32, -10),
+        sale(0, 0, -31),
+        sale(0, 0, -20),
+        sale(0, 1, -20),
+        sale(1, 1, -31),
+        sale(1, 1, -30),
+        pool(2, 5, 0),
+        member(0, 100, [0; 4]),
+        field(SALE, &[2, 0, 0, 0, 0, 0, 0]),
+        round(&[0, 0, 1_000_001]),
+        round(&[0, 0, -10]),
+        sale(2, 0, 0),
+        bid(0, 0, 1, 0),
+        bid(2, 0, 5, -9),
+        close(),
+        sale(2, 0, 0),
+        finish(),
+        sale(2, 0, 0),
+    ]
+}
+
+/// Two pools sold one by one: the second sale makes A1, where ROUND is 8, CALL 12 and FINISH free.
+fn sold_whole() -> Vec<Vec<u8>> {
+    let h = Head { hedge_loss: 10, margin: 40, fund: 20, house: 5, least_bid: 9, ..head_of(2, 2) };
+    vec![
+        head(&h),
+        pool(0, 4, 1),
+        pool(1, 2, 0),
+        member(0, 7, [4, 0, 0, 0]),
+        member(1, 7, [0, 2, 0, 0]),
+        sale(1, 0, -5),
+        sale(0, 1, -10),
+        round(&[0]),
+        round(&[0, 1_000_001]),
+        round(&[0, 0]),
+        pool(0, 4, 1),
+        member(0, 7, [0; 4]),
+        bid(0, 0, 9, 0),
+        close(),
+        allocate(2, 0),
+        allocate(0, 1_000_001),
+        allocate(0, 0),
+        field(ALLOCATE, &[]),
+        tear(2, 0),
+        tear(1, 0),
+        call(),
+        pay(0, 1),
+        move_units(0),
+        miss(0, 0),
+        sale(0, 1, -10),
+        field(FINISH, &[0]),
+        finish(),
+        round(&[0, 0]),
+    ]
+}
+
+/// Units so sold have the lowest price; the MOVEs take allocated units and then those of the bid, and a MISS of the buyer tears what it was given.
+fn passed_over() -> Vec<Vec<u8>> {
+    let h = Head { margin: 100, ..head_of(3, 2) };
+    vec![
+        head(&h),
+        pool(0, 2, 0),
+        pool(1, 3, 0),
+        pool(2, 2, 0),
+        member(0, 12, [9, 0, 2, 0]),
+        member(1, 12, [0; 4]),
+        sale(0, 0, -50),
+        round(&[-50, -10, 0]),
+        bid(0, 1, 1, 0),
+        bid(1, 1, 3, -10),
+        close(),
+        miss(0, 1),
+        allocate(0, -4),
+        allocate(2, -4),
+        call(),
+        move_units(0),
+        move_units(1),
+        miss(0, 1),
+        miss(0, 1),
+        finish(),
+    ]
+}
+
+/// Only units so sold have a negative price and an owner, so that MOVE moves nothing and ends the debt.
+fn nothing_to_move() -> Vec<Vec<u8>> {
+    let h = Head { margin: 100, ..head_of(2, 1) };
+    let sold =
+        [pool(0, 2, 0), pool(1, 1, 0), member(0, 30, [0; 4]), sale(0, 0, -50), round(&[0, 0]), close(), tear(1, -60)];
+    [vec![head(&h)], sold.to_vec(), vec![call(), move_units(0), miss(0, 0), finish()]].concat()
+}
+
+/// Member 1 buys 5 units and is short in pool 1; what member 0 expects in the pool so sold does not count. The ranks are 1 2.
+fn ranked_beside_a_sale() -> Vec<Vec<u8>> {
+    let h = Head { margin: 10, house: 3, ..head_of(2, 2) };
+    let given = [pool(0, 5, 0), pool(1, 1, 0), member(0, 9, [5, 0, 0, 0]), member(1, 9, [0, 1, 0, 0])];
+    let rest = [sale(0, 1, -2), round(&[-9, -9]), close(), tear(1, -15), finish()];
+    [vec![head(&h)], given.to_vec(), rest.to_vec()].concat()
 }
 
 fn head_of(pools: u8, members: u32) -> Head {
@@ -41,7 +180,8 @@ fn head_of(pools: u8, members: u32) -> Head {
 
 /// K9: bid 255 is kept, the next is declined by 7, and the case goes on.
 fn bids_255_and_256() -> Vec<u8> {
-    let mut all = vec![head(&Head { margin: 1_000, ..head_of(1, 1) }), pool(0, 300, 0), member(0, 0, [0; 4]), round(&[-1])];
+    let mut all =
+        vec![head(&Head { margin: 1_000, ..head_of(1, 1) }), pool(0, 300, 0), member(0, 0, [0; 4]), round(&[-1])];
     all.extend((0..257).map(|_| bid(0, 0, 1, -1)));
     all.extend([close(), round(&[-1]), bid(0, 0, 1, -1), close(), finish()]);
     all.concat()
@@ -52,9 +192,14 @@ fn annexure_1() -> Vec<u8> {
     let mut all = vec![head(&Head { margin: 1_000_000, ..head_of(1, 7) }), pool(0, 160, 0)];
     all.extend([8, 16, 64, 32, 40, 0, 0].iter().zip(0..).map(|(&units, number)| member(number, 0, [units, 0, 0, 0])));
     all.push(round(&[-1125]));
-    all.extend([(0, 10, -600), (1, 16, -720), (2, 20, -730), (3, 10, -630), (4, 20, -710), (5, 5, -710)].map(|(number, units, price)| bid(0, number, units, price)));
+    all.extend(
+        [(0, 10, -600), (1, 16, -720), (2, 20, -730), (3, 10, -630), (4, 20, -710), (5, 5, -710)]
+            .map(|(number, units, price)| bid(0, number, units, price)),
+    );
     all.extend([close(), round(&[-1519])]);
-    all.extend([(2, 45, -1400), (3, 24, -1450), (4, 10, -1200)].map(|(number, units, price)| bid(0, number, units, price)));
+    all.extend(
+        [(2, 45, -1400), (3, 24, -1450), (4, 10, -1200)].map(|(number, units, price)| bid(0, number, units, price)),
+    );
     all.extend([close(), finish()]);
     all.concat()
 }
@@ -62,21 +207,29 @@ fn annexure_1() -> Vec<u8> {
 /// The pairs of tag and answer that an input gives, with the tags of calls only.
 fn pairs_of(input: &[u8]) -> BTreeSet<(u8, u8)> {
     let mut ledger = Roll::default();
-    fields(input).iter().map(|field| (field[0], ledger.call(field))).filter(|&(tag, _)| (1..=13).contains(&tag)).collect()
+    fields(input)
+        .iter()
+        .map(|field| (field[0], ledger.call(field)))
+        .filter(|&(tag, _)| (1..=SALE).contains(&tag))
+        .collect()
 }
 
-/// Short generated inputs that together give every pair that was not seen before.
+/// Short generated inputs that together give every pair of document 01's calls that was not seen before.
 fn every_pair(mut seen: BTreeSet<(u8, u8)>) -> Vec<Vec<u8>> {
     let mut kept = Vec::new();
     let mut seed = 0;
     while seen.len() < PAIRS {
         seed += 1;
         assert!(seed < 100_000, "{} pairs of {PAIRS}", seen.len());
-        let input = calls(seed, profile_of(seed)).into_iter().filter(|call| fields(call).len() == 1).collect::<Vec<_>>().concat();
+        let input = calls_of_01(seed, profile_of(seed))
+            .into_iter()
+            .filter(|call| fields(call).len() == 1)
+            .collect::<Vec<_>>()
+            .concat();
         if input.len() > 4_000 {
             continue;
         }
-        let pairs = pairs_of(&input);
+        let pairs: BTreeSet<(u8, u8)> = pairs_of(&input).into_iter().filter(|&(tag, _)| tag != SALE).collect();
         if !pairs.is_subset(&seen) {
             seen.extend(pairs);
             kept.push(input);

@@ -3,6 +3,7 @@
 //! that is cut off, name the line and the column on standard error, and end; nothing behind the bad line is told or written.
 
 use generator::{Rng, calls, profile_of};
+use model::write;
 use std::io::Write;
 use std::process::{Command, ExitCode, Output, Stdio};
 use std::thread;
@@ -21,6 +22,7 @@ fn is_call(field: &[u8]) -> bool {
         6 | 9 | 13 => &[0],
         7 | 8 | 10 | 12 => &[5],
         11 => &[1],
+        14 => &[6],
         _ => &[],
     };
     lengths.contains(&(field.len() - 3)) && usize::from(u16::from_be_bytes([field[1], field[2]])) == field.len() - 3
@@ -136,6 +138,25 @@ fn main() -> ExitCode {
         (1, 32, comma.into(), b"HEAD pools 1 least 1 members 0 ,1 hedge 0.00\n".to_vec()),
         (1, 46, comma.into(), b"MEMBER member 0 contribution 1.00 expected 4 0\n".to_vec()),
         (1, 32, "expected members by commas, as in 0,1,2".into(), b"HEAD pools 1 least 1 members 0,,1\n".to_vec()),
+        // a sale by agreement
+        (1, 28, price.into(), b"SALE pool 0 member 1 price -12\n".to_vec()),
+        (1, 13, "expected the key member".into(), b"SALE pool 0 price -12.00\n".to_vec()),
+        (1, 13, "expected the key member".into(), b"SALE pool 0 units 5 member 1 price -12.00\n".to_vec()),
+        (1, 6, "expected the key pool".into(), b"SALE member 1 pool 0 price -12.00\n".to_vec()),
+        (1, 22, "expected the key price".into(), b"SALE pool 0 member 1 units 5 price -12.00\n".to_vec()),
+        (1, 11, "the number is too large, at most 255".into(), b"SALE pool 256 member 1 price -12.00\n".to_vec()),
+        (1, 11, "expected a whole number".into(), b"SALE pool first member 1 price -12.00\n".to_vec()),
+        (1, 28, format!("{price}; the minus sign is -"), "SALE pool 0 member 1 price −12.00\n".into()),
+        (1, 35, complete.into(), b"SALE pool 0 member 1 price -12.00 5\n".to_vec()),
+        (1, 12, format!("{ends}; expected the key member"), b"SALE pool 0\n".to_vec()),
+        (1, 27, format!("{ends}; {price}"), b"SALE pool 0 member 1 price\n".to_vec()),
+        (1, 1, unnamed.into(), b"SALES pool 0 member 1 price -12.00\n".to_vec()),
+        (
+            2,
+            21,
+            format!("{ends}; expected the key price"),
+            b"SALE pool 0 member 1 price -12.00\nSALE pool 1 member 1\nFINISH\n".to_vec(),
+        ),
         // the line's end
         (1, 34, format!("{ends}; {price}"), b"BID pool 0 member 1 units 5 price\n".to_vec()),
         (1, 20, format!("{ends}; expected the key units"), b"BID pool 0 member 1\n".to_vec()),
@@ -164,11 +185,11 @@ fn main() -> ExitCode {
         println!("{message}");
     }
     // a space or a tab may stand behind a comma, between words and at a line's ends
-    let spaced = b"\tHEAD  pools 1 least 1 members 0, 1,\t2 hedge 0.00 other 0.00 margin 0.20 fund 0.10 house 0.50 \r\nmember member 0 contribution 1.00 expected 4, 0,0,  0 # all\r\nround reserves -0.30, -0.20";
-    let plain = b"HEAD pools 1 least 1 members 0,1,2 hedge 0.00 other 0.00 margin 0.20 fund 0.10 house 0.50\nMEMBER member 0 contribution 1.00 expected 4,0,0,0\nROUND reserves -0.30,-0.20\n";
+    let spaced = b"\tHEAD  pools 1 least 1 members 0, 1,\t2 hedge 0.00 other 0.00 margin 0.20 fund 0.10 house 0.50 \r\nmember member 0 contribution 1.00 expected 4, 0,0,  0 # all\r\n sale\tpool 0 Member  1 price -12.00\t\nround reserves -0.30, -0.20";
+    let plain = b"HEAD pools 1 least 1 members 0,1,2 hedge 0.00 other 0.00 margin 0.20 fund 0.10 house 0.50\nMEMBER member 0 contribution 1.00 expected 4,0,0,0\nSALE pool 0 member 1 price -12.00\nROUND reserves -0.30,-0.20\n";
     let spaced = run(program, None, spaced.to_vec());
     let plain = run(program, None, plain.to_vec());
-    if spaced.stdout.len() != 57 || spaced.stdout != plain.stdout || !spaced.stderr.is_empty() {
+    if spaced.stdout.len() != 66 || spaced.stdout != plain.stdout || !spaced.stderr.is_empty() {
         println!(
             "FAILED: spaces: {} bytes on standard output, message {:?}",
             spaced.stdout.len(),
@@ -177,6 +198,12 @@ fn main() -> ExitCode {
         return ExitCode::FAILURE;
     }
     println!("spaces and tabs behind commas and between words are taken in all lists");
+    let written = run(program, Some("--text"), write::sale(0, 1, -1200)).stdout;
+    if written != b"SALE pool 0 member 1 price -12.00\n" {
+        println!("FAILED: a SALE in words: {:?}", String::from_utf8_lossy(&written));
+        return ExitCode::FAILURE;
+    }
+    println!("a SALE is written with pool, member and price");
     // a comment of 32 bytes to a line ends without a bare '#'
     for (length, lines) in [(29, 1), (30, 2), (61, 2), (62, 3)] {
         let mut field = vec![77, 0, length];

@@ -1,9 +1,11 @@
 //! `calls [N [SEED]]`: the proved ledger against the roll's model, call by call, on N generated lists (2,000) from consecutive seeds, among
 //! them byte strings that are not one field; then the same lists at once, cut by ends that are out of order, and whole inputs with their text.
+//! Over 1,000 lists or more it fails where an answer of SALE or a situation after one never came.
 use generator::{calls, input, profile_of};
 use linked::Random;
 use linked::ledger::{self, Proved};
-use model::{Ledger, Roll, field, write};
+use model::{Ledger, Roll, Stage, field, write};
+use std::process::ExitCode;
 
 /// Changes to what a list can hold: strings that are no field, cut off, doubled, with a byte changed, or of a wrong length.
 fn odd_strings(r: &mut Random, list: Vec<Vec<u8>>) -> Vec<Vec<u8>> {
@@ -45,7 +47,7 @@ fn odd_string(r: &mut Random, call: &[u8]) -> Vec<u8> {
 
 /// Whether a call of this tag can change what members hold.
 fn moves_units(tag: u8) -> bool {
-    matches!(tag, write::CLOSE | write::ALLOCATE | write::TEAR | write::MOVE | write::MISS)
+    matches!(tag, write::CLOSE | write::ALLOCATE | write::TEAR | write::MOVE | write::MISS | write::SALE)
 }
 
 /// All but the holdings.
@@ -95,6 +97,52 @@ struct Tally {
     holdings: u64,
     finished: u64,
     answers: [u64; 32],
+    /// Answers to SALE.
+    sales: [u64; 32],
+    /// Calls in A1 where no round was opened, those answered by 8 (ROUND) and 12 (CALL), and cases finished there.
+    without_round: u64,
+    rounds_declined: u64,
+    calls_declined: u64,
+    finished_without_round: u64,
+    /// Accepted MOVEs and MISSes where units sold by agreement are held.
+    moves_beside_sales: u64,
+    misses_beside_sales: u64,
+}
+
+impl Tally {
+    /// Counts what a call is an example of, by the stage before it and by whether a round was opened and a pool sold by agreement.
+    fn count(&mut self, tag: Option<u8>, answer: u8, before: Option<Stage>, had_round: bool, had_sale: bool) {
+        self.calls += 1;
+        self.answers[usize::from(answer)] += 1;
+        if tag == Some(write::SALE) {
+            self.sales[usize::from(answer)] += 1;
+        }
+        if before == Some(Stage::After(1)) && !had_round {
+            self.without_round += 1;
+            self.rounds_declined += u64::from((tag, answer) == (Some(write::ROUND), 8));
+            self.calls_declined += u64::from((tag, answer) == (Some(write::CALL), 12));
+            self.finished_without_round += u64::from((tag, answer) == (Some(write::FINISH), 0));
+        }
+        self.moves_beside_sales += u64::from(had_sale && (tag, answer) == (Some(write::MOVE), 0));
+        self.misses_beside_sales += u64::from(had_sale && (tag, answer) == (Some(write::MISS), 0));
+    }
+
+    /// What has to occur in 1,000 lists.
+    fn occurred(&self) -> Vec<(String, u64)> {
+        let answers = [0, 1, 2, 3, 4, 5, 8, 10, 17].map(|answer| (format!("SALE {answer}"), self.sales[answer]));
+        let mut all = answers.to_vec();
+        for (what, count) in [
+            ("calls in A1 without a round", self.without_round),
+            ("ROUND 8 there", self.rounds_declined),
+            ("CALL 12 there", self.calls_declined),
+            ("FINISH there", self.finished_without_round),
+            ("MOVE beside units sold by agreement", self.moves_beside_sales),
+            ("MISS beside units sold by agreement", self.misses_beside_sales),
+        ] {
+            all.push((what.to_string(), count));
+        }
+        all
+    }
 }
 
 /// One list, call by call, then at once.
@@ -102,17 +150,19 @@ fn compare_list(seed: u64, list: &[Vec<u8>], tally: &mut Tally) {
     let (mut proved, mut roll) = (Proved::default(), Roll::default());
     let mut members = Vec::new();
     let mut answers = Vec::new();
+    let (mut had_round, mut had_sale) = (false, false);
     for (k, call) in list.iter().enumerate() {
         let at = format!("after call {k} of seed {seed}: {call:02x?}");
         let before = roll.stage();
         let answer = roll.call(call);
         assert_eq!(proved.call(call), answer, "answer {at}");
         answers.push(answer);
-        tally.calls += 1;
-        tally.answers[usize::from(answer)] += 1;
+        tally.count(call.first().copied(), answer, before, had_round, had_sale);
         if answer != 0 {
             continue;
         }
+        had_round |= call[0] == write::ROUND;
+        had_sale |= call[0] == write::SALE;
         tally.accepted += 1;
         if before.is_none() {
             members = members_of(call);
@@ -221,7 +271,7 @@ fn compare_text(seed: u64, bytes: &[u8]) {
     assert!(!ledger::print(bytes, &mut short).whole && short.iter().all(|b| *b == 0xee), "a short buffer, input of seed {seed}");
 }
 
-fn main() {
+fn main() -> ExitCode {
     let mut given = std::env::args().skip(1).map(|a| a.parse().expect("a number"));
     let n: u64 = given.next().unwrap_or(2_000);
     let first: u64 = given.next().unwrap_or(1);
@@ -239,4 +289,14 @@ fn main() {
     );
     let by_answer: Vec<String> = tally.answers.iter().enumerate().filter(|a| *a.1 > 0).map(|a| format!("{}: {}", a.0, a.1)).collect();
     println!("by answer: {}", by_answer.join(", "));
+    let occurred = tally.occurred();
+    let words: Vec<String> = occurred.iter().map(|(what, count)| format!("{what}: {count}")).collect();
+    println!("{}", words.join(", "));
+    match occurred.iter().find(|(_, count)| n >= 1_000 && *count == 0) {
+        Some((what, _)) => {
+            println!("never came: {what}");
+            ExitCode::FAILURE
+        }
+        None => ExitCode::SUCCESS,
+    }
 }

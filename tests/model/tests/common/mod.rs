@@ -1,6 +1,6 @@
 //! What the tests share: feeding both ledgers one list of calls.
 
-use model::write::Head;
+use model::write::{Head, head, member, pool};
 use model::{Counts, Ledger, Roll};
 
 /// Runs the test over the roll and over the counts.
@@ -37,4 +37,26 @@ pub fn head_of(pools: u8, members: u32) -> Head {
 #[allow(dead_code)]
 pub fn lines(text: Vec<u8>) -> String {
     String::from_utf8(text).unwrap()
+}
+
+#[allow(dead_code)]
+pub const NONE: [u16; 4] = [0; 4];
+
+/// HEAD and some pools (units, mark); members 0 and up with contribution and expected units follow.
+#[allow(dead_code)]
+pub fn setup(h: &Head, pools: &[(u16, u8)], members: &[(u32, [u16; 4])]) -> Vec<Vec<u8>> {
+    let mut calls = vec![head(h)];
+    for (number, &(units, mark)) in pools.iter().enumerate() {
+        calls.push(pool(number as u8, units, mark));
+    }
+    for (number, &(contribution, expected)) in members.iter().enumerate() {
+        calls.push(member(number as u8, contribution, expected));
+    }
+    calls
+}
+
+#[allow(dead_code)]
+pub fn ranks(ledger: &dyn Ledger) -> Vec<u64> {
+    let members = ledger.result().unwrap().members;
+    members.iter().map(|m| m.rank).collect()
 }
