@@ -1,12 +1,12 @@
 -- THE CLAIM of document 01 about the ledger (specs/Claim.antt), whole. Assumes nothing.
-use mathlib.Core.Path.{_≡_, refl, ap, _∙_}
+use mathlib.Core.Path.{_≡_, refl, sym, ap, _∙_}
 use mathlib.Core.Bool.{Bool, true, false}
 use mathlib.Core.List.{List, []}
 use mathlib.Core.Option.{Option, none, some}
 use Prim.Native.Nat.{ℕ, _<_}
 use lib.Dec.{eqb}
 use lib.ListN.{length, getD}
-use borrow.Author.Tests.{eqb-true, ne-eqb}
+use borrow.Author.Tests.{lt-ltb, eqb-true, ne-eqb}
 use Rattle.lists.specs.Lists.{if_then_else_, sum}
 use Rattle.lists.proofs.Places.{getD-tab}
 use Rattle.machine.specs.Wire.{Call, HEAD}
@@ -17,12 +17,14 @@ use Rattle.machine.specs.Run.{Observed, observed, fiveCounts, resultOf, runFrom
 use Rattle.machine.proofs.Claims as C
 use Rattle.machine.proofs.Finish as F
 use Rattle.wire.specs.Asked.{headOf}
+use Rattle.units.specs.Shown.{agreedOf}
+use Rattle.units.proofs.Shown as U
 use Rattle.case.specs.declared.Held.{Held}
 use Rattle.case.specs.declared.Case.{Case}
 use Rattle.case.specs.Cases.{applied, noHeld, caseAnswerTo, answerTo, firstAnswerTo, firstAnswer, afterAsked, caseAfter, takeAsked, headOutcome, outcomeOf}
 use Rattle.case.specs.Readings.{seen}
 use Rattle.case.specs.Input.{ledgerAfter}
-use Rattle.case.specs.Claim.{AnswersFirst, OneOfFive, MethodsAgree, HeadAgrees, Covers, Finished, Claim}
+use Rattle.case.specs.Claim.{AnswersFirst, OneOfFive, MethodsAgree, HeadAgrees, KeepsSales, Covers, Finished, Claim}
 use Rattle.case.proofs.Claim.{Holds, taken, takes, none-tied, seen-observed, agrees, ledger-tied, ledger-shows}
 use Rattle.case.proofs.Finishes.{after-finish}
 
@@ -89,6 +91,20 @@ head-agrees h small =
     seen-observed (takeAsked noHeld a .answer) (takeAsked noHeld a .held) (answered none a .state) (k .tied)
     ∙ ap (λ (n : ℕ). observed n (answered none a .state)) (k .answer)
 
+-- ---- units sold by agreement
+
+keeps-sales : KeepsSales
+unfolding agreedOf
+keeps-sales calls each c is pool l =
+    let h = ledgerAfter noHeld calls in
+    let t : Holds h c = rw is at (ledger-tied calls each) in
+    let kept = t .sound .units .kept in
+    let u = h .case .book .units in
+    record {
+      units = rw (lt-ltb pool 4 l) (sym (U.agreed-count u _ _ kept pool l));
+      entries = U.agreed-entries u _ _ kept pool l;
+    }
+
 -- ---- a finished case
 
 -- a layer that is spent is charged its limit
@@ -130,6 +146,7 @@ claim =
       one-of-five = one-of-five;
       methods = methods-agree;
       head = head-agrees;
+      sales = keeps-sales;
       finishes = after-finish;
       finished = finished;
     }

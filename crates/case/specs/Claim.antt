@@ -1,23 +1,25 @@
--- THE CLAIM of document 01 about the ledger, over every list of calls: "the ledger's answers, counts, members' holdings and sum of prices after
+-- THE CLAIM of document 01 about the ledger, over every list of calls, those of document 02 among them: "the ledger's answers, counts, members' holdings and sum of prices after
 -- each call are those of the roll's machine", and after FINISH the loss, the charges and the ranks. All of it is one record, `Claim`, at the end
 -- of this file; it is proved in proofs/Claims.antt (`claim`).
 --
 -- How it is tied to the code: the function `apply` takes what is held and any bytes, and its contract is `r ≡ applied held bytes`, with no
 -- `requires`. So whoever starts with `Held::none` and calls `apply` in turn gets what `ledgerFrom` iterates. The function `run` does so over
--- the fields of a whole input, and its contract says it for the code itself. The contracts of the thirteen methods are `r ≡ outcomeOf self call`,
+-- the fields of a whole input, and its contract says it for the code itself. The contracts of the methods are `r ≡ outcomeOf self call`,
 -- and of HEAD `r ≡ headOutcome head`. Prices are cents + 1,000,000 throughout.
 use mathlib.Core.Path.{_≡_}
-use mathlib.Core.Bool.{true}
+use mathlib.Core.Bool.{Bool, true, _&&_}
 use mathlib.Core.List.{List, [], _∷_, map}
 use mathlib.Core.Option.{none, some}
 use Prim.Native.Nat.{ℕ, _+_, _≤_, _<_, _^_}
+use lib.Dec.{eqb}
 use lib.IntN.{pos, _-ℤ_}
 use lib.ListN.{length, getD}
-use Rattle.lists.specs.Lists.{sum, Each, Bytes}
+use Rattle.lists.specs.Lists.{sum, count, Each, Bytes}
 use Rattle.lists.specs.Tests.{Passed, First}
 use Rattle.sets.specs.Set.{member, members}
 use Rattle.auction.specs.Price.{atLeast0}
 use Rattle.machine.specs.Wire.{Call, HEAD, POOL, MEMBER, ROUND, BID, CLOSE, ALLOCATE, TEAR, CALL, PAY, MOVE, MISS, FINISH, SALE, decode}
+use Rattle.machine.specs.Roll.{Entry, Agreed, isAgreed}
 use Rattle.machine.specs.State as M
 use Rattle.machine.specs.Requirement.{requirement}
 use Rattle.machine.specs.Refusals.{tests}
@@ -26,6 +28,8 @@ use Rattle.machine.specs.Result.{limits}
 use Rattle.machine.specs.Run.{Result, Observed, observed, run, runFrom}
 use Rattle.wire.specs.declared.Head.{Head}
 use Rattle.wire.specs.Asked.{headOf}
+use Rattle.units.specs.declared.Units.{Units}
+use Rattle.units.specs.Shown.{agreedOf}
 use Rattle.book.specs.declared.Book.{Book}
 use Rattle.book.specs.Results.{limitsIn, resultIn}
 use Rattle.case.specs.declared.Case.{Case}
@@ -105,6 +109,23 @@ HeadAgrees =
     let a = answered none (some (HEAD (headOf h))) in
     seen (o .answer) (o .held) ≡ observed (a .answer) (a .state)
 
+-- ---- document 02, C-12: units sold by agreement
+
+-- an entry of a pool sold by agreement
+abbrev pub agreedIn : ℕ → Entry → Bool
+agreedIn pool e = isAgreed (e .state) && eqb (e .pool) pool
+
+-- what the case keeps of a pool, how many of its units were sold by agreement, to whom and at what price, is what the roll has
+pub record KeepsSale (u : Units) (roll : List Entry) (pool : ℕ) : Type 0 where
+  pub units : agreedOf u pool ≡ count (agreedIn pool) roll
+  pub entries : Each (λ e. agreedIn pool e ≡ true → e .state ≡ Agreed (getD (u .buyers) pool 0) (getD (u .noted) (260 + pool) 0)) roll
+
+-- so it is after every list of calls
+abbrev pub KeepsSales : Type 0
+KeepsSales =
+    (calls : List (List ℕ)) → Each Bytes calls → (c : M.Case) → runFrom none calls ≡ some c → (pool : ℕ) → pool < 4
+    → KeepsSale (ledgerAfter noHeld calls .case .book .units) (c .roll) pool
+
 -- ---- after an accepted FINISH
 
 -- what a layer is charged, and its limit; the layers are counted from 0
@@ -178,5 +199,6 @@ pub record Claim : Type 0 where
   pub one-of-five : OneOfFive
   pub methods : MethodsAgree
   pub head : HeadAgrees
+  pub sales : KeepsSales
   pub finishes : Finishes
   pub finished : Finished

@@ -1,6 +1,6 @@
 -- What is read of the units is what the roll shows. Assumes nothing.
 use mathlib.Core.Path.{_≡_, refl, sym, ap, _∙_}
-use mathlib.Core.Bool.{Bool, true, false, _&&_, and-true, and-false, and-comm, false≢true}
+use mathlib.Core.Bool.{Bool, true, false, _&&_, _||_, not, and-true, and-false, and-comm, or-true, false≢true}
 use mathlib.Core.List.{List, [], _∷_}
 use Prim.Native.Nat.{ℕ, zero, suc, _+_, _*_, _%_, _<_}
 use native.Mathlib.Nat.{mul-zero, mul-one}
@@ -9,18 +9,19 @@ use lib.Dec.{ltb, eqb}
 use lib.ListN.{length, getD}
 use borrow.Author.Tests.{lt-ltb, eqb-true, eqb-false, eq-eqb, ne-eqb}
 use Rattle.lists.specs.Lists.{if_then_else_, sum, sumTo, oneIf, count, keep, tab}
-use Rattle.lists.proofs.Bools.{cases, eqb-same, same-choice}
+use Rattle.lists.proofs.Bools.{cases, eqb-same, same-choice, and-left, and-right}
 use Rattle.lists.proofs.Sums.{sumTo-ext, sumTo-zero}
 use Rattle.lists.proofs.Counts.{any-count}
 use Rattle.lists.proofs.Keep.{sumTo-one}
-use Rattle.lists.proofs.Each.{Each}
+use Rattle.lists.proofs.Each.{Each, each-more}
 use Rattle.auction.specs.Price.{zeroPrice}
 use Rattle.machine.specs.Roll.{UnitState, Open, Sold, Allocated, Moved, Torn, Agreed, Entry, Bid, noBid, kind, isOpen, priceOf, heldBy, passedTo, isAgreed, anyOpen, prices, soldByAgreement}
 use Rattle.machine.specs.Run.{fiveCounts, holding}
 use Rattle.units.specs.declared.Units.{Units}
 use Rattle.units.specs.Places.{allocatedAt, soldAt, movedAt, agreedAt, unitAt, over}
 use Rattle.units.specs.Shown.{column, soldIn, kindOf, countOf, soldFor, holdingOf, passedOf, zeroPrices, pricesOf}
-use Rattle.units.proofs.Places.{unit-open, unit-allocated, unit-sold, unit-moved, unit-torn, unit-agreed, weigh-parts, sum-rows}
+use Rattle.units.proofs.Places.{unit-open, unit-allocated, unit-sold, unit-moved, unit-torn, unit-agreed, by-place, weigh-parts, sum-rows}
+use Rattle.units.proofs.Weighing.{each-entry}
 use Rattle.units.proofs.Over.{count-over}
 use Rattle.units.proofs.Tied.{inPool, priceIn, in-it, not-in-it}
 use Rattle.units.proofs.Kept.{Kept}
@@ -233,16 +234,14 @@ module _ (u : Units) (bids : List Bid) (roll : List Entry) (kept : Kept u bids r
 
   -- ---- sold by agreement
 
-  pub agreed-shown : (pool : ℕ) → pool < 4 → soldByAgreement roll pool ≡ ltb 0 (c (agreedAt pool))
-  unfolding soldByAgreement isAgreed
-  agreed-shown pool l =
-      any-count (λ e. isAgreed (e .state) && eqb (e .pool) pool) roll ∙ ap (ltb 0) here
-    where
-      one : sumTo 4 (λ p. if eqb p pool then c (agreedAt p) else 0) ≡ c (agreedAt pool)
-      one = sum-one 4 pool (λ p. if eqb p pool then c (agreedAt p) else 0) l (λ p lp no. rw (ne-eqb p pool no)) ∙ rw (eq-eqb pool pool refl)
+  abbrev agreedIn : ℕ → Entry → Bool
+  agreedIn pool e = isAgreed (e .state) && eqb (e .pool) pool
 
-      here : count (λ e. isAgreed (e .state) && eqb (e .pool) pool) roll ≡ c (agreedAt pool)
-      here = by-parts (λ e. isAgreed (e .state) && eqb (e .pool) pool) ∙ omega (
+  pub agreed-count : (pool : ℕ) → pool < 4 → count (agreedIn pool) roll ≡ c (agreedAt pool)
+  unfolding isAgreed
+  agreed-count pool l =
+      by-parts (agreedIn pool)
+      ∙ omega (
         arith,
         sum-nothing 4 (λ p. if false then c p else 0) (λ p l. refl),
         sum-nothing 32 (λ m. sumTo 4 (λ p. if false then c (allocatedAt p m) else 0)) (λ m l. sum-nothing 4 _ (λ p lp. refl)),
@@ -251,6 +250,64 @@ module _ (u : Units) (bids : List Bid) (roll : List Entry) (kept : Kept u bids r
         sum-nothing 260 (λ i. if false then c (516 + i) else 0) (λ i l. refl),
         one,
       )
+    where
+      one : sumTo 4 (λ p. if eqb p pool then c (agreedAt p) else 0) ≡ c (agreedAt pool)
+      one = sum-one 4 pool (λ p. if eqb p pool then c (agreedAt p) else 0) l (λ p lp no. rw (ne-eqb p pool no)) ∙ rw (eq-eqb pool pool refl)
+
+  pub agreed-shown : (pool : ℕ) → pool < 4 → soldByAgreement roll pool ≡ ltb 0 (c (agreedAt pool))
+  unfolding soldByAgreement
+  agreed-shown pool l = any-count (agreedIn pool) roll ∙ ap (ltb 0) (agreed-count pool l)
+
+  -- all of a pool's units sold by agreement have one buyer and one price
+  module _ (pool : ℕ) (l : pool < 4) where
+    abbrev label : UnitState
+    label = Agreed (getD (u .buyers) pool 0) (getD (u .noted) (260 + pool) 0)
+
+    -- whether an entry, if it is sold by agreement in the pool, has them
+    abbrev labelled : UnitState → Bool
+    labelled Open = true
+    labelled (Sold bid) = true
+    labelled (Allocated m price) = true
+    labelled (Moved m) = true
+    labelled (Torn price) = true
+    labelled (Agreed m price) = eqb m (getD (u .buyers) pool 0) && eqb price (getD (u .noted) (260 + pool) 0)
+
+    abbrev fine : Entry → Bool
+    fine e = not (eqb (e .pool) pool) || labelled (e .state)
+
+    each-fine : (k : ℕ) → k < 780 → fine (unitAt (u .allocation) (u .noted) (u .buyers) bids k) ≡ true
+    each-fine =
+        let a = u .allocation in
+        let r = u .noted in
+        let y = u .buyers in
+        by-place (λ k. fine (unitAt a r y bids k) ≡ true)
+        (λ p lp. rw (unit-open a r y bids p lp) (or-true (not (eqb p pool))))
+        (λ p m lp lm. rw (unit-allocated a r y bids p m lp lm) (or-true (not (eqb p pool))))
+        (λ b lb. rw (unit-sold a r y bids b lb) (or-true (not (eqb (getD bids b noBid .pool) pool))))
+        (λ p m lp lm. rw (unit-moved a r y bids p m lp lm) (or-true (not (eqb p pool))))
+        (λ i li. rw (unit-torn a r y bids i li) (or-true (not (eqb (i % 4) pool))))
+        (λ p lp. rw (unit-agreed a r y bids p lp) (own p))
+      where
+        own : (p : ℕ) → (not (eqb p pool) || (eqb (getD (u .buyers) p 0) (getD (u .buyers) pool 0) && eqb (getD (u .noted) (260 + p) 0) (getD (u .noted) (260 + pool) 0))) ≡ true
+        own p = cases (eqb p pool) _
+            (λ t. let e = eqb-true p pool t in rw (t, e, eq-eqb (getD (u .buyers) pool 0) (getD (u .buyers) pool 0) refl, eq-eqb (getD (u .noted) (260 + pool) 0) (getD (u .noted) (260 + pool) 0) refl))
+            (λ t. rw t)
+
+    fine-is : (p : ℕ) (s : UnitState) → (not (eqb p pool) || labelled s) ≡ true → (isAgreed s && eqb p pool) ≡ true → s ≡ label
+    unfolding isAgreed
+    fine-is p Open f a = absurd (false≢true a)
+    fine-is p (Sold bid) f a = absurd (false≢true a)
+    fine-is p (Allocated m price) f a = absurd (false≢true a)
+    fine-is p (Moved m) f a = absurd (false≢true a)
+    fine-is p (Torn price) f a = absurd (false≢true a)
+    fine-is p (Agreed m price) f a =
+        let both : (eqb m (getD (u .buyers) pool 0) && eqb price (getD (u .noted) (260 + pool) 0)) ≡ true = rw a at f in
+        cc (eqb-true m _ (and-left _ _ both), eqb-true price _ (and-right (eqb m (getD (u .buyers) pool 0)) _ both))
+
+    pub agreed-entries : Each (λ e. agreedIn pool e ≡ true → e .state ≡ label) roll
+    agreed-entries =
+        each-more _ _ (λ e f a. fine-is (e .pool) (e .state) f a) roll
+        (each-entry (u .counts) (unitAt (u .allocation) (u .noted) (u .buyers) bids) roll (kept .tied .counted) fine (λ k lk some. each-fine k lk))
 
   pub any-open-shown : anyOpen roll ≡ ltb 0 (sumTo 4 c)
   unfolding anyOpen
