@@ -36,9 +36,9 @@ enum { LEDGER_NO_CASE = 0, LEDGER_S = 1, LEDGER_B = 2, LEDGER_A = 3, LEDGER_C = 
 struct ledger_shown {
     bool present;                           /* whether there is a case */
     uint8_t stage;                          /* one of the stages above */
-    uint8_t round;                          /* 1 or 2 in stages B and A, else 0 */
+    uint8_t round;                          /* 1 or 2 in stages B and A (1 in the A that a SALE made without a round), else 0 */
     uint8_t pools;                          /* how many POOLs were accepted */
-    uint64_t counts[LEDGER_POOLS * LEDGER_KINDS]; /* open, sold, allocated, moved, torn of pool 0, then of pools 1 to 3 */
+    uint64_t counts[LEDGER_POOLS * LEDGER_KINDS]; /* open, sold (by bid or by agreement), allocated, moved, torn of pool 0, then of pools 1 to 3 */
     int64_t prices;                         /* the sum of the prices of the units not open, in cents */
     uint64_t requirement;
     uint64_t prefunded;
