@@ -273,9 +273,48 @@ text = [b'HEAD pools 1 least 1 members 0 hedge 0.00 other 0.00 margin 0.00 fund 
         b'MEMBER member 0 contribution 0.00 expected 0,0,0,0', b'ROUND reserves 0.00'] + [b'BID pool 0 member 0 units 1 price 0.00'] * 257
 r = run(['bin/run'], b'\n'.join(text))
 tell('bin/run, a bid too many', r.returncode == 0 and r.stdout.count(b'refused') == 1 and b'refused 7: no more bids are kept (bids kept 256); stage B' in r.stdout, r)
-r = run(['bin/explain'], bytes([99, 0, 1, 5, 5, 0, 0]))
+r = run(['bin/explain'], bytes([99, 0, 1, 5, 5, 0, 0, 14, 0, 5, 0, 0, 0, 0, 0]))
 reason = b'    refused 1: not a call: unknown tag or wrong length; no case\n'
-tell('bin/explain, fields that are no calls', r.stdout == b'tag 99, bytes 1\n' + reason + b'tag 5, bytes 0\n' + reason + b'no case\n', r)
+tell('bin/explain, fields that are no calls', r.stdout == b'tag 99, bytes 1\n' + reason + b'tag 5, bytes 0\n' + reason + b'tag 14, bytes 5\n' + reason + b'no case\n', r)
+
+# ---- a pool sold by agreement, where the case is not finished: the tables of no example
+
+text = open('examples/agreed.txt', 'rb').read().splitlines()
+r = run(['bin/run'], b'\n'.join(text[:text.index(b'CLOSE')]))
+end = r.stdout[r.stdout.find(b'\nPools'):]
+tell('bin/run, a pool sold by agreement before CLOSE', end == b'''
+Pools, in units
+   pool     units      open      sold  allocated     moved      torn
+      0        10        10         0          0         0         0
+      1         2         0         2          0         0         0
+  total        12        10         2          0         0         0
+
+Sold by agreement, counted as sold above
+   pool     units  member          price         amount
+      1         2       2        -100.00        -200.00
+  total         2                               -200.00
+
+Loss
+  hedge loss                                60.00
+  other loss                                20.00
+  less prices of units not open           -200.00
+  requirement, at least 0                  280.00
+  nothing is charged before FINISH
+
+Members, 3
+  member     won  expected   excess   contribution         called           paid           owes
+       0       0         4       -4         150.00           0.00           0.00           0.00
+       1       0         4       -4         100.00           0.00           0.00           0.00
+       2       0         2       -2          50.00           0.00           0.00           0.00
+  expected leaves out pools sold by agreement (pools 1; units 2)
+
+Units held, by pool and price
+  member    pool          price     units         amount
+       2       1        -100.00         2        -200.00
+  held                                  2        -200.00
+  torn                                  0           0.00
+  total, units not open                 2        -200.00
+''', end)
 
 # ---- what docs/USING.md quotes is what the example prints
 
@@ -283,6 +322,11 @@ printed = open('examples/one-default.out').read().splitlines()
 blocks = open('docs/USING.md').read().split('```')[1::2]
 quoted = [line for block in blocks for line in block.splitlines() if line]
 tell('docs/USING.md quotes examples/one-default.out', len(quoted) > 80 and all(line in printed for line in quoted), [line for line in quoted if line not in printed])
+
+sold = open('docs/USING.md').read().split('\n## 2. A small pool sold first\n')[1].split('\n## ')[0]
+printed = [line for name in ('agreed', 'sales') for line in open('examples/%s.out' % name).read().splitlines()]
+quoted = [line[4:] for line in sold.splitlines() if line.startswith('    ')]
+tell('docs/USING.md quotes the examples with SALE', len(quoted) > 20 and all(line in printed for line in quoted), [line for line in quoted if line not in printed])
 
 # ---- the scripts, with an `rt` that says what they are told
 

@@ -2,6 +2,7 @@
 use crate::texts;
 use crate::texts::Line;
 use crate::texts::fill;
+use crate::texts::minus;
 use crate::texts::one;
 use crate::texts::plain;
 use crate::texts::two;
@@ -9,6 +10,7 @@ use book::Book;
 use book::Stage;
 use case::Case;
 use forms::Tagged;
+use units::Units;
 use wire::Call;
 
 // The tags of calls that have reasons of their own.
@@ -19,6 +21,8 @@ const MEMBER: u8 = 3;
 const ROUND: u8 = 4;
 
 const PAY: u8 = 10;
+
+const SALE: u8 = 14;
 
 // ---- the call
 
@@ -70,6 +74,9 @@ fn reason(tag: u8, given: bool, answer: u8) -> usize {
     if lists::both(tag == PAY, answer == 14) {
         return texts::MORE_THAN_OWED;
     }
+    if lists::both(tag == SALE, answer == 10) {
+        return texts::NOT_ALL_GIVEN;
+    }
     texts::REASON + lists::place(answer)
 }
 
@@ -104,7 +111,7 @@ fn pool_fault(tag: u8, pool: u8) -> Line {
 
 // 10: the pools and members given, or the total shortfall of the pool.
 fn short_fault(book: Book, tag: u8, pool: u8) -> Line {
-    if tag == ROUND {
+    if lists::either(tag == ROUND, tag == SALE) {
         let head = book.head;
         let pools = book.pools;
         let members = book.members;
@@ -177,8 +184,24 @@ fn owed_fault(book: Book, m: u8) -> Line {
     one(texts::OWED_FAULT, members.owes(m))
 }
 
-// The value at fault for the answers from 10 on.
-fn late_fault(book: Book, tag: u8, first: u8, answer: u8) -> Line {
+// 17: the losses less the prices of the units sold by agreement, this pool's included, and margin and fund. In setup no other units have left.
+fn dear_fault(book: Book, pool: u8, price: u32) -> Line {
+    let head = book.head;
+    let losses = head.hedge as u64 + head.other as u64;
+    let before = minus(book.prices(), Units::ZERO_PRICES);
+    let more = texts::amount_of(book.open_units(pool) as u64, price);
+    let sold = std::num::wrapping_add_u64(before, more);
+    texts::four(
+        texts::DEAR_FAULT,
+        losses,
+        sold,
+        minus(losses, sold),
+        head.margin as u64 + head.fund as u64,
+    )
+}
+
+// The value at fault for the answers from 10 on; `price` is that of a SALE.
+fn late_fault(book: Book, tag: u8, first: u8, price: u32, answer: u8) -> Line {
     match answer {
         10 => short_fault(book, tag, first),
         11 => one(texts::OPEN_FAULT, all_open(book)),
@@ -186,24 +209,31 @@ fn late_fault(book: Book, tag: u8, first: u8, answer: u8) -> Line {
         13 => cover_fault(book),
         14 => owed_fault(book, first),
         15 => owing_fault(book),
-        _ => one(texts::MEMBER_FAULT, first as u64),
+        16 => one(texts::MEMBER_FAULT, first as u64),
+        _ => dear_fault(book, first, price),
     }
 }
 
 // The value at fault.
-fn fault(present: bool, book: Book, tag: u8, first: u8, answer: u8) -> Line {
+fn fault(present: bool, book: Book, tag: u8, first: u8, price: u32, answer: u8) -> Line {
     if answer < 10 {
         return early_fault(present, book, tag, first, answer);
     }
-    late_fault(book, tag, first, answer)
+    late_fault(book, tag, first, price, answer)
 }
 
 // ---- the stage
 
-// The letter of a stage and its round.
-fn stage_line(stage: Stage) -> Line {
-    let letter = lists::place(book::letter(stage));
-    one(texts::STAGE + letter, book::round_of(stage) as u64)
+// The letter of a stage and its round; `held` is the number of rounds that were held.
+fn stage_line(stage: Stage, held: u8) -> Line {
+    let letter = book::letter(stage);
+    if lists::both(letter == 3, held == 0) {
+        return plain(texts::NO_ROUND);
+    }
+    one(
+        texts::STAGE + lists::place(letter),
+        book::round_of(stage) as u64,
+    )
 }
 
 // The open units of the pools given, and their sum where there are several.
@@ -230,8 +260,9 @@ pub fn write_state(present: bool, case: Case, out: &mut [u8], at: usize) -> usiz
     }
     let stage = case.stage;
     let book = case.book;
+    let rounds = book.rounds;
     let named = fill(out, at, plain(texts::THEN));
-    let said = fill(out, named, stage_line(stage));
+    let said = fill(out, named, stage_line(stage, rounds.held));
     fill(out, said, units_line(book))
 }
 
@@ -242,6 +273,12 @@ fn first_of(call: Tagged) -> u8 {
     let numbers = call.numbers;
     let n = numbers[0];
     if n < 256 { n as u8 } else { 255 }
+}
+
+// The third number of a call, which is the price of a SALE.
+fn third_of(call: Tagged) -> u32 {
+    let numbers = call.numbers;
+    numbers[2]
 }
 
 // Whether a call is a MEMBER for one of the members given.
@@ -262,16 +299,19 @@ fn write_refusal(
     let book = case.book;
     let head = book.head;
     let members = book.members;
+    let rounds = book.rounds;
     let first = first_of(call);
     let given = given_already(call.tag, first, members.given);
     let text = reason(call.tag, given, answer);
     let said = fill(out, at, one(text, answer as u64));
-    let more = fill(out, said, fault(present, book, call.tag, first, answer));
+    let price = third_of(call);
+    let at_fault = fault(present, book, call.tag, first, price, answer);
+    let more = fill(out, said, at_fault);
     if answer == 5 {
         return crate::ranges::write_ranges(head.pools, call, out, more);
     }
     if lists::both(present, answer == 2) {
-        return fill(out, more, stage_line(stage));
+        return fill(out, more, stage_line(stage, rounds.held));
     }
     more
 }

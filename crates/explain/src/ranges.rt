@@ -84,6 +84,15 @@ fn bid_range(k: usize) -> Limits {
     }
 }
 
+// The numbers of SALE behind its pool; its member is named by another answer.
+fn sale_range(k: usize) -> Limits {
+    if k == 1 {
+        range(texts::NOTHING, 0, ANY)
+    } else {
+        price_range(texts::PRICE_RANGE)
+    }
+}
+
 // The numbers of a call behind its pool or member.
 fn later_range(tag: u8, k: usize) -> Limits {
     match tag {
@@ -91,6 +100,7 @@ fn later_range(tag: u8, k: usize) -> Limits {
         3 => member_range(k),
         5 => bid_range(k),
         10 => range(texts::AMOUNT_RANGE, Call::MIN_PAYMENT, Call::MAX_PAYMENT),
+        14 => sale_range(k),
         _ => price_range(texts::PRICE_RANGE),
     }
 }

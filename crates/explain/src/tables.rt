@@ -1,13 +1,16 @@
-// The tables at the end: pools, the loss and its six layers, members, and the units held by member, pool and price. Each has a row of totals.
+// The tables at the end: pools, those sold by agreement, the loss and its six layers, members, and the units held by member, pool and price. Each has a row of totals.
 ghost use Prim.Native.Nat.{_≤_, _<_};
 use crate::texts;
 use crate::texts::Line;
+use crate::texts::amount_of;
 use crate::texts::fill;
 use crate::texts::minus;
 use crate::texts::plain;
+use crate::texts::worth;
 use accounts::members::Members;
 use accounts::members::over_pools;
 use accounts::members::widened;
+use accounts::members::without_pools;
 use book::Book;
 use book::Result;
 use case::Case;
@@ -113,6 +116,82 @@ fn write_pools(case: Case, out: &mut [u8], at: usize) -> usize {
     fill(out, rows, pools_total(case))
 }
 
+// ---- pools sold by agreement
+
+// The price at which a pool was sold by agreement, as it is held; 0 where no case has such a pool.
+fn sale_price(units: Units, pool: u8) -> u32 {
+    let noted = units.noted;
+    if pool < 4 {
+        noted[260 + pool as usize]
+    } else {
+        0
+    }
+}
+
+// The member to whom a pool was sold by agreement.
+fn buyer(units: Units, pool: u8) -> u8 {
+    let buyers = units.buyers;
+    if pool < 4 { buyers[pool as usize] } else { 0 }
+}
+
+// The row of a pool sold by agreement; no other pool has one.
+fn sale_line(units: Units, pool: u8) -> Line {
+    let n = units.agreed_units(pool) as u64;
+    if n == 0 {
+        return plain(texts::NOTHING);
+    }
+    let price = sale_price(units, pool);
+    texts::five(
+        texts::SALES_ROW,
+        pool as u64,
+        n,
+        buyer(units, pool) as u64,
+        texts::price(price),
+        amount_of(n, price),
+    )
+}
+
+// The units of all pools sold by agreement.
+fn all_agreed(units: Units) -> u64 {
+    let first = units.agreed_units(0) as u64 + units.agreed_units(1) as u64;
+    let last = units.agreed_units(2) as u64 + units.agreed_units(3) as u64;
+    first + last
+}
+
+// What the units of a pool sold by agreement amount to, in two's complement.
+fn sale_amount(units: Units, pool: u8) -> u64 {
+    amount_of(units.agreed_units(pool) as u64, sale_price(units, pool))
+}
+
+// The units of all pools sold by agreement, and what they amount to.
+fn sales_total(units: Units) -> Line {
+    let first = std::num::wrapping_add_u64(sale_amount(units, 0), sale_amount(units, 1));
+    let last = std::num::wrapping_add_u64(sale_amount(units, 2), sale_amount(units, 3));
+    let all = std::num::wrapping_add_u64(first, last);
+    texts::two(texts::SALES_TOTAL, all_agreed(units), all)
+}
+
+// The rows of the pools sold by agreement.
+fn sale_rows(units: Units, out: &mut [u8], at: usize) -> usize {
+    let mut to = at;
+    let mut pool: u8 = 0;
+    while pool < 4 {
+        to = fill(out, to, sale_line(units, pool));
+        pool += 1;
+    }
+    to
+}
+
+// The table of the pools sold by agreement, where there are any.
+fn write_sales(units: Units, out: &mut [u8], at: usize) -> usize {
+    if all_agreed(units) == 0 {
+        return at;
+    }
+    let title = fill(out, at, plain(texts::SALES_TITLE));
+    let rows = sale_rows(units, out, title);
+    fill(out, rows, sales_total(units))
+}
+
 // ---- the loss
 
 // How the requirement comes about.
@@ -191,7 +270,7 @@ fn units_won(members: Members) -> [u64; 32] {
     over_pools(won)
 }
 
-// The units that each member is expected to take, over all pools.
+// The units that each member is expected to take, over all pools that count.
 fn units_expected(members: Members) -> [u64; 32] {
     let expected = members.expected;
     over_pools(expected)
@@ -324,14 +403,43 @@ fn members_title(finished: bool, set: u32) -> Line {
     }
 }
 
+// The members with the expected units that count for rank: "the units expected in a pool so sold, don't count".
+fn counted(members: Members, sold: [bool; 4]) -> Members {
+    let expected = members.expected;
+    let counting = without_pools(expected, sold);
+    let mut out = members;
+    out.expected = counting;
+    out
+}
+
+// The pools sold by agreement, as a set.
+fn set_of(sold: [bool; 4]) -> u64 {
+    let first = plus(lists::number_if(sold[0], 1), lists::number_if(sold[1], 2));
+    let last = plus(lists::number_if(sold[2], 4), lists::number_if(sold[3], 8));
+    plus(first, last)
+}
+
+// The pools whose expected units are left out, and how many these are over all members.
+fn left_out_line(members: Members, sold: [bool; 4]) -> Line {
+    let set = set_of(sold);
+    if set == 0 {
+        return plain(texts::NOTHING);
+    }
+    let all = sum_of(units_expected(members));
+    let left = sum_of(units_expected(counted(members, sold)));
+    texts::two(texts::LEFT_OUT, set, minus(all, left))
+}
+
 // The table of the members.
 fn write_members(finished: bool, book: Book, out: &mut [u8], at: usize) -> usize {
     let head = book.head;
-    let members = book.members;
+    let sold = book.sold_pools();
+    let members = counted(book.members, sold);
     let result = book.result();
     let title = fill(out, at, members_title(finished, head.set));
     let rows = member_rows(finished, members, result, head.set, out, title);
-    fill(out, rows, members_total(finished, members, result))
+    let added = fill(out, rows, members_total(finished, members, result));
+    fill(out, added, left_out_line(book.members, sold))
 }
 
 // ---- units held
@@ -392,16 +500,21 @@ fn allocation_price(book: Book, pool: u8) -> u32 {
     }
 }
 
-// The least price, from a first one on, at which a member may hold units of a pool: that of a bid, of ALLOCATE, or 0 cents for units moved to it.
-fn next_price(book: Book, m: u8, pool: u8, first: u32) -> u32 {
-    let sold = bid_price(book, m, pool, first);
-    let allocated = lesser(allocation_price(book, pool), first, sold);
-    lesser(1_000_000, first, allocated)
+// The price at which a pool was sold by agreement to a member, and one above every price where it was not.
+fn agreed_price(units: Units, m: u8, pool: u8) -> u32 {
+    if lists::both(0 < units.agreed_units(pool), buyer(units, pool) == m) {
+        sale_price(units, pool)
+    } else {
+        NO_PRICE
+    }
 }
 
-// Units times their price, the units held to those of a case, the price to the prices.
-fn worth(units: u64, price: u32) -> u64 {
-    lists::smaller(units, 4_000) * lists::smaller(price as u64, Call::MAX_PRICE as u64)
+// The least price, from a first one on, at which a member may hold units of a pool: that of a bid, of SALE, of ALLOCATE, or 0 cents for units moved to it.
+fn next_price(book: Book, m: u8, pool: u8, first: u32) -> u32 {
+    let bid = bid_price(book, m, pool, first);
+    let sold = lesser(agreed_price(book.units, m, pool), first, bid);
+    let allocated = lesser(allocation_price(book, pool), first, sold);
+    lesser(1_000_000, first, allocated)
 }
 
 // The units held at a price, where there are any.
@@ -415,7 +528,7 @@ fn held_line(m: u8, pool: u8, price: u32, units: u64) -> Line {
         pool as u64,
         texts::price(price),
         units,
-        minus(worth(units, price), worth(units, 1_000_000)),
+        amount_of(units, price),
     )
 }
 
@@ -523,7 +636,8 @@ pub fn write_tables(held: Held, out: &mut [u8], at: usize) -> usize {
     let book = case.book;
     let finished = book::letter(stage) == 5;
     let pools = write_pools(case, out, at);
-    let loss = write_loss(finished, book, out, pools);
+    let sales = write_sales(book.units, out, pools);
+    let loss = write_loss(finished, book, out, sales);
     let members = write_members(finished, book, out, loss);
     write_held(case, out, members)
 }

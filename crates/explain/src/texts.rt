@@ -2,6 +2,7 @@
 // order of the numbers; dots behind # or $ make a column of them, with the number at its right; | is a line's end.
 ghost use Prim.Native.Nat.{_+_, _≤_};
 ghost use lib.ListN.{length};
+use wire::Call;
 use words::Amount;
 
 // A text by its number, and the numbers that are put into it. A number below 0 is one in two's complement.
@@ -20,127 +21,140 @@ pub const THEN: usize = 2;
 // The stages, by their letter from 1 on.
 pub const STAGE: usize = 2;
 
-// The open units, by the number of pools given.
-pub const UNITS: usize = 7;
+// Stage A where no round was held, since every pool was sold by agreement.
+pub const NO_ROUND: usize = 8;
 
-pub const NO_CASE: usize = 12;
+// The open units, by the number of pools given.
+pub const UNITS: usize = 8;
+
+pub const NO_CASE: usize = 13;
 
 // Why a call is declined, by the answer from 1 on; then those that only some calls have.
-pub const REASON: usize = 12;
+pub const REASON: usize = 13;
 
-pub const WRONG_RESERVES: usize = 29;
+pub const WRONG_RESERVES: usize = 31;
 
-pub const NOT_NEXT: usize = 30;
+pub const NOT_NEXT: usize = 32;
 
-pub const GIVEN: usize = 31;
+pub const GIVEN: usize = 33;
 
-pub const NONE_OPEN: usize = 32;
+pub const NONE_OPEN: usize = 34;
 
-pub const NOT_ALL_GIVEN: usize = 33;
+pub const NOT_ALL_GIVEN: usize = 35;
 
-pub const MORE_THAN_OWED: usize = 34;
+pub const MORE_THAN_OWED: usize = 36;
 
 // The value at fault.
-pub const BEFORE_HEAD: usize = 35;
+pub const BEFORE_HEAD: usize = 37;
 
-pub const IN_STAGE: usize = 36;
+pub const IN_STAGE: usize = 38;
 
-pub const RESERVES_FAULT: usize = 37;
+pub const RESERVES_FAULT: usize = 39;
 
-pub const POOLS_FAULT: usize = 38;
+pub const POOLS_FAULT: usize = 40;
 
-pub const SET_FAULT: usize = 39;
+pub const SET_FAULT: usize = 41;
 
-pub const LEAST_FAULT: usize = 40;
+pub const LEAST_FAULT: usize = 42;
 
-pub const KEPT_FAULT: usize = 41;
+pub const KEPT_FAULT: usize = 43;
 
-pub const POOL_FAULT: usize = 42;
+pub const POOL_FAULT: usize = 44;
 
-pub const ANY_POOL_FAULT: usize = 43;
+pub const ANY_POOL_FAULT: usize = 45;
 
-pub const SHORT_FAULT: usize = 44;
+pub const SHORT_FAULT: usize = 46;
 
-pub const GIVEN_FAULT: usize = 45;
+pub const GIVEN_FAULT: usize = 47;
 
-pub const OPEN_FAULT: usize = 46;
+pub const OPEN_FAULT: usize = 48;
 
-pub const COVER_FAULT: usize = 47;
+pub const COVER_FAULT: usize = 49;
 
-pub const OWED_FAULT: usize = 48;
+pub const OWED_FAULT: usize = 50;
 
-pub const OWING_FAULT: usize = 49;
+pub const OWING_FAULT: usize = 51;
 
-pub const MEMBER_FAULT: usize = 50;
+pub const MEMBER_FAULT: usize = 52;
+
+pub const DEAR_FAULT: usize = 53;
 
 // Numbers out of their ranges; HEAD's eight from its first on.
-pub const HEAD_RANGE: usize = 51;
+pub const HEAD_RANGE: usize = 54;
 
-pub const UNITS_RANGE: usize = 59;
+pub const UNITS_RANGE: usize = 62;
 
-pub const MARK_RANGE: usize = 60;
+pub const MARK_RANGE: usize = 63;
 
-pub const CONTRIBUTION_RANGE: usize = 61;
+pub const CONTRIBUTION_RANGE: usize = 64;
 
-pub const EXPECTED_RANGE: usize = 62;
+pub const EXPECTED_RANGE: usize = 65;
 
-pub const LACKING_POOL: usize = 63;
+pub const LACKING_POOL: usize = 66;
 
-pub const RESERVE_RANGE: usize = 64;
+pub const RESERVE_RANGE: usize = 67;
 
-pub const PRICE_RANGE: usize = 65;
+pub const PRICE_RANGE: usize = 68;
 
-pub const AMOUNT_RANGE: usize = 66;
+pub const AMOUNT_RANGE: usize = 69;
 
 // Bytes that are no call.
-pub const UNKNOWN: usize = 67;
+pub const UNKNOWN: usize = 70;
 
-pub const TOO_SHORT: usize = 68;
+pub const TOO_SHORT: usize = 71;
 
-pub const CUT_OFF: usize = 69;
+pub const CUT_OFF: usize = 72;
 
-pub const INCOMPLETE: usize = 70;
+pub const INCOMPLETE: usize = 73;
 
 // The tables.
-pub const NO_TABLES: usize = 71;
+pub const NO_TABLES: usize = 74;
 
-pub const POOLS_TITLE: usize = 72;
+pub const POOLS_TITLE: usize = 75;
 
-pub const POOLS_ROW: usize = 73;
+pub const POOLS_ROW: usize = 76;
 
-pub const POOLS_TOTAL: usize = 74;
+pub const POOLS_TOTAL: usize = 77;
 
-pub const LOSS: usize = 75;
+pub const SALES_TITLE: usize = 78;
 
-pub const NOT_CHARGED: usize = 76;
+pub const SALES_ROW: usize = 79;
 
-pub const LAYERS_TITLE: usize = 77;
+pub const SALES_TOTAL: usize = 80;
 
-pub const LAYER: usize = 78;
+pub const LOSS: usize = 81;
 
-pub const LAYERS_TOTAL: usize = 84;
+pub const NOT_CHARGED: usize = 82;
 
-pub const UNCOVERED: usize = 85;
+pub const LAYERS_TITLE: usize = 83;
 
-pub const MEMBERS_TITLE: usize = 86;
+pub const LAYER: usize = 84;
 
-pub const MEMBERS_ROW: usize = 87;
+pub const LAYERS_TOTAL: usize = 90;
 
-pub const MEMBERS_TOTAL: usize = 88;
+pub const UNCOVERED: usize = 91;
 
-pub const EARLY_TITLE: usize = 89;
+pub const MEMBERS_TITLE: usize = 92;
 
-pub const EARLY_ROW: usize = 90;
+pub const MEMBERS_ROW: usize = 93;
 
-pub const HELD_TITLE: usize = 91;
+pub const MEMBERS_TOTAL: usize = 94;
 
-pub const HELD_ROW: usize = 92;
+pub const EARLY_TITLE: usize = 95;
 
-pub const HELD_SUM: usize = 93;
+pub const EARLY_ROW: usize = 96;
 
-pub const TORN_SUM: usize = 94;
+pub const LEFT_OUT: usize = 97;
 
-pub const PRICED_SUM: usize = 95;
+pub const HELD_TITLE: usize = 98;
+
+pub const HELD_ROW: usize = 99;
+
+pub const HELD_SUM: usize = 100;
+
+pub const TORN_SUM: usize = 101;
+
+pub const PRICED_SUM: usize = 102;
 
 // ---- lines
 
@@ -188,6 +202,16 @@ pub fn price(p: u32) -> u64 {
     } else {
         amount.cents
     }
+}
+
+// Units times their price, the units held to those of a case, the price to the prices.
+pub fn worth(units: u64, price: u32) -> u64 {
+    lists::smaller(units, 4_000) * lists::smaller(price as u64, Call::MAX_PRICE as u64)
+}
+
+// What units at a price amount to in cents, in two's complement.
+pub fn amount_of(units: u64, price: u32) -> u64 {
+    minus(worth(units, price), worth(units, 1_000_000))
 }
 
 // A number in two's complement as an amount.
@@ -411,6 +435,7 @@ pub fn fill(out: &mut [u8], at: usize, line: Line) -> usize {
         stage A, round #\n\
         stage C\n\
         stage F\n\
+        stage A, no round\n\
         ; open units #|\n\
         ; open units # + # = #|\n\
         ; open units # + # + # = #|\n\
@@ -432,6 +457,7 @@ pub fn fill(out: &mut [u8], at: usize, line: Line) -> usize {
         \x20   refused #: the member owes nothing\n\
         \x20   refused #: a member owes\n\
         \x20   refused #: no unit is allocated or moved to the member\n\
+        \x20   refused #: the loss with this sale passes margin and defaulter's fund\n\
         \x20   refused #: wrong number of reserves\n\
         \x20   refused #: not the next pool\n\
         \x20   refused #: the member is given already\n\
@@ -454,6 +480,7 @@ pub fn fill(out: &mut [u8], at: usize, line: Line) -> usize {
         \x20(owes $)\n\
         \x20(member # owes $)\n\
         \x20(member #)\n\
+        \x20(hedge and other loss $ less prices of units sold by agreement $ = $, margin and fund $)\n\
         \x20(pools #; from # to #)\n\
         \x20(least bid #; from # to #)\n\
         \x20(no member)\n\
@@ -478,6 +505,9 @@ pub fn fill(out: &mut [u8], at: usize, line: Line) -> usize {
         |Pools, in units|   pool     units      open      sold  allocated     moved      torn|\n\
         #......#.........#.........#.........#..........#.........#.........|\n\
         \x20 total#.........#.........#.........#..........#.........#.........|\n\
+        |Sold by agreement, counted as sold above|   pool     units  member          price         amount|\n\
+        #......#.........#.......$..............$..............|\n\
+        \x20 total#.........                       $..............|\n\
         |Loss|  hedge loss                      $..............|\
         \x20 other loss                      $..............|\
         \x20 less prices of units not open   $..............|\
@@ -498,6 +528,7 @@ pub fn fill(out: &mut [u8], at: usize, line: Line) -> usize {
         \x20  total#.......#.........#........       $..............$..............$..............$..............|\n\
         |Members, #|  member     won  expected   excess   contribution         called           paid           owes|\n\
         #.......#.......#.........#........$..............$..............$..............$..............|\n\
+        \x20 expected leaves out pools sold by agreement (pools @; units #)|\n\
         |Units held, by pool and price|  member    pool          price     units         amount|\n\
         #.......#.......$..............#.........$..............|\n\
         \x20 held                         #.........$..............|\n\

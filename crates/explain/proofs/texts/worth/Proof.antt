@@ -1,10 +1,10 @@
--- `explain::tables::worth` is safe and ends. Assumes nothing.
+-- `explain::texts::worth` is safe and ends. Assumes nothing.
 use Prim.Native.Nat.{_≤_}
 use native.Mathlib.Nat.{mul-le-mul}
 use native.Mathlib.Omega.{arith}
 use borrow.Author.Needs.{needs}
-use Rattle.explain.proofs.tables.worth.Statement.{statement}
-use Rattle.explain.proofs.tables.worth.Tie as tie
+use Rattle.explain.proofs.texts.worth.Statement.{statement}
+use Rattle.explain.proofs.texts.worth.Tie as tie
 
 smaller-requires : tie.Need-smaller-requires
 smaller-requires c κs = search needs
