@@ -32,7 +32,6 @@ use Rattle.accounts.proofs.ViewPools as P
 use Rattle.accounts.proofs.ViewMembers as X
 use Rattle.accounts.proofs.ViewRounds as Y
 use Rattle.accounts.proofs.ViewBids as Z
-use Rattle.book.specs.declared.Stage.{Stage}
 use Rattle.book.specs.declared.Stage.the-variants.{After}
 use Rattle.book.specs.Stages.{viewStage, nextRound}
 use Rattle.book.specs.Books.{anyOpenIn, openIn, newBook, poolBook, memberBook, roundBook, saleBook}

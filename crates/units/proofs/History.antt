@@ -13,7 +13,7 @@ use lib.Seq.{getD-set-same}
 use borrow.Author.Tests.{eqb-true, eqb-false, ne-eqb, not-false}
 use Rattle.lists.specs.Lists.{count}
 use Rattle.lists.proofs.Bools.{or-right}
-use Rattle.lists.proofs.Counts.{count-none, count-replicate-out}
+use Rattle.lists.proofs.Counts.{count-replicate-out}
 use Rattle.lists.proofs.Pairs.{pairs-at, pairs-set, pairs-mapFrom}
 use Rattle.lists.specs.Tests.{Passed}
 use Rattle.machine.specs.Wire.{Call, HEAD, POOL, MEMBER, ROUND, BID, CLOSE, ALLOCATE, TEAR, CALL, PAY, MOVE, MISS, FINISH, SALE}

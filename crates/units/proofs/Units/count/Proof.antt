@@ -6,8 +6,6 @@ use Rattle.units.proofs.Results.{count-past, count-there, sold-there, c
 use borrow.Author.Needs.{needs}
 use Rattle.units.proofs.Units.count.Statement.{statement}
 use Rattle.units.proofs.Units.count.Tie as tie
-use Rattle.units.proofs.column_of.Reads as column-of-reads
-use Rattle.units.proofs.sold_in.Reads as sold-in-reads
 
 returns : tie.Need-returns
 returns c = count-past _ _ _ _ (c .if1 .taken)

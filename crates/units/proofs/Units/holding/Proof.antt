@@ -8,8 +8,6 @@ use Rattle.units.proofs.Results.{holding-past, holding-none, holding-th
 use borrow.Author.Needs.{needs}
 use Rattle.units.proofs.Units.holding.Statement.{statement}
 use Rattle.units.proofs.Units.holding.Tie as tie
-use Rattle.lists.proofs.number_if.Reads as number-if-reads
-use Rattle.units.proofs.sold_for.Reads as sold-for-reads
 
 returns : tie.Need-returns
 returns c = holding-past _ _ _ _ _ _ _ (c .if1 .taken)
