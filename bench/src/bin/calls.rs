@@ -196,6 +196,7 @@ fn main() {
     let pools = made.with((0..4).map(|pool| write::pool(pool, 1000, 0)));
     time("MEMBER", &pools, &member(0), false, MIDDLE);
     let set_up = pools.with((0..32).map(member));
+    time("SALE, passes margin and fund", &set_up, &write::sale(0, 3, -5), false, DECLINED);
     time("ROUND", &set_up, &write::round(&[-1000; 4]), false, MIDDLE);
 
     let round = set_up.with(one(write::round(&[-1000; 4])));
@@ -240,12 +241,12 @@ fn main() {
         .with(one(write::call()));
     time("MOVE, 4,000 units of 4 groups", &few, &write::move_units(3), false, MOVE);
 
-    let covered = none
+    let no_loss = none
         .with(one(write::head(&Head { hedge_loss: 0, ..head })))
         .with((0..4).map(|pool| write::pool(pool, 1000, 0)))
-        .with((0..32).map(|m| write::member(m, 1_000_000, [0; 4])))
-        .with(one(write::round(&[-1000; 4])))
-        .with(one(write::close()));
+        .with((0..32).map(|m| write::member(m, 1_000_000, [0; 4])));
+    time("SALE, 1,000 units", &no_loss, &write::sale(0, 3, 5), false, MIDDLE);
+    let covered = no_loss.with(one(write::round(&[-1000; 4]))).with(one(write::close()));
     time("ALLOCATE, nobody is short", &covered, &write::allocate(0, -5), false, DECLINED);
     let torn = covered.with((0..4).map(|pool| write::tear(pool, -5)));
     time("CALL, enough is prefunded", &torn, &write::call(), false, DECLINED);

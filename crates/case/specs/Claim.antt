@@ -7,11 +7,10 @@
 -- the fields of a whole input, and its contract says it for the code itself. The contracts of the methods are `r ≡ outcomeOf self call`,
 -- and of HEAD `r ≡ headOutcome head`. Prices are cents + 1,000,000 throughout.
 use mathlib.Core.Path.{_≡_}
-use mathlib.Core.Bool.{Bool, true, _&&_}
+use mathlib.Core.Bool.{true}
 use mathlib.Core.List.{List, [], _∷_, map}
 use mathlib.Core.Option.{none, some}
 use Prim.Native.Nat.{ℕ, _+_, _≤_, _<_, _^_}
-use lib.Dec.{eqb}
 use lib.IntN.{pos, _-ℤ_}
 use lib.ListN.{length, getD}
 use Rattle.lists.specs.Lists.{sum, count, Each, Bytes}
@@ -19,7 +18,7 @@ use Rattle.lists.specs.Tests.{Passed, First}
 use Rattle.sets.specs.Set.{member, members}
 use Rattle.auction.specs.Price.{atLeast0}
 use Rattle.machine.specs.Wire.{Call, HEAD, POOL, MEMBER, ROUND, BID, CLOSE, ALLOCATE, TEAR, CALL, PAY, MOVE, MISS, FINISH, SALE, decode}
-use Rattle.machine.specs.Roll.{Entry, Agreed, isAgreed}
+use Rattle.machine.specs.Roll.{Entry, Agreed, agreedIn}
 use Rattle.machine.specs.State as M
 use Rattle.machine.specs.Requirement.{requirement}
 use Rattle.machine.specs.Refusals.{tests}
@@ -110,10 +109,6 @@ HeadAgrees =
     seen (o .answer) (o .held) ≡ observed (a .answer) (a .state)
 
 -- ---- document 02, C-12: units sold by agreement
-
--- an entry of a pool sold by agreement
-abbrev pub agreedIn : ℕ → Entry → Bool
-agreedIn pool e = isAgreed (e .state) && eqb (e .pool) pool
 
 -- what the case keeps of a pool, how many of its units were sold by agreement, to whom and at what price, is what the roll has
 pub record KeepsSale (u : Units) (roll : List Entry) (pool : ℕ) : Type 0 where

@@ -137,6 +137,10 @@ prices bids roll = map (λ e. priceOf bids (e .state)) (keep (λ e. not (isOpen 
 unfoldable pub agreedPrices : List Bid → List Entry → List ℕ
 agreedPrices bids roll = map (λ e. priceOf bids (e .state)) (keep (λ e. isAgreed (e .state)) roll)
 
+-- whether an entry is a unit of the pool that is sold by agreement
+abbrev pub agreedIn : ℕ → Entry → Bool
+agreedIn pool e = isAgreed (e .state) && eqb (e .pool) pool
+
 -- C-12: "a pool so sold". Its units stay as they are for good (`agreed-stay`)
 unfoldable pub soldByAgreement : List Entry → ℕ → Bool
-soldByAgreement roll pool = any (λ e. isAgreed (e .state) && eqb (e .pool) pool) roll
+soldByAgreement roll pool = any (agreedIn pool) roll

@@ -15,7 +15,7 @@ use Rattle.lists.proofs.Counts.{any-count}
 use Rattle.lists.proofs.Keep.{sumTo-one}
 use Rattle.lists.proofs.Each.{Each, each-more}
 use Rattle.auction.specs.Price.{zeroPrice}
-use Rattle.machine.specs.Roll.{UnitState, Open, Sold, Allocated, Moved, Torn, Agreed, Entry, Bid, noBid, kind, isOpen, priceOf, heldBy, passedTo, isAgreed, anyOpen, prices, soldByAgreement}
+use Rattle.machine.specs.Roll.{UnitState, Open, Sold, Allocated, Moved, Torn, Agreed, Entry, Bid, noBid, kind, isOpen, priceOf, heldBy, passedTo, isAgreed, agreedIn, anyOpen, prices, soldByAgreement}
 use Rattle.machine.specs.Run.{fiveCounts, holding}
 use Rattle.units.specs.declared.Units.{Units}
 use Rattle.units.specs.Places.{allocatedAt, soldAt, movedAt, agreedAt, unitAt, over}
@@ -233,9 +233,6 @@ module _ (u : Units) (bids : List Bid) (roll : List Entry) (kept : Kept u bids r
       )
 
   -- ---- sold by agreement
-
-  abbrev agreedIn : ℕ → Entry → Bool
-  agreedIn pool e = isAgreed (e .state) && eqb (e .pool) pool
 
   pub agreed-count : (pool : ℕ) → pool < 4 → count (agreedIn pool) roll ≡ c (agreedAt pool)
   unfolding isAgreed
