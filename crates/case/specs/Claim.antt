@@ -28,7 +28,7 @@ use Rattle.machine.specs.Run.{Result, Observed, observed, run, runFrom}
 use Rattle.wire.specs.declared.Head.{Head}
 use Rattle.wire.specs.Asked.{headOf}
 use Rattle.units.specs.declared.Units.{Units}
-use Rattle.units.specs.Shown.{agreedOf}
+use Rattle.units.specs.Shown.{agreedOf, buyerOf, salePriceOf}
 use Rattle.book.specs.declared.Book.{Book}
 use Rattle.book.specs.Results.{limitsIn, resultIn}
 use Rattle.case.specs.declared.Case.{Case}
@@ -113,7 +113,7 @@ HeadAgrees =
 -- what the case keeps of a pool, how many of its units were sold by agreement, to whom and at what price, is what the roll has
 pub record KeepsSale (u : Units) (roll : List Entry) (pool : ℕ) : Type 0 where
   pub units : agreedOf u pool ≡ count (agreedIn pool) roll
-  pub entries : Each (λ e. agreedIn pool e ≡ true → e .state ≡ Agreed (getD (u .buyers) pool 0) (getD (u .noted) (260 + pool) 0)) roll
+  pub entries : Each (λ e. agreedIn pool e ≡ true → e .state ≡ Agreed (buyerOf u pool) (salePriceOf u pool)) roll
 
 -- so it is after every list of calls
 abbrev pub KeepsSales : Type 0

@@ -118,34 +118,18 @@ fn write_pools(case: Case, out: &mut [u8], at: usize) -> usize {
 
 // ---- pools sold by agreement
 
-// The price at which a pool was sold by agreement, as it is held; 0 where no case has such a pool.
-fn sale_price(units: Units, pool: u8) -> u32 {
-    let noted = units.noted;
-    if pool < 4 {
-        noted[260 + pool as usize]
-    } else {
-        0
-    }
-}
-
-// The member to whom a pool was sold by agreement.
-fn buyer(units: Units, pool: u8) -> u8 {
-    let buyers = units.buyers;
-    if pool < 4 { buyers[pool as usize] } else { 0 }
-}
-
 // The row of a pool sold by agreement; no other pool has one.
 fn sale_line(units: Units, pool: u8) -> Line {
     let n = units.agreed_units(pool) as u64;
     if n == 0 {
         return plain(texts::NOTHING);
     }
-    let price = sale_price(units, pool);
+    let price = units.sale_price(pool);
     texts::five(
         texts::SALES_ROW,
         pool as u64,
         n,
-        buyer(units, pool) as u64,
+        units.buyer(pool) as u64,
         texts::price(price),
         amount_of(n, price),
     )
@@ -160,7 +144,7 @@ fn all_agreed(units: Units) -> u64 {
 
 // What the units of a pool sold by agreement amount to, in two's complement.
 fn sale_amount(units: Units, pool: u8) -> u64 {
-    amount_of(units.agreed_units(pool) as u64, sale_price(units, pool))
+    amount_of(units.agreed_units(pool) as u64, units.sale_price(pool))
 }
 
 // The units of all pools sold by agreement, and what they amount to.
@@ -502,8 +486,8 @@ fn allocation_price(book: Book, pool: u8) -> u32 {
 
 // The price at which a pool was sold by agreement to a member, and one above every price where it was not.
 fn agreed_price(units: Units, m: u8, pool: u8) -> u32 {
-    if lists::both(0 < units.agreed_units(pool), buyer(units, pool) == m) {
-        sale_price(units, pool)
+    if lists::both(0 < units.agreed_units(pool), units.buyer(pool) == m) {
+        units.sale_price(pool)
     } else {
         NO_PRICE
     }

@@ -12,7 +12,7 @@ use Rattle.lists.specs.Lists.{sumTo}
 use Rattle.lists.specs.Adding.{most16, most32, addAt}
 use Rattle.auction.specs.Price.{zeroPrice}
 use Rattle.units.specs.Steps.{transferred, repriced, withCounts, putUpUnits, notedAt, tearUnits, withBuyer, saleUnits}
-use Rattle.units.specs.Shown.{column, soldIn, kindOf, countOf, soldFor, holdingOf, passedOf}
+use Rattle.units.specs.Shown.{agreedOf, buyerOf, salePriceOf, column, soldIn, kindOf, countOf, soldFor, holdingOf, passedOf}
 use Rattle.units.specs.declared.Units.{Units}
 
 -- ---- units counted elsewhere at a price that is noted
@@ -70,9 +70,9 @@ unfolding countOf
 count-there u pools pool kind k r h e p = rw (lt-ltb pool 4 h, e) p
 
 -- the units sold to bids, and those sold by agreement
-pub sold-there : (u : Units) (pools : List ℕ) (pool kind at a b : ℕ) → pool < 4 → kind ≡ 1 → at ≡ pool → a ≡ soldIn (u .counts) pools pool → b ≡ getD (u .counts) (776 + at) 0
+pub sold-there : (u : Units) (pools : List ℕ) (pool kind a b : ℕ) → pool < 4 → kind ≡ 1 → a ≡ soldIn (u .counts) pools pool → b ≡ agreedOf u pool
     → a + b ≡ countOf u pools pool kind
-sold-there u pools pool kind at a b h e p ea eb = count-there u pools pool kind 1 (a + b) h e (rw (ea, eb, p))
+sold-there u pools pool kind a b h e ea eb = count-there u pools pool kind 1 (a + b) h e (rw (ea, eb))
 
 -- what is added up stands where the pool does
 pub column-from : (counts : List ℕ) (first at pool n r : ℕ) → at ≡ pool → r ≡ column counts (first + at) n → r ≡ column counts (first + pool) n
@@ -113,7 +113,7 @@ module _ (u : Units) (members pools prices : List ℕ) (m pool price n at sold a
     (es : sold ≡ soldFor (u .counts) members pools prices m pool price)
     (ewa : wa ≡ getD (u .counts) (4 + (4 * n + at)) 0) (ea : a ≡ cond (eqb (getD (u .allocation) at 0) price) wa 0)
     (ewb : wb ≡ getD (u .counts) (388 + (4 * n + at)) 0) (eb : b ≡ cond (eqb price zeroPrice) wb 0)
-    (eh : here ≡ (eqb (getD (u .buyers) at 0) m && eqb (getD (u .noted) (260 + at) 0) price)) (ewd : wd ≡ getD (u .counts) (776 + at) 0) (ed : d ≡ cond here wd 0) where
+    (eh : here ≡ (eqb (buyerOf u pool) m && eqb (salePriceOf u pool) price)) (ewd : wd ≡ agreedOf u pool) (ed : d ≡ cond here wd 0) where
   pub holding-there : sold + a + b + d ≡ holdingOf u members pools prices m pool price
   unfolding holdingOf
   holding-there = rw (lt-ltb pool 4 hp, lt-ltb m 32 hm, es, ea, ewa, eb, ewb, ed, ewd, eh, ep, em)

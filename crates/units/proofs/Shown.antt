@@ -19,7 +19,7 @@ use Rattle.machine.specs.Roll.{UnitState, Open, Sold, Allocated, Moved, Torn, A
 use Rattle.machine.specs.Run.{fiveCounts, holding}
 use Rattle.units.specs.declared.Units.{Units}
 use Rattle.units.specs.Places.{allocatedAt, soldAt, movedAt, agreedAt, unitAt, over}
-use Rattle.units.specs.Shown.{column, soldIn, kindOf, countOf, soldFor, holdingOf, passedOf, zeroPrices, pricesOf}
+use Rattle.units.specs.Shown.{agreedOf, buyerOf, salePriceOf, column, soldIn, kindOf, countOf, soldFor, holdingOf, passedOf, zeroPrices, pricesOf}
 use Rattle.units.proofs.Places.{unit-open, unit-allocated, unit-sold, unit-moved, unit-torn, unit-agreed, by-place, weigh-parts, sum-rows}
 use Rattle.units.proofs.Weighing.{each-entry}
 use Rattle.units.proofs.Over.{count-over}
@@ -121,7 +121,7 @@ module _ (u : Units) (bids : List Bid) (roll : List Entry) (kept : Kept u bids r
         ∙ rows 65 516 b
 
     kind-count : (k : ℕ) → count (λ e. eqb (e .pool) pool && eqb (kind (e .state)) k) roll ≡ kindOf u pools pool k
-    unfolding kind
+    unfolding kind agreedOf
     kind-count k =
         by-parts (λ e. eqb (e .pool) pool && eqb (kind (e .state)) k)
         ∙ rw (open-part (eqb 0 k), rows 32 4 (eqb 2 k), sold-part (eqb 1 k), rows 32 388 (eqb 3 k), torn-part (eqb 4 k), row (λ p. c (agreedAt p)) (eqb 1 k)) (go k)
@@ -130,7 +130,7 @@ module _ (u : Units) (bids : List Bid) (roll : List Entry) (kept : Kept u bids r
             + (if eqb 3 k then column (u .counts) (388 + pool) 32 else 0) + (if eqb 4 k then column (u .counts) (516 + pool) 65 else 0)
             + (if eqb 1 k then c (agreedAt pool) else 0) ≡ kindOf u pools pool k
         go zero = omega arith
-        go (suc zero) = omega arith
+        go (suc zero) = rw (lt-ltb pool 4 l) (omega arith)
         go (suc (suc zero)) = omega arith
         go (suc (suc (suc zero))) = omega arith
         go (suc (suc (suc (suc zero)))) = omega arith
@@ -169,7 +169,7 @@ module _ (u : Units) (bids : List Bid) (roll : List Entry) (kept : Kept u bids r
         (λ some. let e = lent i li some in rw (e .0, e .1, e .2) (ap (λ (b : Bool). b && eqb at price) (and-comm (eqb p pool) (eqb who m)))))
 
     pub holding-shown : holdingOf u members pools prices' m pool price ≡ holding bids roll m pool price
-    unfolding holding holdingOf heldBy priceOf
+    unfolding holding holdingOf agreedOf buyerOf salePriceOf heldBy priceOf
     holding-shown =
         let a = u .allocation in
         rw (lt-ltb pool 4 lp, lt-ltb m 32 lm)
@@ -258,7 +258,7 @@ module _ (u : Units) (bids : List Bid) (roll : List Entry) (kept : Kept u bids r
   -- all of a pool's units sold by agreement have one buyer and one price
   module _ (pool : ℕ) (l : pool < 4) where
     abbrev label : UnitState
-    label = Agreed (getD (u .buyers) pool 0) (getD (u .noted) (260 + pool) 0)
+    label = Agreed (buyerOf u pool) (salePriceOf u pool)
 
     -- whether an entry, if it is sold by agreement in the pool, has them
     abbrev labelled : UnitState → Bool
@@ -291,7 +291,7 @@ module _ (u : Units) (bids : List Bid) (roll : List Entry) (kept : Kept u bids r
             (λ t. rw t)
 
     fine-is : (p : ℕ) (s : UnitState) → (not (eqb p pool) || labelled s) ≡ true → (isAgreed s && eqb p pool) ≡ true → s ≡ label
-    unfolding isAgreed
+    unfolding isAgreed buyerOf salePriceOf
     fine-is p Open f a = absurd (false≢true a)
     fine-is p (Sold bid) f a = absurd (false≢true a)
     fine-is p (Allocated m price) f a = absurd (false≢true a)
@@ -299,7 +299,7 @@ module _ (u : Units) (bids : List Bid) (roll : List Entry) (kept : Kept u bids r
     fine-is p (Torn price) f a = absurd (false≢true a)
     fine-is p (Agreed m price) f a =
         let both : (eqb m (getD (u .buyers) pool 0) && eqb price (getD (u .noted) (260 + pool) 0)) ≡ true = rw a at f in
-        cc (eqb-true m _ (and-left _ _ both), eqb-true price _ (and-right (eqb m (getD (u .buyers) pool 0)) _ both))
+        rw (lt-ltb pool 4 l) (cc (eqb-true m _ (and-left _ _ both), eqb-true price _ (and-right (eqb m (getD (u .buyers) pool 0)) _ both)))
 
     pub agreed-entries : Each (λ e. agreedIn pool e ≡ true → e .state ≡ label) roll
     agreed-entries =

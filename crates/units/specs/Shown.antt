@@ -20,6 +20,13 @@ agreedOf u pool = if ltb pool 4 then getD (u .counts) (agreedAt pool) 0 else 0
 abbrev pub soldOf : Units → ℕ → Bool
 soldOf u pool = ltb 0 (agreedOf u pool)
 
+-- to whom it was sold, and at what price
+unfoldable pub buyerOf : Units → ℕ → ℕ
+buyerOf u pool = if ltb pool 4 then getD (u .buyers) pool 0 else 0
+
+unfoldable pub salePriceOf : Units → ℕ → ℕ
+salePriceOf u pool = if ltb pool 4 then getD (u .noted) (260 + pool) 0 else 0
+
 -- n counts, each four places behind the last
 unfoldable pub column : List ℕ → ℕ → ℕ → ℕ
 column counts first n = sumTo n (λ r. getD counts (first + 4 * r) 0)
@@ -31,7 +38,7 @@ soldIn counts pools pool = sumTo 256 (λ b. if eqb (getD pools b 0) pool then ge
 -- how many units of a pool are of a kind: open 0, sold 1, allocated 2, moved 3, torn 4. Document 02, C-12: "the entry sold by agreement, counted as sold"
 abbrev pub kindOf : Units → List ℕ → ℕ → ℕ → ℕ
 kindOf u pools pool zero = column (u .counts) pool 1
-kindOf u pools pool (suc zero) = soldIn (u .counts) pools pool + getD (u .counts) (agreedAt pool) 0
+kindOf u pools pool (suc zero) = soldIn (u .counts) pools pool + agreedOf u pool
 kindOf u pools pool (suc (suc zero)) = column (u .counts) (4 + pool) 32
 kindOf u pools pool (suc (suc (suc zero))) = column (u .counts) (388 + pool) 32
 kindOf u pools pool (suc (suc (suc (suc zero)))) = column (u .counts) (516 + pool) 65
@@ -52,7 +59,7 @@ holdingOf u members pools prices m pool price =
     soldFor (u .counts) members pools prices m pool price
     + (if eqb (getD (u .allocation) pool 0) price then getD (u .counts) (allocatedAt pool m) 0 else 0)
     + (if eqb price zeroPrice then getD (u .counts) (movedAt pool m) 0 else 0)
-    + (if eqb (getD (u .buyers) pool 0) m && eqb (getD (u .noted) (260 + pool) 0) price then getD (u .counts) (agreedAt pool) 0 else 0)
+    + (if eqb (buyerOf u pool) m && eqb (salePriceOf u pool) price then agreedOf u pool else 0)
     else 0
 
 -- the units allocated or moved to a member

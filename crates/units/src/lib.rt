@@ -7,7 +7,7 @@ ghost use lib.ListN.{getD};
 ghost use Rattle.auction.specs.Price.{zeroPrice};
 ghost use Rattle.units.specs.Steps.{noUnits, transferred, repriced, withCounts, putUpUnits, sellUnits, allocateUnits, notedAt, tearUnits, missUnits, saleUnits};
 ghost use Rattle.units.specs.Groups.{poolAt, moveUnits};
-ghost use Rattle.units.specs.Shown.{openOf, agreedOf, column, soldIn, countOf, soldFor, holdingOf, passedOf, pricesOf};
+ghost use Rattle.units.specs.Shown.{openOf, agreedOf, buyerOf, salePriceOf, column, soldIn, countOf, soldFor, holdingOf, passedOf, pricesOf};
 
 // `counts`: 0 to 3 the open units of a pool; from 4 on those allocated to member m in pool p, at 4 × m + p; from 132 on those sold to a bid; from 388 on those
 // moved to a member; from 516 on those torn up that were open or allocated, and from 648 on those that were moved; from 776 on those of a pool sold by agreement.
@@ -339,6 +339,34 @@ impl Units {
         }
     }
 
+    // The member to whom a pool was sold by agreement.
+    pub fn buyer(self, pool: u8) -> u8
+        ensures { λ r. ⌜ r ≡ buyerOf self pool ⌝ }
+    {
+        let buyers = self.buyers;
+        match pool {
+            0 => buyers[0],
+            1 => buyers[1],
+            2 => buyers[2],
+            3 => buyers[3],
+            _ => 0,
+        }
+    }
+
+    // The price at which a pool was sold by agreement.
+    pub fn sale_price(self, pool: u8) -> u32
+        ensures { λ r. ⌜ r ≡ salePriceOf self pool ⌝ }
+    {
+        let noted = self.noted;
+        match pool {
+            0 => noted[260],
+            1 => noted[261],
+            2 => noted[262],
+            3 => noted[263],
+            _ => 0,
+        }
+    }
+
     // How many units of a pool are open (0), sold (1), allocated (2), moved (3) or torn (4). The pools of the bids are lent.
     pub fn count(self, pool: u8, kind: u8, pools: &[u8; 256]) -> u64
         ensures { λ r. ⌜ r ≡ countOf self (now (pools .entry)) pool kind ⌝ }
@@ -350,7 +378,7 @@ impl Units {
         let counts = self.counts;
         match kind {
             0 => column_of(&counts, at, 1),
-            1 => sold_in(&counts, pools, pool) + lists::wide16(counts[776 + at]),
+            1 => sold_in(&counts, pools, pool) + lists::wide16(self.agreed_units(pool)),
             2 => column_of(&counts, 4 + at, 32),
             3 => column_of(&counts, 388 + at, 32),
             4 => column_of(&counts, 516 + at, 65),
@@ -383,10 +411,8 @@ impl Units {
         let sold = sold_for(&counts, members, pools, prices, m, pool, price);
         let allocated = lists::number_if(allocation[at] == price, lists::wide16(counts[4 + k]));
         let moved = lists::number_if(price == 1_000_000, lists::wide16(counts[388 + k]));
-        let buyers = self.buyers;
-        let noted = self.noted;
-        let here = lists::both(buyers[at] == m, noted[260 + at] == price);
-        let agreed = lists::number_if(here, lists::wide16(counts[776 + at]));
+        let here = lists::both(self.buyer(pool) == m, self.sale_price(pool) == price);
+        let agreed = lists::number_if(here, lists::wide16(self.agreed_units(pool)));
         sold + allocated + moved + agreed
     }
 

@@ -1,5 +1,5 @@
 -- `units::Units::count` meets its contract. Assumes nothing.
-use mathlib.Core.Path.{refl, sym}
+use mathlib.Core.Path.{refl, sym, _∙_}
 use native.Mathlib.Omega.{arith}
 use Rattle.units.proofs.Numbers.{kind-past}
 use Rattle.units.proofs.Results.{count-past, count-there, sold-there, column-from}
@@ -19,14 +19,8 @@ column-of-requires c κs = search needs
 sold-in-requires : tie.Need-sold-in-requires
 sold-in-requires c κs = search needs
 
-add-wide16 : tie.Need-add-wide16
-add-wide16 c = search needs
-
-mul-wide16 : tie.Need-mul-wide16
-mul-wide16 c = search needs
-
-array-read-wide16 : tie.Need-array-read-wide16
-array-read-wide16 c = search needs
+agreed-units-requires : tie.Need-agreed-units-requires
+agreed-units-requires c κs = search needs
 
 wide16-requires : tie.Need-wide16-requires
 wide16-requires c κs = search needs
@@ -56,7 +50,7 @@ returns-2 : tie.Need-returns-2
 returns-2 c = count-there _ _ _ _ 0 _ (c .before .before .before .before .before .if1 .left) (c .before .before .match .keys1) (rw (← c .before .before .before .before .place .ensures .0) (c .column-of .ensures))
 
 returns-3 : tie.Need-returns-3
-returns-3 c = sold-there _ _ _ _ _ _ _ (c .before .before .before .before .before .before .if1 .left) (c .before .before .before .match .keys2) (c .before .before .before .before .before .place .ensures .0) (c .before .sold-in .ensures .0) (c .wide16 .ensures .0)
+returns-3 c = sold-there _ _ _ _ _ _ (c .before .before .before .before .before .before .before .if1 .left) (c .before .before .before .before .match .keys2) (c .before .before .sold-in .ensures .0) (c .wide16 .ensures .0 ∙ c .before .agreed-units .ensures)
 
 returns-4 : tie.Need-returns-4
 returns-4 c = count-there _ _ _ _ 2 _ (c .before .before .before .before .before .if1 .left) (c .before .before .match .keys3) (column-from _ 4 _ _ _ _ (c .before .before .before .before .place .ensures .0) (c .column-of2 .ensures))
@@ -78,9 +72,7 @@ count-spec =
     place-requires
     column-of-requires
     sold-in-requires
-    add-wide16
-    mul-wide16
-    array-read-wide16
+    agreed-units-requires
     wide16-requires
     add-result
     add-column-of

@@ -1,4 +1,5 @@
 -- `units::Units::holding` meets its contract. Assumes nothing.
+use mathlib.Core.Path.{_∙_}
 use native.Mathlib.Omega.{arith}
 use lib.Dec.{eqb}
 use lib.ListN.{getD}
@@ -66,29 +67,17 @@ wide16-requires-2 c κs = search needs
 number-if-requires-2 : tie.Need-number-if-requires-2
 number-if-requires-2 c κs = search needs
 
-array-read-both : tie.Need-array-read-both
-array-read-both c = search needs
+buyer-requires : tie.Need-buyer-requires
+buyer-requires c κs = search needs
 
-add-both : tie.Need-add-both
-add-both c = search needs
-
-mul-both : tie.Need-mul-both
-mul-both c = search needs
-
-array-read-both-2 : tie.Need-array-read-both-2
-array-read-both-2 c = search needs
+sale-price-requires : tie.Need-sale-price-requires
+sale-price-requires c κs = search needs
 
 both-requires : tie.Need-both-requires
 both-requires c κs = search needs
 
-add-wide16-3 : tie.Need-add-wide16-3
-add-wide16-3 c = search needs
-
-mul-wide16-3 : tie.Need-mul-wide16-3
-mul-wide16-3 c = search needs
-
-array-read-wide16-3 : tie.Need-array-read-wide16-3
-array-read-wide16-3 c = search needs
+agreed-units-requires : tie.Need-agreed-units-requires
+agreed-units-requires c κs = search needs
 
 wide16-requires-3 : tie.Need-wide16-requires-3
 wide16-requires-3 c κs = search needs
@@ -97,25 +86,25 @@ number-if-requires-3 : tie.Need-number-if-requires-3
 number-if-requires-3 c κs = search needs
 
 add-result : tie.Need-add-result
-add-result c = let a = c .before .before .before .before .before .before .before .before .before .before .before .before .before .before .before .before .before .args in
-    let small = if-le (eqb (getD (a .self .allocation) (c .before .before .before .before .before .before .before .before .before .before .before .before .before .before .place .result) 0) (a .price)) _ _ most16 (c .before .before .before .before .before .before .before .number-if .ensures) (c .before .before .before .before .before .before .before .before .wide16 .ensures .1) in
+add-result c = let a = c .before .before .before .before .before .before .before .before .before .before .before .before .before .before .before .before .before .before .args in
+    let small = if-le (eqb (getD (a .self .allocation) (c .before .before .before .before .before .before .before .before .before .before .before .before .before .before .before .place .result) 0) (a .price)) _ _ most16 (c .before .before .before .before .before .before .before .before .number-if .ensures) (c .before .before .before .before .before .before .before .before .before .wide16 .ensures .1) in
     record { fits = omega arith }
 
 add-result-2 : tie.Need-add-result-2
-add-result-2 c = let a = c .before .before .before .before .before .before .before .before .before .before .before .before .before .before .before .before .before .args in
-    let small = if-le (eqb (getD (a .self .allocation) (c .before .before .before .before .before .before .before .before .before .before .before .before .before .before .place .result) 0) (a .price)) _ _ most16 (c .before .before .before .before .before .before .before .number-if .ensures) (c .before .before .before .before .before .before .before .before .wide16 .ensures .1) in
-    let fewer = if-le (eqb (a .price) 1000000) _ _ most16 (c .before .before .before .before .before .number-if2 .ensures) (c .before .before .before .before .before .before .wide162 .ensures .1) in
+add-result-2 c = let a = c .before .before .before .before .before .before .before .before .before .before .before .before .before .before .before .before .before .before .args in
+    let small = if-le (eqb (getD (a .self .allocation) (c .before .before .before .before .before .before .before .before .before .before .before .before .before .before .before .place .result) 0) (a .price)) _ _ most16 (c .before .before .before .before .before .before .before .before .number-if .ensures) (c .before .before .before .before .before .before .before .before .before .wide16 .ensures .1) in
+    let fewer = if-le (eqb (a .price) 1000000) _ _ most16 (c .before .before .before .before .before .before .number-if2 .ensures) (c .before .before .before .before .before .before .before .wide162 .ensures .1) in
     record { fits = omega arith }
 
 add-result-3 : tie.Need-add-result-3
-add-result-3 c = let a = c .before .before .before .before .before .before .before .before .before .before .before .before .before .before .before .before .before .args in
-    let small = if-le (eqb (getD (a .self .allocation) (c .before .before .before .before .before .before .before .before .before .before .before .before .before .before .place .result) 0) (a .price)) _ _ most16 (c .before .before .before .before .before .before .before .number-if .ensures) (c .before .before .before .before .before .before .before .before .wide16 .ensures .1) in
-    let fewer = if-le (eqb (a .price) 1000000) _ _ most16 (c .before .before .before .before .before .number-if2 .ensures) (c .before .before .before .before .before .before .wide162 .ensures .1) in
-    let last = if-le (c .before .before .both .result) _ _ most16 (c .number-if3 .ensures) (c .before .wide163 .ensures .1) in
+add-result-3 c = let a = c .before .before .before .before .before .before .before .before .before .before .before .before .before .before .before .before .before .before .args in
+    let small = if-le (eqb (getD (a .self .allocation) (c .before .before .before .before .before .before .before .before .before .before .before .before .before .before .before .place .result) 0) (a .price)) _ _ most16 (c .before .before .before .before .before .before .before .before .number-if .ensures) (c .before .before .before .before .before .before .before .before .before .wide16 .ensures .1) in
+    let fewer = if-le (eqb (a .price) 1000000) _ _ most16 (c .before .before .before .before .before .before .number-if2 .ensures) (c .before .before .before .before .before .before .before .wide162 .ensures .1) in
+    let last = if-le (c .before .before .before .both .result) _ _ most16 (c .number-if3 .ensures) (c .before .wide163 .ensures .1) in
     record { fits = omega arith }
 
 returns-3 : tie.Need-returns-3
-returns-3 c = holding-there _ _ _ _ _ _ _ _ _ _ _ _ _ _ _ _ _ (c .before .before .before .before .before .before .before .before .before .before .before .before .before .before .before .before .if1 .left) (c .before .before .before .before .before .before .before .before .before .before .before .before .before .before .before .if2 .left) (c .before .before .before .before .before .before .before .before .before .before .before .before .before .before .place .ensures .0) (c .before .before .before .before .before .before .before .before .before .before .before .before .before .place2 .ensures .0) (c .before .before .before .before .before .before .before .before .before .sold-for .ensures .0) (c .before .before .before .before .before .before .before .before .wide16 .ensures .0) (c .before .before .before .before .before .before .before .number-if .ensures) (c .before .before .before .before .before .before .wide162 .ensures .0) (c .before .before .before .before .before .number-if2 .ensures) (c .before .before .both .ensures) (c .before .wide163 .ensures .0) (c .number-if3 .ensures)
+returns-3 c = holding-there _ _ _ _ _ _ _ _ _ _ _ _ _ _ _ _ _ (c .before .before .before .before .before .before .before .before .before .before .before .before .before .before .before .before .before .if1 .left) (c .before .before .before .before .before .before .before .before .before .before .before .before .before .before .before .before .if2 .left) (c .before .before .before .before .before .before .before .before .before .before .before .before .before .before .before .place .ensures .0) (c .before .before .before .before .before .before .before .before .before .before .before .before .before .before .place2 .ensures .0) (c .before .before .before .before .before .before .before .before .before .before .sold-for .ensures .0) (c .before .before .before .before .before .before .before .before .before .wide16 .ensures .0) (c .before .before .before .before .before .before .before .before .number-if .ensures) (c .before .before .before .before .before .before .before .wide162 .ensures .0) (c .before .before .before .before .before .before .number-if2 .ensures) (c .before .before .before .both .ensures ∙ rw (c .before .before .before .before .before .buyer .ensures, c .before .before .before .before .sale-price .ensures)) (c .before .wide163 .ensures .0 ∙ c .before .before .agreed-units .ensures) (c .number-if3 .ensures)
 
 pub holding-spec : {M : Type 1} → statement M
 holding-spec =
@@ -140,14 +129,10 @@ holding-spec =
     array-read-wide16-2
     wide16-requires-2
     number-if-requires-2
-    array-read-both
-    add-both
-    mul-both
-    array-read-both-2
+    buyer-requires
+    sale-price-requires
     both-requires
-    add-wide16-3
-    mul-wide16-3
-    array-read-wide16-3
+    agreed-units-requires
     wide16-requires-3
     number-if-requires-3
     add-result
