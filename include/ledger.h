@@ -87,6 +87,16 @@ bool ledger_stream(void);
  * 16,000,000,000 or a weight above 1,000,000,000; the shares are then as they were. */
 uint8_t ledger_split(uint64_t q, const uint64_t *weights, size_t weights_len, uint64_t *shares, size_t shares_len);
 
+/* What a ranking led to. */
+struct ledger_ranked {
+    uint8_t answer; /* 0, or 1 or 5 where ledger_split answers them */
+    size_t named;   /* how many places are named: all, or none where the weights add up to 0 or the answer is not 0 */
+};
+
+/* Ranks the places of the weights, 0 the first of them, in the order in which a split hands out what the floors leave (document 02, C-13): larger remainders of
+ * q * weight by the sum of the weights first, ties to the earlier place. `places` is as long as the weights; where none is named it is as it was. */
+struct ledger_ranked ledger_ranking(uint64_t q, const uint64_t *weights, size_t weights_len, size_t *places, size_t places_len);
+
 /* A bid: its units, and its price in cents, positive paid to the house and negative by the house. */
 struct ledger_bid {
     uint16_t units;

@@ -3,5 +3,13 @@ pub mod Shares
 pub mod Weightless
 pub mod Among
 pub mod Answers
+pub mod Sorting
+pub mod Merging
+pub mod Halving
+pub mod Inserting
+pub mod Ranking
 pub mod Held
+pub mod Sweeping
+pub mod Claims
 pub mod Examples
+pub mod WorkedRankings

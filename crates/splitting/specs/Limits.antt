@@ -1,12 +1,13 @@
--- The function `splitting::split`: its limits, what it answers, and what it leaves in the shares that are lent to it.
+-- The functions `splitting::split` and `splitting::ranking`: their limits, what they answer, and what they leave in the run that is lent to them.
 use mathlib.Core.Bool.{Bool, _&&_, not}
-use mathlib.Core.List.{List, [], _∷_}
+use mathlib.Core.List.{List, [], _∷_, _++_}
 use Prim.Native.Nat.{ℕ}
 use lib.Dec.{leb, eqb}
-use lib.ListN.{length}
+use lib.ListN.{length, drop}
 use Rattle.lists.specs.Lists.{if_then_else_, all}
 use Rattle.lists.specs.Tests.{firstOf}
 use Rattle.splitting.specs.Split.{split}
+use Rattle.splitting.specs.Ranking.{ranking}
 
 -- the most places, the most that is split, and the largest weight: q × w then fits 64 bits
 abbrev pub placeLimit : ℕ
@@ -40,3 +41,18 @@ refusal q ws n =
 -- the split of q by the weights, written into the shares
 unfoldable pub splitInto : ℕ → List ℕ → List ℕ → Answer
 splitInto q ws shares = answered (refusal q ws (length shares)) (split q ws) shares
+
+-- an answer, how many places are named, and what the lent run holds
+abbrev pub RankedAnswer : Type 0
+RankedAnswer = ℕ × ℕ × List ℕ
+
+-- the list ks written at the front of a run
+abbrev pub atFront : List ℕ → List ℕ → List ℕ
+atFront ks l = ks ++ drop (length ks) l
+
+-- the ranking of the places, written into a run as long as the weights, with the answers of a split; where nothing is named the run is untouched
+unfoldable pub rankingInto : ℕ → List ℕ → List ℕ → RankedAnswer
+rankingInto q ws run =
+    let a = refusal q ws (length run) in
+    let ks = if eqb a 0 then ranking q ws else [] in
+    (a, length ks, atFront ks run)
