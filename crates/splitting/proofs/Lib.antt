@@ -7,7 +7,7 @@ pub mod Sorting
 pub mod Merging
 pub mod Halving
 pub mod Inserting
-pub mod Ranking
+pub mod Rankings
 pub mod Held
 pub mod Sweeping
 pub mod Claims
