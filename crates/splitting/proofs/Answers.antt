@@ -1,4 +1,5 @@
--- What `splitting::split` answers: 0 exactly within its limits, and then the shares hold the split; otherwise they are untouched. Assumes nothing.
+-- What `splitting::split` and `ranking` answer: 0 exactly within their limits, and then the lent run holds what was asked for; otherwise it is untouched. Assumes
+-- nothing.
 use mathlib.Core.Path.{_≡_, refl, ap}
 use mathlib.Core.Bool.{_&&_, not}
 use mathlib.Core.List.{List}
@@ -12,7 +13,8 @@ use Rattle.lists.proofs.Bools.{and-left, and-right, and-both}
 use Rattle.lists.proofs.Counts.{all-get, all-of}
 use Rattle.lists.proofs.Passed.{passed, accepted as none-applies}
 use Rattle.splitting.specs.Split.{split}
-use Rattle.splitting.specs.Limits.{placeLimit, amountLimit, weightLimit, weightOk, Answer, answered, refusal, splitInto}
+use Rattle.splitting.specs.Ranking.{ranking}
+use Rattle.splitting.specs.Limits.{placeLimit, amountLimit, weightLimit, weightOk, Answer, RankedAnswer, answered, atFront, refusal, splitInto, rankingInto}
 use Rattle.splitting.specs.Parts.{Within}
 
 -- ---- an answer with a lent run
@@ -85,3 +87,17 @@ module _ (q : ℕ) (ws shares : List ℕ) where
   pub refused-untouched : (splitInto q ws shares .0 ≡ 0 → ⊥) → splitInto q ws shares .1 ≡ shares
   unfolding splitInto
   refused-untouched h = ap (λ (a : Answer). a .1) (answered-not-0 (refusal q ws (length shares)) (split q ws) shares h)
+
+-- ---- the ranking
+
+module _ (q : ℕ) (ws run : List ℕ) where
+  -- where the answer is not 0 nothing is named, and the run is untouched
+  pub ranked-untouched : (r : ℕ) → r ≡ refusal q ws (length run) → (r ≡ 0 → ⊥) → _≡_ {A = RankedAnswer} (r, 0, run) (rankingInto q ws run)
+  unfolding rankingInto
+  ranked-untouched r e n = rw (← e, ne-eqb r 0 n)
+
+  -- where it is 0 the ranking stands at the front of the run
+  pub ranked-done : (r n : ℕ) (out : List ℕ) → r ≡ refusal q ws (length run) → r ≡ 0
+      → _≡_ {A = Answer} (n, out) (length (ranking q ws), atFront (ranking q ws) run) → _≡_ {A = RankedAnswer} (r, n, out) (rankingInto q ws run)
+  unfolding rankingInto
+  ranked-done r n out e z o = rw (← e, z) (ap (λ (a : Answer). (0, a .0, a .1)) o)
