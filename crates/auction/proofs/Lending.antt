@@ -3,13 +3,13 @@ use mathlib.Core.Path.{_≡_, refl, sym, ap, _∙_}
 use mathlib.Core.Logic.{⊎-elim}
 use mathlib.Core.Bool.{false, _&&_, and-false}
 use mathlib.Core.List.{List, [], _∷_, map, foldl}
-use Prim.Native.Nat.{ℕ, _+_, _≤_, _<_, min}
+use Prim.Native.Nat.{ℕ, suc, _+_, _≤_, _<_, min}
 use native.Mathlib.Numerals.{add-one}
 use native.Mathlib.Omega.{arith}
 use lib.Dec.{leb, eqb}
 use lib.IntN.{ℤ, pos}
 use lib.ListN.{length, getD, set, take, drop, replicate, length-map, length-replicate, length-take, drop-of-length-le}
-use lib.Seq.{sets, sets-eq, take-at, take-all, drop-cons}
+use lib.Seq.{getD-take, sets, sets-eq, take-at, take-all, drop-cons}
 use borrow.Author.Tests.{lt-ltb, le-leb, lt-leb, eqb-true}
 use Rattle.lists.specs.Tests.{firstOf}
 use Rattle.lists.proofs.Bools.{cases, lt-or-le}
@@ -103,23 +103,30 @@ cap ys = min (length ys) bidLimit
 abbrev pub taken : List BidRecord → List BidRecord
 taken ys = take bidLimit ys
 
-pub taken-length : (ys : List BidRecord) → length (taken ys) ≡ cap ys
+taken-length : (ys : List BidRecord) → length (taken ys) ≡ cap ys
 taken-length ys = omega (arith, length-take bidLimit ys)
 
-pub taken-gathered : (ys : List BidRecord) → bidsOf (taken ys) ≡ gathered ys
-unfolding gathered
-taken-gathered ys = refl
+-- the arrays, of which the first i places are used
+abbrev pub bidsIn : List ℕ → List ℕ → ℕ → Bids
+bidsIn us ps i = record { units = us; prices = ps; n = i }
+
+-- none is read yet
+pub read-none : (ys : List BidRecord) → foldl withBid (bidsIn (replicate bidLimit 0) (replicate bidLimit 0) 0) (drop 0 (taken ys)) ≡ gathered ys
+unfolding gathered bidsOf noBids
+read-none ys = refl
 
 -- a turn: what is left, added to the bids with one more, is what was left before
-pub fold-turn : (ys : List BidRecord) (i : ℕ) (f g : Bids) → i < length ys → g ≡ withBid f (getD ys i noBid) → foldl withBid f (drop i ys) ≡ bidsOf ys
-    → foldl withBid g (drop (i + 1) ys) ≡ bidsOf ys
-fold-turn ys i f g l e so-far = rw (e, add-one) (rw (drop-cons ys i noBid l) at so-far)
+pub read-more : (ys : List BidRecord) (us ps : List ℕ) (i : ℕ) → i < cap ys → foldl withBid (bidsIn us ps i) (drop i (taken ys)) ≡ gathered ys
+    → foldl withBid (bidsIn (set us i (getD ys i noBid .units)) (set ps i (held (getD ys i noBid .price))) (i + 1)) (drop (i + 1) (taken ys)) ≡ gathered ys
+read-more ys us ps i l so-far =
+    let b = getD ys i noBid in
+    let f = bidsIn us ps i in
+    let left : drop i (taken ys) ≡ b ∷ drop (i + 1) (taken ys)
+    = rw (add-one i) (drop-cons (taken ys) i noBid (omega (arith, taken-length ys)) ∙ ap (λ (c : BidRecord). c ∷ drop (suc i) (taken ys)) (getD-take bidLimit ys i noBid (omega arith))) in
+    ap (λ (g : Bids). foldl withBid g (drop (i + 1) (taken ys))) (sym (with-room f b (omega arith))) ∙ ap (foldl withBid f) (sym left) ∙ so-far
 
 -- none is left
-pub fold-done : (ys : List BidRecord) (i : ℕ) (f : Bids) → length ys ≤ i → foldl withBid f (drop i ys) ≡ bidsOf ys → f ≡ bidsOf ys
-fold-done ys i f l so-far = rw (drop-of-length-le ys l) at so-far
-
--- none is added yet
-pub fold-start : (ys : List BidRecord) (f : Bids) → f ≡ noBids → foldl withBid f (drop 0 ys) ≡ bidsOf ys
-unfolding bidsOf
-fold-start ys f e = rw e
+pub read-all : (ys : List BidRecord) (us ps : List ℕ) (i : ℕ) → cap ys ≤ i → foldl withBid (bidsIn us ps i) (drop i (taken ys)) ≡ gathered ys → bidsIn us ps i ≡ gathered ys
+read-all ys us ps i l so-far =
+    let none : length (taken ys) ≤ i = omega (arith, taken-length ys) in
+    rw (drop-of-length-le (taken ys) none) at so-far

@@ -8,3 +8,4 @@ pub mod Cents
 pub mod Examples
 pub mod Signed
 pub mod Lending
+pub mod Arrays

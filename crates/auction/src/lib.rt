@@ -10,7 +10,7 @@ ghost use Rattle.auction.specs.Price.{priceLimit, priceOk};
 ghost use Rattle.auction.specs.Auction.{allot};
 ghost use Rattle.auction.specs.Limits.{unitLimit, bidLimit, placeLimit, refusal, allotInto};
 ghost use Rattle.auction.specs.Lent.{held, aloneLent};
-ghost use Rattle.auction.specs.Gathered.{noBids, withBid, gathered, aloneOver};
+ghost use Rattle.auction.specs.Gathered.{gathered, aloneOver};
 ghost use Rattle.auction.specs.Edge.{BidsFit, Ready, countedAt, from, Edge, belowAt, below, settled};
 
 // The most bids of an auction that is run alone, and the most places of one that is not; the most units that are open or bid; the highest price.
@@ -266,32 +266,6 @@ fn held(price: i32) -> u32
     }
 }
 
-// No bid yet.
-fn no_bids() -> Bids
-    ensures { λ r. ⌜ r ≡ noBids ⌝ }
-{
-    Bids {
-        units: [0; BID_LIMIT],
-        prices: [0; BID_LIMIT],
-        n: 0,
-    }
-}
-
-// One bid more, where there is room for it.
-fn with_bid(bids: Bids, b: BidRecord) -> Bids
-    ensures { λ r. ⌜ r ≡ withBid bids b ⌝ }
-{
-    let mut next = bids;
-    let i = next.n;
-    if i < BID_LIMIT {
-        let price = held(b.price);
-        next.units[i] = b.units as u64;
-        next.prices[i] = price;
-        next.n = i + 1;
-    }
-    next
-}
-
 // How many records of a lent run are read: all, or as many as fit of a longer one.
 fn capped(n: usize) -> usize
     ensures { λ r. ⌜ r ≡ min n bidLimit ⌝ }
@@ -299,18 +273,25 @@ fn capped(n: usize) -> usize
     if n < BID_LIMIT { n } else { BID_LIMIT }
 }
 
-// The bids of a lent run.
+// The bids of a lent run. Each record goes straight to its place in the arrays, since a struct that is passed on is copied whole.
 fn gather(bids: &[BidRecord]) -> Bids
     ensures { λ r. ⌜ r ≡ gathered (now (bids .entry)) ⌝ }
 {
-    let mut f = no_bids();
     let n = capped(bids.len());
+    let mut units = [0u64; BID_LIMIT];
+    let mut prices = [0u32; BID_LIMIT];
     let mut i = 0;
     while i < n {
-        f = with_bid(f, bids[i]);
+        let b = bids[i];
+        units[i] = b.units as u64;
+        prices[i] = held(b.price);
         i += 1;
     }
-    f
+    Bids {
+        units: units,
+        prices: prices,
+        n: i,
+    }
 }
 
 // The auction run alone over the first n of the bids.
