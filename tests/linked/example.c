@@ -101,6 +101,15 @@ int main(void) {
     const uint64_t weights[] = {5, 3};
     uint64_t shares[] = {0, 0};
     wrong |= ledger_split(6, weights, 2, shares, 2) != 0 || shares[0] != 4 || shares[1] != 2;
+    /* Its places by remainder, with one of weight 0 in front; none where the weights add up to 0 or the runs differ in length. */
+    const uint64_t ranked_weights[] = {0, 3, 5};
+    size_t places[] = {9, 9, 9};
+    struct ledger_ranked ranked = ledger_ranking(6, ranked_weights, 1, places, 1);
+    wrong |= ranked.answer != 0 || ranked.named != 0 || places[0] != 9;
+    ranked = ledger_ranking(6, ranked_weights, 3, places, 2);
+    wrong |= ranked.answer != 1 || ranked.named != 0 || places[0] != 9;
+    ranked = ledger_ranking(6, ranked_weights, 3, places, 3);
+    wrong |= ranked.answer != 0 || ranked.named != 3 || places[0] != 2 || places[1] != 1 || places[2] != 0;
     const struct ledger_bid bids[] = {{4, -10}, {5, -20}, {3, -20}, {5, -40}};
     uint64_t counts[] = {0, 0, 0, 0};
     wrong |= ledger_auction_records(bids, 4, 10, -30, counts, 4) != 0;

@@ -1,4 +1,4 @@
-"""Deliberate mistakes in the counts model: name, file, the text that is there once, and what stands there instead."""
+"""Deliberate mistakes in the counts model and in the model's ranking: name, file, the text that is there once, and what stands there instead."""
 
 COUNTS = "model/src/counts.rs"
 SPLIT = "model/src/split.rs"
@@ -382,4 +382,14 @@ IN_HOLDINGS = [
     ("owes: the call after a MOVE", COUNTS, "        if member < MEMBERS { self.owed(member) } else { 0 }", "        if member < MEMBERS { self.member[member].call - self.member[member].paid } else { 0 }"),
     ("prefunded: all or none", COUNTS, "self.stage.map(|_| self.held_ready())", "self.stage.filter(|s| *s != Stage::Setup).map(|_| self.held_ready())"),
     ("a declined MOVE leaves a trace", COUNTS, "        if owed == 0 {\n            return 14;\n        }\n        let still", "        if owed == 0 {\n            self.least_bid = 1;\n            return 14;\n        }\n        let still"),
+]
+
+# These show only in the ranking, which no call shows: `rankings` of `linked` holds the proved one to it.
+IN_RANKING = [
+    ("ranking: ties to the later", SPLIT, "Ordering::Equal => one < other,", "Ordering::Equal => one > other,"),
+    ("ranking: a place of weight 0 left out", SPLIT, "    }\n    places\n}\n", "    }\n    places.retain(|&place| weights[place] > 0);\n    places\n}\n"),
+    ("ranking: there where W = 0", SPLIT, "return Vec::new();", "return (0..weights.len()).collect();"),
+    ("ranking: none where nothing is left", SPLIT,
+     "    let before = ", "    if remainders.iter().all(|&remainder| remainder == 0) {\n        return Vec::new();\n    }\n    let before = "),
+    ("ranking: smaller remainders first", SPLIT, "remainders[one].cmp(&remainders[other])", "remainders[other].cmp(&remainders[one])"),
 ]

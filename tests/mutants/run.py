@@ -1,8 +1,9 @@
 #!/usr/bin/env python3
-"""Tries the generator's sharpness: builds the counts model with one mistake at a time and lets `compare` look for it.
+"""Tries the generator's sharpness: builds the counts model with one mistake at a time and lets `compare` look for it. Mistakes in the model's ranking
+are looked for by `rankings` of `linked`, beside the proved one.
 
 usage: mutants/run.py [--inputs N] [--seed S] [WORD ...]     only the mistakes whose name holds a WORD
-Run from the tests folder, after `cargo build --release --offline`.
+Run from the tests folder, after `cargo build --release --offline`, and for the ranking after `rt staticlib` of what `linked` links.
 """
 
 import re
@@ -12,7 +13,7 @@ import sys
 import tempfile
 from pathlib import Path
 
-from mistakes import IN_HOLDINGS, IN_TEXT
+from mistakes import IN_HOLDINGS, IN_RANKING, IN_TEXT
 
 TESTS = Path(__file__).resolve().parent.parent
 COMPARE = TESTS / "target/release/compare"
@@ -26,9 +27,9 @@ def edited(text, edits):
     return text
 
 
-def build(copy, package):
-    command = ["cargo", "build", "--offline", "--quiet", "-p", package]
-    done = subprocess.run(command, cwd=copy, capture_output=True, text=True)
+def build(workspace, *which):
+    command = ["cargo", "build", "--offline", "--quiet", *which]
+    done = subprocess.run(command, cwd=workspace, capture_output=True, text=True)
     if done.returncode != 0:
         raise SystemExit(done.stderr)
 
@@ -43,6 +44,30 @@ def look(command, inputs, seed):
         return None
     length = shrunk.group(1) if shrunk else "?"
     return f"found at list {int(found.group(1)) - int(seed) + 1} ({found.group(2)}), shrunk to {length} calls"
+
+
+def look_in_text(copy, inputs, seed):
+    build(copy, "-p", "model")
+    return look([COMPARE, "--program", copy / "target/debug/ledger-model", "--model", "roll"], inputs, seed)
+
+
+def look_in_holdings(copy, inputs, seed):
+    build(copy, "-p", "compare")
+    return look([copy / "target/debug/compare", "--self"], inputs, seed)
+
+
+def look_in_ranking(copy, inputs, seed):
+    build(copy / "linked", "--bin", "rankings")
+    done = subprocess.run([copy / "linked/target/debug/rankings", inputs, seed], capture_output=True, text=True)
+    found = re.search(r"ranking (\d+ by \[.*?\]) .*, the model", done.stderr)
+    if (done.returncode != 0) != bool(found):
+        raise SystemExit(done.stdout[-3000:] + done.stderr[-3000:])
+    return found and f"found at {found.group(1)}"
+
+
+LOOKS = [(mistake, look_in_text) for mistake in IN_TEXT]
+LOOKS += [(mistake, look_in_holdings) for mistake in IN_HOLDINGS]
+LOOKS += [(mistake, look_in_ranking) for mistake in IN_RANKING]
 
 
 def main():
@@ -60,18 +85,14 @@ def main():
     with tempfile.TemporaryDirectory() as folder:
         copy = Path(folder) / "tests"
         shutil.copytree(TESTS, copy, ignore=shutil.ignore_patterns("target"))
-        for name, file, *edits in IN_TEXT + IN_HOLDINGS:
+        # Where the copy of `linked` looks for the proved libraries.
+        (Path(folder) / "target").symlink_to(TESTS.parent / "target")
+        for (name, file, *edits), look_for in LOOKS:
             if words and not any(word in name for word in words):
                 continue
             original = (TESTS / file).read_text()
             (copy / file).write_text(edited(original, edits))
-            if (name, file, *edits) in IN_TEXT:
-                build(copy, "model")
-                command = [COMPARE, "--program", copy / "target/debug/ledger-model", "--model", "roll"]
-            else:
-                build(copy, "compare")
-                command = [copy / "target/debug/compare", "--self"]
-            result = look(command, options["--inputs"], options["--seed"])
+            result = look_for(copy, options["--inputs"], options["--seed"])
             print(f"{name}: {result or 'NOT FOUND'}", flush=True)
             count += 1
             if result is None:

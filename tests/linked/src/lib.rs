@@ -1,8 +1,18 @@
-//! The proved functions of splitting, the auction, the ledger and the daily positions, as safe Rust, and random numbers for the tests.
+//! The proved functions of splitting, the auction, the ledger and the daily positions, as safe Rust, and random numbers and inputs for the tests.
 pub use model::BidRecord;
 
+pub mod inputs;
 pub mod ledger;
 pub mod positions;
+pub mod tally;
+
+/// What a ranking led to; `struct ledger_ranked` of the header.
+#[repr(C)]
+#[derive(Clone, Copy, Debug, PartialEq, Eq)]
+pub struct Ranked {
+    pub answer: u8,
+    pub named: usize,
+}
 
 mod c {
     use model::BidRecord;
@@ -10,6 +20,7 @@ mod c {
     #[link(name = "splitting", kind = "static")]
     unsafe extern "C" {
         pub fn ledger_split(q: u64, weights: *const u64, n: usize, shares: *mut u64, m: usize) -> u8;
+        pub fn ledger_ranking(q: u64, weights: *const u64, n: usize, places: *mut usize, m: usize) -> super::Ranked;
     }
 
     #[link(name = "auction", kind = "static")]
@@ -38,6 +49,11 @@ mod c {
 /// `ledger_split` of `splitting`.
 pub fn split(q: u64, weights: &[u64], shares: &mut [u64]) -> u8 {
     unsafe { c::ledger_split(q, weights.as_ptr(), weights.len(), shares.as_mut_ptr(), shares.len()) }
+}
+
+/// `ledger_ranking` of `splitting`.
+pub fn ranking(q: u64, weights: &[u64], places: &mut [usize]) -> Ranked {
+    unsafe { c::ledger_ranking(q, weights.as_ptr(), weights.len(), places.as_mut_ptr(), places.len()) }
 }
 
 /// `ledger_auction` of `auction`.

@@ -1,4 +1,4 @@
-//! A model of document 01, written from the paper alone: splitting, the auction, the ledger twice, and the program's text; and of C-11 and C-12 of document 02.
+//! A model of document 01, written from the paper alone: splitting, the auction, the ledger twice, and the program's text; and of C-11 to C-13 of document 02.
 
 pub mod auction;
 pub mod counts;
@@ -15,5 +15,5 @@ pub use counts::Counts;
 pub use ledger::{Ledger, MemberOutcome, Outcome, Stage};
 pub use positions::{Ring, expected, first_declined, sums_afresh};
 pub use roll::Roll;
-pub use split::{split, split_alone};
+pub use split::{floors, ranking, ranking_alone, split, split_alone, swept};
 pub use text::{print, stream};

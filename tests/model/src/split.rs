@@ -1,6 +1,6 @@
-//! Splitting by largest remainder.
+//! Splitting by largest remainder, and the ranking of C-13 of document 02.
 
-use std::cmp::Reverse;
+use std::cmp::{Ordering, Reverse};
 
 /// The public entry takes at most this many weights.
 pub const WEIGHTS_LIMIT: usize = 512;
@@ -29,14 +29,78 @@ pub fn split(q: u64, weights: &[u64]) -> Vec<u64> {
     shares
 }
 
-/// The public entry: 1 where the lengths differ or pass the limit, then 5 where a number is out of range, else 0 and the shares.
-pub fn split_alone(q: u64, weights: &[u64], shares: &mut [u64]) -> u8 {
-    if weights.len() != shares.len() || weights.len() > WEIGHTS_LIMIT {
+/// "The ranking names each place of the weights exactly once, larger remainders first, ties as splitting has them." "If W = 0
+/// there is no ranking and no sweep." `split` sorts; here each place is put behind as many as come before it.
+pub fn ranking(q: u64, weights: &[u64]) -> Vec<usize> {
+    let sum = sum_of(weights);
+    if sum == 0 {
+        return Vec::new();
+    }
+    let remainders: Vec<u128> = weights.iter().map(|&weight| u128::from(weight) * u128::from(q) % sum).collect();
+    let before = |one: usize, other: usize| match remainders[one].cmp(&remainders[other]) {
+        Ordering::Greater => true,
+        Ordering::Equal => one < other,
+        Ordering::Less => false,
+    };
+    let all = 0..weights.len();
+    let mut places = vec![usize::MAX; weights.len()];
+    for place in all.clone() {
+        places[all.clone().filter(|&other| before(other, place)).count()] = place;
+    }
+    places
+}
+
+/// "The sweep adds one at as many of its first places as there are odd cents, and nowhere else." "Every share is as before."
+pub fn swept(q: u64, weights: &[u64]) -> Vec<u64> {
+    let ranking = ranking(q, weights);
+    if ranking.is_empty() {
+        return vec![0; weights.len()];
+    }
+    let mut shares = floors(q, weights);
+    let odd_cents = q - shares.iter().sum::<u64>();
+    for place in 0..odd_cents as usize {
+        shares[ranking[place]] += 1;
+    }
+    shares
+}
+
+/// "each share is floor(q × w / W)", where W is not 0.
+pub fn floors(q: u64, weights: &[u64]) -> Vec<u64> {
+    let sum = sum_of(weights);
+    weights.iter().map(|&weight| (u128::from(weight) * u128::from(q) / sum) as u64).collect()
+}
+
+fn sum_of(weights: &[u64]) -> u128 {
+    weights.iter().copied().map(u128::from).sum()
+}
+
+/// What both entries below refuse: 1 where the lengths differ or pass the limit, then 5 where a number is out of range, else 0.
+pub fn refusal(q: u64, weights: &[u64], room: usize) -> u8 {
+    if weights.len() != room || weights.len() > WEIGHTS_LIMIT {
         return 1;
     }
     if q > AMOUNT_LIMIT || weights.iter().any(|&w| w > WEIGHT_LIMIT) {
         return 5;
     }
-    shares.copy_from_slice(&split(q, weights));
     0
+}
+
+/// The public entry: the answer, and the shares where it is 0.
+pub fn split_alone(q: u64, weights: &[u64], shares: &mut [u64]) -> u8 {
+    let answer = refusal(q, weights, shares.len());
+    if answer == 0 {
+        shares.copy_from_slice(&split(q, weights));
+    }
+    answer
+}
+
+/// The ranking as a public entry: the answer, and how many places are named. Where none is, `places` is as it was.
+pub fn ranking_alone(q: u64, weights: &[u64], places: &mut [usize]) -> (u8, usize) {
+    let answer = refusal(q, weights, places.len());
+    if answer != 0 {
+        return (answer, 0);
+    }
+    let ranking = ranking(q, weights);
+    places[..ranking.len()].copy_from_slice(&ranking);
+    (0, ranking.len())
 }

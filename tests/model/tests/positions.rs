@@ -1,7 +1,11 @@
 //! C-11 of document 02: cases worked by hand, each over both writings, and the two against each other on random runs.
 
+#[path = "common/random.rs"]
+mod random;
+
 use model::positions::{POSITION_LIMIT, WINDOW};
 use model::{Ring, expected, first_declined, sums_afresh};
+use random::Random;
 
 /// What stands in the shares before a run.
 const OLD: [u64; 32] = [77; 32];
@@ -180,19 +184,6 @@ fn shares_stand_at_the_members_numbers() {
 #[test]
 fn positions_are_big_endian() {
     assert_eq!(asked(0b11, 257, &[0, 0, 1, 0, 0, 0, 0, 1]), given(&[(0, 256), (1, 1)]));
-}
-
-/// Random numbers from a seed (splitmix64).
-struct Random(u64);
-
-impl Random {
-    fn below(&mut self, bound: usize) -> usize {
-        self.0 = self.0.wrapping_add(0x9e37_79b9_7f4a_7c15);
-        let mut z = self.0;
-        z = (z ^ (z >> 30)).wrapping_mul(0xbf58_476d_1ce4_e5b9);
-        z = (z ^ (z >> 27)).wrapping_mul(0x94d0_49bb_1331_11eb);
-        (z ^ (z >> 31)) as usize % bound
-    }
 }
 
 #[test]

@@ -4,6 +4,7 @@
 use generator::{calls, input, profile_of};
 use linked::Random;
 use linked::ledger::{self, Proved};
+use linked::tally::tell;
 use model::{Ledger, Roll, Stage, field, write};
 use std::process::ExitCode;
 
@@ -289,14 +290,5 @@ fn main() -> ExitCode {
     );
     let by_answer: Vec<String> = tally.answers.iter().enumerate().filter(|a| *a.1 > 0).map(|a| format!("{}: {}", a.0, a.1)).collect();
     println!("by answer: {}", by_answer.join(", "));
-    let occurred = tally.occurred();
-    let words: Vec<String> = occurred.iter().map(|(what, count)| format!("{what}: {count}")).collect();
-    println!("{}", words.join(", "));
-    match occurred.iter().find(|(_, count)| n >= 1_000 && *count == 0) {
-        Some((what, _)) => {
-            println!("never came: {what}");
-            ExitCode::FAILURE
-        }
-        None => ExitCode::SUCCESS,
-    }
+    tell("", n, &tally.occurred())
 }

@@ -1,43 +1,11 @@
 //! `parts [N]`: the proved split and both auctions against the model, on N random inputs each (100,000), refusals among them.
+use linked::inputs::{OLD, Splitting, length, other_length};
 use linked::{BidRecord, Random};
-
-const OLD: u64 = 0xdead_beef;
-
-/// A length: mostly short, sometimes at the limit or past it.
-fn length(r: &mut Random, limit: u64) -> usize {
-    match r.below(40) {
-        0 => limit as usize,
-        1 => limit as usize + 1,
-        2 => r.below(limit + 20) as usize,
-        3 => 0,
-        _ => r.below(24) as usize,
-    }
-}
-
-fn other_length(r: &mut Random, n: usize) -> usize {
-    if r.once_in(25) { length(r, n as u64 + 2) } else { n }
-}
 
 fn splits(r: &mut Random, n: u64) -> (u64, [u64; 6]) {
     let mut answers = [0u64; 6];
     for _ in 0..n {
-        let places = length(r, 512);
-        let top = [1, 2, 5, 30, 1_000, 500_000_000, 1_000_000_000][r.below(7) as usize];
-        let mut weights: Vec<u64> = (0..places).map(|_| if r.once_in(4) { 0 } else { r.below(top + 1) }).collect();
-        if places > 0 && r.once_in(30) {
-            let at = r.below(places as u64) as usize;
-            weights[at] = if r.once_in(2) { 1_000_000_001 } else { u64::MAX };
-        }
-        let whole: u64 = weights.iter().fold(0, |a: u64, w| a.saturating_add(*w));
-        let q = match r.below(8) {
-            0 => 0,
-            1 => whole,
-            2 => r.below(16_000_000_001),
-            3 => 16_000_000_000 + r.below(2),
-            4 => whole.saturating_add(1),
-            _ => r.below(whole.saturating_add(1).max(1)),
-        };
-        let room = other_length(r, places);
+        let Splitting { q, weights, room } = Splitting::draw(r);
         let mut mine = vec![OLD; room];
         let mut theirs = vec![OLD; room];
         let a = linked::split(q, &weights, &mut mine);

@@ -3,6 +3,7 @@
 //! answers or one of the situations that it counts never came.
 use linked::Random;
 use linked::positions::{Kept, expected};
+use linked::tally::tell;
 use model::positions::{POSITION_LIMIT, WINDOW};
 use model::{first_declined, sums_afresh};
 use std::process::ExitCode;
@@ -320,13 +321,6 @@ fn main() -> ExitCode {
         ("1 with a position out of range in the cut record", tally.in_cut_record),
         ("cut into single days", tally.single_days),
     ];
-    let words: Vec<String> = counted.iter().map(|(what, count)| format!("{what}: {count}")).collect();
-    println!("positions: {n} runs from seed {first} alike, at once and in {} parts; {}", tally.parts, words.join(", "));
-    match counted.iter().find(|(_, count)| n >= 1_000 && *count == 0) {
-        Some((what, _)) => {
-            println!("never came: {what}");
-            ExitCode::FAILURE
-        }
-        None => ExitCode::SUCCESS,
-    }
+    let before = format!("positions: {n} runs from seed {first} alike, at once and in {} parts; ", tally.parts);
+    tell(&before, n, &counted)
 }

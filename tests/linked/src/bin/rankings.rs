@@ -1,0 +1,100 @@
+//! `rankings [N [SEED]]`: the proved ranking (C-13 of document 02) against the model's on N random inputs (100,000), refusals among them, and the proved
+//! split against the proved ranking: floors, and one more at as many of its first places as are left. Ends with 1 where over 1,000 inputs or more a
+//! kind that it counts never came.
+use linked::inputs::{OLD, Splitting};
+use linked::tally::tell;
+use linked::{Random, Ranked};
+use model::floors;
+use model::split::{AMOUNT_LIMIT, WEIGHT_LIMIT};
+use std::process::ExitCode;
+
+#[derive(Default)]
+struct Tally {
+    answers: [u64; 6],
+    both_refusals: u64,
+    no_weight: u64,
+    weight_0: u64,
+    none_left: u64,
+    above_weights: u64,
+    longest: u64,
+    ties: u64,
+}
+
+/// The proved ranking of the whole lent run, alike with the model's and untouched where nothing is named.
+fn ranking(input: &Splitting) -> (Ranked, Vec<usize>) {
+    let Splitting { q, weights, room } = input;
+    let old = vec![OLD as usize; *room];
+    let (mut mine, mut theirs) = (old.clone(), old.clone());
+    let ranked = linked::ranking(*q, weights, &mut mine);
+    let (answer, named) = model::ranking_alone(*q, weights, &mut theirs);
+    let same = ranked == Ranked { answer, named } && mine == theirs;
+    assert!(same, "ranking {q} by {weights:?} into {room}: {ranked:?} {mine:?}, the model {answer} {named} {theirs:?}");
+    assert!(named > 0 || mine == old, "ranking {q} by {weights:?} into {room} names nothing and writes {mine:?}");
+    (ranked, mine)
+}
+
+/// "The sweep adds one at as many of its first places as there are odd cents, and nowhere else": the shares, and how many got one.
+fn swept(input: &Splitting, places: &[usize]) -> (Vec<u64>, usize) {
+    if places.is_empty() {
+        return (vec![0; input.weights.len()], 0);
+    }
+    let mut shares = floors(input.q, &input.weights);
+    let left = (input.q - shares.iter().sum::<u64>()) as usize;
+    for &place in &places[..left] {
+        shares[place] += 1;
+    }
+    (shares, left)
+}
+
+/// Whether the first place that gets none has the remainder of the last that gets one.
+fn tie_decides(input: &Splitting, places: &[usize], left: usize) -> bool {
+    let sum: u128 = input.weights.iter().map(|&weight| u128::from(weight)).sum();
+    let remainder = |place: usize| u128::from(input.q) * u128::from(input.weights[place]) % sum;
+    left > 0 && left < places.len() && remainder(places[left - 1]) == remainder(places[left])
+}
+
+fn compare(input: &Splitting, tally: &mut Tally) {
+    let Splitting { q, weights, room } = input;
+    let (Ranked { answer, named }, places) = ranking(input);
+    let mut shares = vec![OLD; *room];
+    assert_eq!(linked::split(*q, weights, &mut shares), answer, "split {q} by {weights:?} into {room}");
+    tally.answers[usize::from(answer)] += 1;
+    if answer != 0 {
+        let out_of_range = *q > AMOUNT_LIMIT || weights.iter().any(|&weight| weight > WEIGHT_LIMIT);
+        tally.both_refusals += u64::from(answer == 1 && out_of_range);
+        return;
+    }
+    let (expected, left) = swept(input, &places[..named]);
+    assert_eq!(shares, expected, "split {q} by {weights:?}, ranked {places:?}");
+    tally.no_weight += u64::from(named < weights.len());
+    if named > 0 {
+        tally.weight_0 += u64::from(weights.contains(&0));
+        tally.none_left += u64::from(left == 0);
+        tally.above_weights += u64::from(*q > weights.iter().sum());
+        tally.longest += u64::from(named == 512);
+        tally.ties += u64::from(tie_decides(input, &places, left));
+    }
+}
+
+fn main() -> ExitCode {
+    let mut given = std::env::args().skip(1).map(|a| a.parse().expect("a number"));
+    let n: u64 = given.next().unwrap_or(100_000);
+    let mut r = Random(given.next().unwrap_or(1));
+    let mut tally = Tally::default();
+    for _ in 0..n {
+        compare(&Splitting::draw(&mut r), &mut tally);
+    }
+    let counted = [
+        ("answered 0", tally.answers[0]),
+        ("1", tally.answers[1]),
+        ("5", tally.answers[5]),
+        ("1 with a number out of range", tally.both_refusals),
+        ("W = 0 with places", tally.no_weight),
+        ("a place of weight 0 named", tally.weight_0),
+        ("nothing left", tally.none_left),
+        ("q above W", tally.above_weights),
+        ("512 places", tally.longest),
+        ("a tie decides", tally.ties),
+    ];
+    tell(&format!("ranking: {n} inputs alike, and the split sweeps it; "), n, &counted)
+}
