@@ -80,27 +80,33 @@ fn split_of(name: &str, r: &mut Random, places: usize, weights: Weights) {
     );
 }
 
-/// The ranking by a sort, since the model's counts for each place how many come before it.
-fn sorted(q: u64, weights: &[u64], places: &mut [usize]) -> Ranked {
+/// The ranking by a sort, since the model's counts for each place how many come before it; a remainder is computed at each comparison, as in the model's split, or
+/// once.
+fn sorted<const ONCE: bool>(q: u64, weights: &[u64], places: &mut [usize]) -> Ranked {
     let answer = refusal(q, weights, places.len());
     let sum: u128 = weights.iter().map(|&w| u128::from(w)).sum();
     if answer != 0 || sum == 0 {
         return Ranked { answer, named: 0 };
     }
     let mut order: Vec<usize> = (0..weights.len()).collect();
-    order.sort_by_key(|&i| Reverse(u128::from(q) * u128::from(weights[i]) % sum));
+    let remainder = |&i: &usize| Reverse(u128::from(q) * u128::from(weights[i]) % sum);
+    if ONCE {
+        order.sort_by_cached_key(remainder);
+    } else {
+        order.sort_by_key(remainder);
+    }
     places.copy_from_slice(&order);
     Ranked { answer, named: order.len() }
 }
 
-fn ranking_of(name: &str, r: &mut Random, count: usize, weights: Weights) {
+fn ranking_of<const ONCE: bool>(name: &str, r: &mut Random, count: usize, weights: Weights) {
     let all = Ranked { answer: 0, named: count };
     line(
         name,
         count,
         &splittings(r, count, weights),
         |input, places| assert_eq!(linked::ranking(input.q, &input.weights, places), all),
-        |input, places| assert_eq!(sorted(input.q, &input.weights, places), all),
+        |input, places| assert_eq!(sorted::<ONCE>(input.q, &input.weights, places), all),
     );
 }
 
@@ -153,7 +159,8 @@ fn main() {
         split_of(&format!("split, {places} equal weights"), &mut r, places, equal);
     }
     split_of("split, 256 places, 32 with a weight", &mut r, 256, one_in_eight);
-    ranking_of("ranking, 256 weights", &mut r, 256, any);
+    ranking_of::<false>("ranking, 256 weights", &mut r, 256, any);
+    ranking_of::<true>("ranking, 256 weights, remainders once", &mut r, 256, any);
     auction_of("auction, 256 bids at one price", &mut r, 256, 1);
     auction_of("auction, 256 bids at 40 prices", &mut r, 256, 40);
     auction_of("auction, 256 bids at 256 prices", &mut r, 256, 256);
