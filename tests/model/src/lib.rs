@@ -15,5 +15,5 @@ pub use counts::Counts;
 pub use ledger::{Ledger, MemberOutcome, Outcome, Stage};
 pub use positions::{Ring, expected, first_declined, sums_afresh};
 pub use roll::Roll;
-pub use split::{floors, ranking, ranking_alone, split, split_alone, swept};
+pub use split::{ranking, ranking_alone, split, split_alone, swept};
 pub use text::{print, stream};

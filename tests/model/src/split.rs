@@ -50,18 +50,26 @@ pub fn ranking(q: u64, weights: &[u64]) -> Vec<usize> {
     places
 }
 
-/// "The sweep adds one at as many of its first places as there are odd cents, and nowhere else." "Every share is as before."
+/// The floors and the sweep over the ranking. "Every share is as before."
 pub fn swept(q: u64, weights: &[u64]) -> Vec<u64> {
-    let ranking = ranking(q, weights);
+    swept_by(q, weights, &ranking(q, weights))
+}
+
+/// "The sweep adds one at as many of its first places as there are odd cents, and nowhere else", over a ranking from anywhere.
+pub fn swept_by(q: u64, weights: &[u64], ranking: &[usize]) -> Vec<u64> {
     if ranking.is_empty() {
         return vec![0; weights.len()];
     }
     let mut shares = floors(q, weights);
-    let odd_cents = q - shares.iter().sum::<u64>();
-    for place in 0..odd_cents as usize {
-        shares[ranking[place]] += 1;
+    for &place in &ranking[..odd_cents(q, &shares)] {
+        shares[place] += 1;
     }
     shares
+}
+
+/// What the floors leave.
+pub fn odd_cents(q: u64, floors: &[u64]) -> usize {
+    (q - floors.iter().sum::<u64>()) as usize
 }
 
 /// "each share is floor(q × w / W)", where W is not 0.

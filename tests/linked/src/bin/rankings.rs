@@ -4,8 +4,7 @@
 use linked::inputs::{OLD, Splitting};
 use linked::tally::tell;
 use linked::{Random, Ranked};
-use model::floors;
-use model::split::{AMOUNT_LIMIT, WEIGHT_LIMIT};
+use model::split::{AMOUNT_LIMIT, WEIGHT_LIMIT, floors, odd_cents, swept_by};
 use std::process::ExitCode;
 
 #[derive(Default)]
@@ -33,19 +32,6 @@ fn ranking(input: &Splitting) -> (Ranked, Vec<usize>) {
     (ranked, mine)
 }
 
-/// "The sweep adds one at as many of its first places as there are odd cents, and nowhere else": the shares, and how many got one.
-fn swept(input: &Splitting, places: &[usize]) -> (Vec<u64>, usize) {
-    if places.is_empty() {
-        return (vec![0; input.weights.len()], 0);
-    }
-    let mut shares = floors(input.q, &input.weights);
-    let left = (input.q - shares.iter().sum::<u64>()) as usize;
-    for &place in &places[..left] {
-        shares[place] += 1;
-    }
-    (shares, left)
-}
-
 /// Whether the first place that gets none has the remainder of the last that gets one.
 fn tie_decides(input: &Splitting, places: &[usize], left: usize) -> bool {
     let sum: u128 = input.weights.iter().map(|&weight| u128::from(weight)).sum();
@@ -64,10 +50,10 @@ fn compare(input: &Splitting, tally: &mut Tally) {
         tally.both_refusals += u64::from(answer == 1 && out_of_range);
         return;
     }
-    let (expected, left) = swept(input, &places[..named]);
-    assert_eq!(shares, expected, "split {q} by {weights:?}, ranked {places:?}");
+    assert_eq!(shares, swept_by(*q, weights, &places[..named]), "split {q} by {weights:?}, ranked {places:?}");
     tally.no_weight += u64::from(named < weights.len());
     if named > 0 {
+        let left = odd_cents(*q, &floors(*q, weights));
         tally.weight_0 += u64::from(weights.contains(&0));
         tally.none_left += u64::from(left == 0);
         tally.above_weights += u64::from(*q > weights.iter().sum());
