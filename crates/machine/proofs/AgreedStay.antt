@@ -15,12 +15,12 @@ use Rattle.lists.proofs.Each.{drop-step, map-replicate}
 use Rattle.lists.proofs.Pairs.{Pairs, pairs-same, pairs-trans, pairs-map, pairs-changeFirst, pairs-set, pairs-at}
 use Rattle.lists.specs.Tests.{Passed}
 use Rattle.auction.specs.Price.{zeroPrice}
-use Rattle.machine.specs.Wire.{Call, HEAD, POOL, MEMBER, ROUND, BID, CLOSE, ALLOCATE, TEAR, CALL, PAY, MOVE, MISS, FINISH, SALE, decode}
+use Rattle.machine.specs.Wire.{Call, HEAD, POOL, MEMBER, ROUND, BID, CLOSE, ALLOCATE, TEAR, CALL, PAY, MOVE, MISS, FINISH, SALE, WITHDRAW, decode}
 use Rattle.machine.specs.Roll.{UnitState, Open, Sold, Allocated, Moved, Torn, Agreed, Entry, Bid, withState, kind, isAgreed, isOpen, openIn, giveLowest, changedIf, priceOf, passedTo, putUp}
 use Rattle.machine.specs.State.{State, theCase, letterOf, memberList, roundOf}
 use Rattle.machine.specs.Requirement.{owes}
 use Rattle.machine.specs.Move.{Found, mayMove, turn, later, better, nextFrom, moveUnits, moveAll}
-use Rattle.machine.specs.Calls.{giveShares, sell, accepted, afterPool, afterMember, afterRound, afterBid, bidsAfter, afterClose, allocation, afterAllocate, afterTear, afterCall, afterPay, afterMove, afterMiss, sold, afterSale}
+use Rattle.machine.specs.Calls.{giveShares, sell, accepted, afterPool, afterMember, afterRound, afterBid, bidsAfter, afterClose, allocation, afterAllocate, afterTear, afterCall, afterPay, afterMove, afterMiss, sold, afterSale, inRound, afterWithdraw}
 use Rattle.machine.specs.Refusals.{tests}
 use Rattle.machine.specs.Machine.{step}
 use Rattle.machine.proofs.Answers.{step-cases}
@@ -94,9 +94,9 @@ stay-sell : (round i : ℕ) (bs : List Bid) (roll : List Entry) → AllStay roll
 unfolding sell
 stay-sell round i [] roll = pairs-same Stays stays roll
 stay-sell round i (b ∷ bs) roll =
-    let next = if eqb (b .round) round then giveLowest (b .pool) (Sold i) (b .won) roll else roll in
+    let next = if inRound round b then giveLowest (b .pool) (Sold i) (b .won) roll else roll in
     stay-trans roll next _
-    (either (AllStay roll) (eqb (b .round) round) (stay-give (b .pool) (Sold i) (b .won) roll) (pairs-same Stays stays roll))
+    (either (AllStay roll) (inRound round b) (stay-give (b .pool) (Sold i) (b .won) roll) (pairs-same Stays stays roll))
     (stay-sell round (suc i) bs next)
 
 -- ---- MOVE
@@ -162,7 +162,7 @@ same-roll : (s : State) → AllStay (putUpAll [] (rollOf s)) (rollOf s)
 same-roll s = none-added (rollOf s) (rollOf s) (pairs-same Stays stays (rollOf s))
 
 agreed-call : (s : State) (call : Call) → Passed (tests s (theCase s) call) → AllStay (putUpAll (putUpBy call) (rollOf s)) (accepted (theCase s) call .roll)
-unfolding accepted afterPool afterMember afterRound afterBid afterClose afterAllocate afterTear afterCall afterPay afterMove afterMiss sold afterSale putUp moveAll tests letterOf
+unfolding accepted afterPool afterMember afterRound afterBid afterClose afterAllocate afterTear afterCall afterPay afterMove afterMiss sold afterSale afterWithdraw putUp moveAll tests letterOf
 agreed-call none (HEAD h) t = tt
 agreed-call (some c) (HEAD h) t = absurd (false≢true (sym (letter-some (c .stage)) ∙ not-false _ (t .0)))
 agreed-call s (POOL pool units mark) t = rw (map-replicate openEntry units pool) (pairs-same Stays stays (putUp pool units (rollOf s)))
@@ -186,6 +186,7 @@ agreed-call s (MISS m price) t =
     none-added (rollOf s) _ (stay-changed (λ e. passedTo m (e .state)) (Torn price) (λ e. passed-free m (e .state)) (rollOf s))
 agreed-call s FINISH t = same-roll s
 agreed-call s (SALE pool m price) t = none-added (rollOf s) _ (stay-changed (openIn pool) (Agreed m price) (open-in-free pool) (rollOf s))
+agreed-call s (WITHDRAW m n) t = same-roll s
 
 -- any bytes, in any state: the entry at place i
 pub agreed-stay : (s : State) (bytes : List ℕ) (i : ℕ) → i < length (rollOf s) → isAgreed (getD (rollOf s) i noEntry .state) ≡ true

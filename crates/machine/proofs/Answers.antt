@@ -12,7 +12,7 @@ use Rattle.lists.specs.Lists.{if_then_else_}
 use Rattle.lists.proofs.Each.{Each}
 use Rattle.lists.specs.Tests.{Passed, First}
 use Rattle.lists.proofs.Passed.{passed, accepted as passed-accepted, first-holds, ascending, ascending-numbered, first-least}
-use Rattle.machine.specs.Wire.{Call, HEAD, POOL, MEMBER, ROUND, BID, CLOSE, ALLOCATE, TEAR, CALL, PAY, MOVE, MISS, FINISH, SALE, decode}
+use Rattle.machine.specs.Wire.{Call, HEAD, POOL, MEMBER, ROUND, BID, CLOSE, ALLOCATE, TEAR, CALL, PAY, MOVE, MISS, FINISH, SALE, WITHDRAW, decode}
 use Rattle.machine.specs.State.{Case, State, theCase}
 use Rattle.machine.specs.Calls.{accepted}
 use Rattle.machine.specs.Refusals.{tests, refusal}
@@ -35,6 +35,7 @@ tests-ascend s c (MOVE m) = refl
 tests-ascend s c (MISS m price) = refl
 tests-ascend s c FINISH = refl
 tests-ascend s c (SALE pool m price) = refl
+tests-ascend s c (WITHDRAW m n) = refl
 
 module _ (s : State) (call : Call) where
   -- an accepted call passed every test, and back

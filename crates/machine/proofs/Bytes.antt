@@ -11,9 +11,9 @@ use lib.ListN.{length, take, drop}
 use Rattle.lists.specs.Lists.{between}
 use Rattle.lists.proofs.Bools.{either}
 use Rattle.lists.proofs.Each.{Each, each-drop}
-use Rattle.machine.specs.Wire.{Call, HEAD, POOL, MEMBER, ROUND, BID, CLOSE, ALLOCATE, TEAR, CALL, PAY, MOVE, MISS, FINISH, SALE, bigEndian, number, rightLength, callOf, decode}
+use Rattle.machine.specs.Wire.{Call, HEAD, POOL, MEMBER, ROUND, BID, CLOSE, ALLOCATE, TEAR, CALL, PAY, MOVE, MISS, FINISH, SALE, WITHDRAW, bigEndian, number, rightLength, callOf, decode}
 use Rattle.machine.specs.State.{Case, State, theCase}
-use Rattle.machine.specs.Calls.{accepted, afterPool, afterMember, afterRound, afterBid, afterClose, afterAllocate, afterTear, afterCall, afterPay, afterMove, afterMiss, afterSale}
+use Rattle.machine.specs.Calls.{accepted, afterPool, afterMember, afterRound, afterBid, afterClose, afterAllocate, afterTear, afterCall, afterPay, afterMove, afterMiss, afterSale, afterWithdraw}
 use Rattle.machine.specs.Machine.{step}
 use Rattle.machine.specs.Run.{runFrom}
 use Rattle.machine.proofs.Answers.{step-cases}
@@ -48,6 +48,7 @@ Small (MOVE m) = Unit {0}
 Small (MISS m price) = Unit {0}
 Small FINISH = Unit {0}
 Small (SALE pool m price) = Unit {0}
+Small (WITHDRAW m n) = Unit {0}
 
 call-small : (tag : ℕ) (v : List ℕ) → Each Byte v → Small (callOf tag v)
 unfolding callOf number
@@ -64,7 +65,8 @@ call-small tag v h =
     (either Small (eqb tag 10) tt
     (either Small (eqb tag 11) tt
     (either Small (eqb tag 12) tt
-    (either Small (eqb tag 13) tt tt))))))))))))
+    (either Small (eqb tag 13) tt
+    (either Small (eqb tag 14) tt tt)))))))))))))
 
 abbrev AllSmall : Option Call → Type 0
 AllSmall none = Unit {0}
@@ -76,7 +78,7 @@ decoded-small [] h = tt
 decoded-small (tag ∷ []) h = tt
 decoded-small (tag ∷ high ∷ []) h = tt
 decoded-small (tag ∷ high ∷ low ∷ v) h =
-    either AllSmall (between 1 14 tag && eqb (high * 256 + low) (length v) && rightLength tag (length v)) {x = some (callOf tag v)} {y = none}
+    either AllSmall (between 1 15 tag && eqb (high * 256 + low) (length v) && rightLength tag (length v)) {x = some (callOf tag v)} {y = none}
     (call-small tag v (h .1 .1 .1)) tt
 
 abbrev SetOk : State → Type 0
@@ -85,7 +87,7 @@ SetOk (some c) = c .head .set < 2 ^ 32
 
 -- only HEAD sets the member set
 set-call : (c : Case) (call : Call) → Small call → c .head .set < 2 ^ 32 → accepted c call .head .set < 2 ^ 32
-unfolding accepted afterPool afterMember afterRound afterBid afterClose afterAllocate afterTear afterCall afterPay afterMove afterMiss afterSale
+unfolding accepted afterPool afterMember afterRound afterBid afterClose afterAllocate afterTear afterCall afterPay afterMove afterMiss afterSale afterWithdraw
 set-call c (HEAD h) s o = s
 set-call c (POOL pool units mark) s o = o
 set-call c (MEMBER m contribution expected) s o = o
@@ -100,6 +102,7 @@ set-call c (MOVE m) s o = o
 set-call c (MISS m price) s o = o
 set-call c FINISH s o = o
 set-call c (SALE pool m price) s o = o
+set-call c (WITHDRAW m n) s o = o
 
 the-set : (s : State) → SetOk s → theCase s .head .set < 2 ^ 32
 the-set none o = omega arith

@@ -19,7 +19,7 @@ infix 30 −_
 abbrev pub −_ : ℕ → ℕ
 − n = 2 ^ 32 - n
 
--- ---- the thirteen calls, in the order of the column "value (bytes)", and SALE
+-- ---- the thirteen calls, in the order of the column "value (bytes)", SALE and WITHDRAW
 
 -- the member set is a number: bit i is member i
 abbrev pub head : (pools least set hedge other margin fund house : ℕ) → List ℕ
@@ -66,3 +66,7 @@ finish = 13 ∷ 0 ∷ 0 ∷ []
 -- document 02, C-12: "SALE (tag 14: pool 1, member 1, price 4)"
 abbrev pub sale : (pool member price : ℕ) → List ℕ
 sale pool member price = 14 ∷ 0 ∷ 6 ∷ pool ∷ member ∷ four price
+
+-- document 02, C-14: "WITHDRAW (tag 15: member 1, bid number 2)"
+abbrev pub withdraw : (member bid : ℕ) → List ℕ
+withdraw member bid = 15 ∷ 0 ∷ 3 ∷ member ∷ two bid

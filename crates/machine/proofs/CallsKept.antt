@@ -2,33 +2,33 @@
 use mathlib.Core.Path.{_≡_, refl, sym, ap, _∙_}
 use mathlib.Core.Bool.{Bool, true, false, _&&_, _||_, not, false≢true}
 use mathlib.Core.Logic.{inl, ⊎-elim}
-use mathlib.Core.List.{List, [], _∷_, _++_, append-nil, append-assoc}
+use mathlib.Core.List.{List, [], _∷_, _++_, append-nil, append-assoc, map}
 use mathlib.Core.Option.{some}
 use Prim.Native.Nat.{ℕ, zero, suc, _+_, _-_, _≤_, _<_}
 use native.Mathlib.Nat.{zero-add}
 use native.Mathlib.Omega.{arith}
 use lib.Dec.{leb, ltb, eqb}
-use lib.ListN.{length, getD, set, take, drop, replicate, length-append, length-set, List·getD-map, List·getD-append}
+use lib.ListN.{length, getD, set, take, drop, replicate, length-append, length-set, List·getD-map, List·getD-append, List·getD-eq-default}
 use lib.Seq.{getD-at, set-getD, getD-take, getD-drop}
 use borrow.Author.Tests.{leb-true, leb-false, ltb-true, ltb-false, lt-ltb, eqb-true, eqb-false, not-false}
-use Rattle.lists.specs.Lists.{between, sum, count, all, keep, places, mapFrom, tab}
+use Rattle.lists.specs.Lists.{between, sum, count, all, keep, places, mapFrom, tab, if_then_else_}
 use Rattle.lists.proofs.Bools.{same-choice, cases, either, by-test, and-left, and-right, or-left, or-right, lt-or-le}
 use Rattle.lists.proofs.Places.{length-tab, getD-tab, getD-same}
 use Rattle.lists.proofs.Sums.{entry-le}
-use Rattle.lists.proofs.Keep.{sum-keep-cons}
+use Rattle.lists.proofs.Keep.{sum-keep-cons, sum-keep}
 use Rattle.lists.proofs.Counts.{count-append, count-replicate-out, each-all, each-any}
-use Rattle.lists.proofs.Each.{Each, set-cases, each-at, each-map, each-append, each-replicate, each-more, each-both, each-keep, each-mapFrom, each-mapFrom-at, each-kept-at, each-get, same-mapFrom, length-mapFrom, map-append, map-replicate}
+use Rattle.lists.proofs.Each.{Each, set-cases, each-at, each-map, each-append, each-replicate, each-more, each-both, each-keep, each-mapFrom, each-mapFrom-at, each-kept-at, each-get, same-mapFrom, length-mapFrom, map-append, map-replicate, map-set, each-set}
 use Rattle.lists.proofs.Pairs.{Pairs, pairs-mapFrom, pairs-at}
 use Rattle.lists.specs.Tests.{Passed}
 use Rattle.auction.specs.Price.{priceOk, priceLimit}
 use Rattle.sets.specs.Set.{members}
-use Rattle.machine.specs.Wire.{Head, POOL, MEMBER, ROUND, BID, CLOSE, ALLOCATE, TEAR, CALL, PAY, MOVE, MISS, FINISH, SALE}
-use Rattle.machine.specs.Roll.{UnitState, Open, Sold, Allocated, Moved, Torn, Agreed, Entry, Bid, noBid, withState, kind, isOpen, isAgreed, openIn, changedIf, openUnits, anyOpen, putUp, passedTo}
+use Rattle.machine.specs.Wire.{Head, POOL, MEMBER, ROUND, BID, CLOSE, ALLOCATE, TEAR, CALL, PAY, MOVE, MISS, FINISH, SALE, WITHDRAW}
+use Rattle.machine.specs.Roll.{UnitState, Open, Sold, Allocated, Moved, Torn, Agreed, Entry, Bid, noBid, withState, kind, isOpen, isAgreed, openIn, changedIf, openUnits, anyOpen, putUp, passedTo, withdrawn}
 use Rattle.machine.specs.State.{Stage, CallsOut, Finished, Pool, Member, Round, Case, newCase, noMember, noRound, letter, letterOf, roundOf, withStage, withMembers, withRoll, withAllocated, withMoved, withCalled, inSet, memberList, memberAt}
 use Rattle.machine.specs.Requirement.{owes}
 use Rattle.machine.specs.Move.{moveAll}
-use Rattle.machine.specs.Calls.{newMember, newRound, newBid, reserve, inAuction, wonIn, wonGiven, bidsAfter, sell, afterPool, afterMember, afterRound, afterBid, afterClose, shortfall, allocation, alsoAllocated, afterAllocate, calls, afterTear, afterCall, afterPay, afterMove, afterMiss, sold, afterSale}
-use Rattle.machine.specs.Refusals.{tests, headOk, poolOk, memberOk, bidOk, paymentOk, notInCase, notInSet, notGiven}
+use Rattle.machine.specs.Calls.{newMember, newRound, newBid, reserve, inAuction, wonIn, wonGiven, bidsAfter, sell, afterPool, afterMember, afterRound, afterBid, afterClose, shortfall, allocation, alsoAllocated, afterAllocate, calls, afterTear, afterCall, afterPay, afterMove, afterMiss, sold, afterSale, inRound, afterWithdraw}
+use Rattle.machine.specs.Refusals.{tests, headOk, poolOk, memberOk, bidOk, paymentOk, notInCase, notInSet, notGiven, noneStands}
 use Rattle.machine.proofs.RollChanges.{takenIn, taken, soldIs, soldTo, changes-changed, changes-torn, changes-shares, changes-move, changes-sell, same-pools, changed-each}
 use Rattle.machine.proofs.Giving.{wonWhere, wonThen, sell-open, sell-taken, sell-sold}
 use Rattle.machine.proofs.Invariant.{HeadOk, PoolOk, MemberOk, Uncalled, MembersOk, RoundOk, BidOk, laid, EntryOk, RollOk, ofPool, ReserveOk, CaseOk}
@@ -73,7 +73,7 @@ head-ok h fit =
       rounds = tt;
       bids = record { few = omega arith; each = tt };
       roll = record { order = refl; each = tt };
-      won = record { total = λ pool. omega arith; reserves = tt; unsold = λ e. tt; sold = λ b. omega arith };
+      won = record { total = λ pool. omega arith; reserves = tt; unsold = λ e. tt; sold = λ b. omega arith; withdrawn = tt };
       units = record { opened = λ e. absurd (omega arith); none = λ l. absurd (omega arith); setup = λ e. tt; sold-out = λ a. absurd (omega arith) };
     }
 
@@ -194,6 +194,7 @@ module _ (c : Case) (ok : CaseOk c) where
           reserves = ok .won .reserves;
           unsold = ok .won .unsold;
           sold = λ b. omega (arith, ok .won .sold b, counts .1 b);
+          withdrawn = ok .won .withdrawn;
         };
         units = record { opened = λ e. absurd (omega arith); none = λ l. absurd (omega arith); setup = λ e. put-open pool units (c .roll) (ok .units .setup e); sold-out = λ a. absurd (omega arith) };
       }
@@ -302,6 +303,7 @@ module _ (c : Case) (ok : CaseOk c) where
               (c .bids) (each-both _ _ (c .bids) (ok .bids .each) (ok .won .reserves));
           unsold = λ e. each-more _ _ (λ b o r. absurd (omega (arith, o .round, from .0))) (c .bids) (ok .bids .each);
           sold = ok .won .sold;
+          withdrawn = ok .won .withdrawn;
         };
         units = record {
           opened = λ e. ap (λ (r : Round). r .opened)
@@ -352,6 +354,7 @@ module _ (c : Case) (ok : CaseOk c) where
           reserves = each-append (ReserveOk (c .rounds)) (c .bids) (b ∷ []) (ok .won .reserves) (λ w. absurd (omega arith), tt);
           unsold = λ e. each-append _ (c .bids) (b ∷ []) (ok .won .unsold e) (λ r. refl, tt);
           sold = λ k. omega (arith, ok .won .sold k, won-appended (c .bids) b k);
+          withdrawn = each-append _ (c .bids) (b ∷ []) (ok .won .withdrawn) (λ r. refl, tt);
         };
         units = ok .units;
       }
@@ -400,7 +403,7 @@ module _ (c : Case) (ok : CaseOk c) where
         each-mapFrom-at Fit Fit new noBid (c .bids)
         (λ i l o.
         let b = getD (c .bids) i noBid in
-        either Fit (eqb (b .round) round)
+        either Fit (inRound round b)
         (record {
           first = o .first;
           round = o .round;
@@ -414,23 +417,32 @@ module _ (c : Case) (ok : CaseOk c) where
         }) o) 0 (c .bids) refl (ok .bids .each)
 
     close-reserves : Each (ReserveOk (c .rounds)) bids
-    unfolding wonGiven reserve
+    unfolding wonGiven inRound reserve
     close-reserves =
         each-mapFrom-at (λ b. Fit b × ReserveOk (c .rounds) b) (ReserveOk (c .rounds)) new noBid (c .bids)
         (λ i l o.
         let b = getD (c .bids) i noBid in
-        by-test (ReserveOk (c .rounds)) (eqb (b .round) round)
+        by-test (ReserveOk (c .rounds)) (inRound round b)
         (λ e w.
         let here = wins-at c round (c .head .pools) (b .pool) (o .0 .pool) i in
         let some : 0 < getD (wonIn c round (b .pool)) i 0 = omega (arith, here, w) in
         let many : 0 < openUnits (c .roll) (b .pool) = omega (arith, entry-le (wonIn c round (b .pool)) i, won-sum c round (b .pool)) in
-        rw (eqb-true (b .round) round e)
+        rw (eqb-true (b .round) round (and-right (b .stands) _ e))
         ((
           rw (ok .units .opened bidding) (getD-tab (c .head .pools) _ (b .pool) false (o .0 .pool) ∙ lt-ltb 0 _ many),
           won-at c round (b .pool) i l .1 some,
         )))
         (λ e. o .1))
         0 (c .bids) refl (each-both Fit (ReserveOk (c .rounds)) (c .bids) (ok .bids .each) (ok .won .reserves))
+
+    close-withdrawn : Each (λ b. b .stands ≡ false → b .won ≡ 0) bids
+    unfolding wonGiven inRound
+    close-withdrawn =
+        each-mapFrom (λ b. b .stands ≡ false → b .won ≡ 0) (λ b. b .stands ≡ false → b .won ≡ 0) new
+        (λ i b o.
+        by-test (λ (x : Bid). x .stands ≡ false → x .won ≡ 0) (b .stands && eqb (b .round) round)
+        (λ e s. absurd (false≢true (sym s ∙ and-left _ _ e)))
+        (λ e. o)) 0 (c .bids) (ok .won .withdrawn)
 
     close-wider : Wider (c .bids) bids
     close-wider =
@@ -484,8 +496,9 @@ module _ (c : Case) (ok : CaseOk c) where
             arith,
             ok .won .sold b,
             rw (zero-add b) at (sell-sold b (round bidding) 0 (bids bidding) (c .roll)),
-            pairs-at _ (c .bids) (bids bidding) b noBid (omega (arith, same-choice {A = ℕ} (eqb 0 (round bidding)) 0)) (close-won bidding),
+            pairs-at _ (c .bids) (bids bidding) b noBid (omega (arith, same-choice {A = ℕ} (inRound (round bidding) noBid) 0)) (close-won bidding),
           );
+          withdrawn = close-withdrawn bidding;
         };
         units = record { opened = λ e. absurd (omega arith); none = λ l. absurd (omega arith); setup = λ e. absurd (omega arith); sold-out = λ a z. absurd (omega (arith, at .0, at .1)) };
       }
@@ -598,7 +611,7 @@ module _ (c : Case) (ok : CaseOk c) where
         rounds = ok .rounds;
         bids = ok .bids;
         roll = ok .roll;
-        won = record { total = ok .won .total; reserves = ok .won .reserves; unsold = λ e. absurd (omega arith); sold = ok .won .sold };
+        won = record { total = ok .won .total; reserves = ok .won .reserves; unsold = λ e. absurd (omega arith); sold = ok .won .sold; withdrawn = ok .won .withdrawn };
         units = record { opened = λ e. absurd (omega arith); none = λ l. none-open (c .roll) (t .1 .0); setup = λ e. absurd (omega arith); sold-out = λ a. absurd (omega arith) };
       }
 
@@ -671,6 +684,74 @@ module _ (c : Case) (ok : CaseOk c) where
       (changes-move (Allowed (c .head) (c .bids)) (c .bids) m (λ pool. record { fits = here; closed = refl; unsold = λ b. refl })
       (length (c .roll)) (owes (c .members) m) (c .roll))
       (λ e. omega arith) (λ e. absurd (omega arith))
+
+  -- ---- WITHDRAW
+
+  -- a standing bid is one of those kept
+  stands-kept : (n : ℕ) → getD (c .bids) n noBid .stands ≡ true → n < length (c .bids)
+  stands-kept n s =
+      ⊎-elim (λ l. l) (λ g. absurd (false≢true (ap (λ (b : Bid). b .stands) (sym (List·getD-eq-default (c .bids) noBid {n = n} g)) ∙ s)))
+      (lt-or-le n (length (c .bids)))
+
+  -- what does not say whether a bid stands is as it was
+  withdrawn-same : (n : ℕ) (g : Bid → ℕ) → ((b : Bid) → g (withdrawn b) ≡ g b) → map g (set (c .bids) n (withdrawn (getD (c .bids) n noBid))) ≡ map g (c .bids)
+  withdrawn-same n g same =
+      let b = getD (c .bids) n noBid in
+      map-set g (c .bids) n (withdrawn b)
+      ∙ ap (set (map g (c .bids)) n) (same b ∙ sym (List·getD-map g (c .bids) n noBid))
+      ∙ set-getD (map g (c .bids)) n (g noBid)
+
+  pub withdraw-ok : (m n : ℕ) → Passed (tests (some c) c (WITHDRAW m n)) → CaseOk (afterWithdraw c n)
+  unfolding tests afterWithdraw letterOf noneStands inRound
+  withdraw-ok m n t =
+      let b = getD (c .bids) n noBid in
+      let new = withdrawn b in
+      let stands = and-left _ _ (and-left _ _ (not-false _ (t .1 .1 .0))) in
+      let o = each-at (BidOk (c .head) (length (c .rounds))) (c .bids) n noBid (stands-kept n stands) (ok .bids .each) in
+      let none = each-at _ (c .bids) n noBid (stands-kept n stands) (ok .won .unsold (letter-is (c .stage) 2 (t .0)))
+      (eqb-true (b .round) (roundOf (c .stage)) (and-right (b .stands) _ (and-left _ _ (not-false _ (t .1 .1 .0))))) in
+      record {
+        head = ok .head;
+        stage = ok .stage;
+        pools = ok .pools;
+        members = ok .members;
+        rounds = ok .rounds;
+        bids = record {
+          few = omega (arith, length-set (c .bids) n new, ok .bids .few);
+          each = each-set _ (c .bids) n new (record {
+            first = o .first;
+            round = o .round;
+            pool = o .pool;
+            member = o .member;
+            least = o .least;
+            some = o .some;
+            most = o .most;
+            price = o .price;
+            won = o .won;
+          }) (ok .bids .each);
+        };
+        roll = bids-keep _ _ _ _ _ (record {
+          many = omega (arith, length-set (c .bids) n new);
+          same = λ k l. set-cases (λ (x : Bid). x .pool ≡ getD (c .bids) k noBid .pool) (c .bids) n new noBid k (λ e. rw e) refl;
+        }) (ok .roll);
+        won = record {
+          total = λ p. omega (
+            arith,
+            ok .won .total p,
+            sum-keep (ofPool p) (λ (x : Bid). x .won) (c .bids),
+            sum-keep (ofPool p) (λ (x : Bid). x .won) (set (c .bids) n new),
+            ap sum (withdrawn-same n (λ x. if ofPool p x then x .won else 0) (λ x. refl)),
+          );
+          reserves = each-set (ReserveOk (c .rounds)) (c .bids) n new
+              (each-get (ReserveOk (c .rounds)) (c .bids) n noBid (λ w. absurd (omega arith)) (ok .won .reserves)) (ok .won .reserves);
+          unsold = λ e. each-set _ (c .bids) n new
+              (each-get (λ x. x .round ≡ roundOf (c .stage) → x .won ≡ 0) (c .bids) n noBid (λ r. refl) (ok .won .unsold e)) (ok .won .unsold e);
+          withdrawn = each-set _ (c .bids) n new (λ s. none) (ok .won .withdrawn);
+          sold = λ k. set-cases (λ (x : Bid). count (soldTo k) (c .roll) ≤ x .won) (c .bids) n new noBid k
+              (λ e. omega (arith, ok .won .sold k, ap (λ (i : ℕ). getD (c .bids) i noBid .won) e)) (ok .won .sold k);
+        };
+        units = ok .units;
+      }
 
   -- ---- SALE
 

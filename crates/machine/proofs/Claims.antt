@@ -200,6 +200,10 @@ module _ (calls : List (List ℕ)) (c : Case) (here : runFrom none calls ≡ som
   pub won-above-reserve : (b : ℕ) → 0 < getD (c .bids) b noBid .won → worstReserve (c .rounds) (getD (c .bids) b noBid .pool) ≤ getD (c .bids) b noBid .price
   won-above-reserve = B.won-above-reserve c in-order
 
+  -- document 02, C-14: a bid that was taken back has won nothing
+  pub withdrawn-won-none : (b : ℕ) → b < length (c .bids) → getD (c .bids) b noBid .stands ≡ false → getD (c .bids) b noBid .won ≡ 0
+  withdrawn-won-none b l = each-at _ (c .bids) b noBid l (in-order .won .withdrawn)
+
   -- the units won in a pool and those open are at most its units, and a bid has at most as many entries as it won
   pub won-in-pool : (pool : ℕ) → sum (map (λ b. b .won) (keep (λ b. eqb (b .pool) pool) (c .bids))) + openUnits (c .roll) pool ≤ getD (c .pools) pool noPool .units
   won-in-pool = B.won-le-units c in-order

@@ -8,7 +8,7 @@ use lib.Dec.{eqb}
 use lib.ListN.{length, getD, drop, List·getD-map}
 use borrow.Author.Tests.{eqb-true}
 use Rattle.lists.specs.Lists.{if_then_else_, sum, keep, among, mapFrom, tab}
-use Rattle.lists.proofs.Bools.{either}
+use Rattle.lists.proofs.Bools.{either, and-right}
 use Rattle.lists.proofs.Places.{getD-tab}
 use Rattle.lists.proofs.Keep.{putBack-at, putBack-sum, sum-keep-cons, sum-from}
 use Rattle.lists.proofs.Each.{Each}
@@ -17,7 +17,7 @@ use Rattle.auction.proofs.Laws.{allot-le, allot-reserve-met}
 use Rattle.auction.proofs.Totals.{allot-sum-le}
 use Rattle.machine.specs.Roll.{Bid, noBid, withWon, openUnits}
 use Rattle.machine.specs.State.{Case}
-use Rattle.machine.specs.Calls.{reserve, inAuction, wonIn, wonGiven}
+use Rattle.machine.specs.Calls.{reserve, inRound, inAuction, wonIn, wonGiven}
 use Rattle.machine.proofs.Giving.{wonWhere, wonThen}
 use Rattle.machine.proofs.Invariant.{ofPool}
 
@@ -59,19 +59,19 @@ wins-at c round pools pool l i = ap (λ (w : List ℕ). getD w i 0) (getD-tab po
 module _ (round : ℕ) (wins : List (List ℕ)) where
   -- nothing but the units won changes
   pub given-same : {A : Type 0} (g : Bid → A) → ((b : Bid) (v : ℕ) → g (withWon b v) ≡ g b) → (i : ℕ) (b : Bid) → g (wonGiven round wins i b) ≡ g b
-  unfolding wonGiven
-  given-same g same i b = either (λ (x : Bid). g x ≡ g b) (eqb (b .round) round) (same b (getD (getD wins (b .pool) []) i 0)) refl
+  unfolding wonGiven inRound
+  given-same g same i b = either (λ (x : Bid). g x ≡ g b) (inRound round b) (same b (getD (getD wins (b .pool) []) i 0)) refl
 
   -- a bid of this round had won nothing, and has what it is given; the others keep theirs
   pub given-won : (i : ℕ) (b : Bid) → (b .round ≡ round → b .won ≡ 0) → b .won + wonThen round (wonGiven round wins i b) ≤ wonGiven round wins i b .won
-  unfolding wonGiven
-  given-won i b none = go (eqb (b .round) round) refl
+  unfolding wonGiven inRound
+  given-won i b none = go (inRound round b) refl
     where
       new : ℕ
       new = getD (getD wins (b .pool) []) i 0
 
-      go : (t : Bool) → eqb (b .round) round ≡ t → b .won + wonThen round (if t then withWon b new else b) ≤ (if t then withWon b new else b) .won
-      go true e = rw e (omega (arith, none (eqb-true (b .round) round e)))
+      go : (t : Bool) → inRound round b ≡ t → b .won + wonThen round (if t then withWon b new else b) ≤ (if t then withWon b new else b) .won
+      go true e = rw e (omega (arith, none (eqb-true (b .round) round (and-right (b .stands) _ e))))
       go false e = rw e (omega arith)
 
   module _ (pool : ℕ) where
@@ -79,14 +79,14 @@ module _ (round : ℕ) (wins : List (List ℕ)) where
     part b = if inAuction round pool b then b .won else 0
 
     part-given : (i : ℕ) (b : Bid) (x : ℕ) → (b .pool ≡ pool → getD (getD wins (b .pool) []) i 0 ≤ x) → part (wonGiven round wins i b) ≤ x
-    unfolding wonGiven inAuction
-    part-given i b x h = go (eqb (b .round) round) (eqb (b .pool) pool) refl refl
+    unfolding wonGiven inAuction inRound
+    part-given i b x h = go (inRound round b) (eqb (b .pool) pool) refl refl
       where
         new : ℕ
         new = getD (getD wins (b .pool) []) i 0
 
-        go : (t u : Bool) → eqb (b .round) round ≡ t → eqb (b .pool) pool ≡ u
-            → (if eqb ((if t then withWon b new else b) .round) round && eqb ((if t then withWon b new else b) .pool) pool then (if t then withWon b new else b) .won else 0) ≤ x
+        go : (t u : Bool) → inRound round b ≡ t → eqb (b .pool) pool ≡ u
+            → (if inRound round (if t then withWon b new else b) && eqb ((if t then withWon b new else b) .pool) pool then (if t then withWon b new else b) .won else 0) ≤ x
         go true true e f = rw (e, f) (h (eqb-true (b .pool) pool f))
         go true false e f = rw (e, f) (omega arith)
         go false u e f = rw e (omega arith)
@@ -108,15 +108,15 @@ module _ (round : ℕ) (wins : List (List ℕ)) where
     -- a bid's new units won are its old ones, or those given now
     won-given : (i : ℕ) (b : Bid) → (if ofPool pool (wonGiven round wins i b) then wonGiven round wins i b .won else 0)
         ≤ (if ofPool pool b then b .won else 0) + part (wonGiven round wins i b)
-    unfolding wonGiven inAuction
-    won-given i b = go (eqb (b .round) round) (eqb (b .pool) pool) refl refl
+    unfolding wonGiven inAuction inRound
+    won-given i b = go (inRound round b) (eqb (b .pool) pool) refl refl
       where
         new : ℕ
         new = getD (getD wins (b .pool) []) i 0
 
-        go : (t u : Bool) → eqb (b .round) round ≡ t → eqb (b .pool) pool ≡ u
+        go : (t u : Bool) → inRound round b ≡ t → eqb (b .pool) pool ≡ u
             → (if eqb ((if t then withWon b new else b) .pool) pool then (if t then withWon b new else b) .won else 0)
-            ≤ (if u then b .won else 0) + (if eqb ((if t then withWon b new else b) .round) round && eqb ((if t then withWon b new else b) .pool) pool then (if t then withWon b new else b) .won else 0)
+            ≤ (if u then b .won else 0) + (if inRound round (if t then withWon b new else b) && eqb ((if t then withWon b new else b) .pool) pool then (if t then withWon b new else b) .won else 0)
         go true true e f = rw (e, f) (omega arith)
         go true false e f = rw (e, f) (omega arith)
         go false true e f = rw (e, f) (omega arith)

@@ -12,7 +12,7 @@ use Rattle.lists.proofs.Bools.{by-test, and-right}
 use Rattle.lists.proofs.Counts.{count-given, count-same, count-parts, count-of-map, count-first-le}
 use Rattle.lists.proofs.Keep.{sum-keep-cons}
 use Rattle.machine.specs.Roll.{UnitState, Sold, Allocated, Entry, Bid, noBid, withState, kind, isOpen, openIn, giveLowest, openUnits}
-use Rattle.machine.specs.Calls.{giveShares, inAuction, sell}
+use Rattle.machine.specs.Calls.{giveShares, inRound, inAuction, sell}
 use Rattle.machine.proofs.RollChanges.{takenIn, taken, soldIs, soldTo, Closed, changes-give, changes-sell, same-pools, sold-falls}
 
 -- the units won by the bids that pass a test
@@ -81,7 +81,7 @@ unfolding sell keep sum inAuction
 sell-open pool round i [] roll l = omega arith
 sell-open pool round i (b ∷ bs) roll l =
     let first = sum-keep-cons (inAuction round pool) (λ (x : Bid). x .won) b bs in
-    omega (arith, first, go (eqb (b .round) round) (eqb (b .pool) pool) refl (omega (arith, first)) (λ r. sell-open pool round (suc i) bs r))
+    omega (arith, first, go (inRound round b) (eqb (b .pool) pool) refl (omega (arith, first)) (λ r. sell-open pool round (suc i) bs r))
   where
     rest : ℕ
     rest = wonWhere (inAuction round pool) bs
@@ -131,12 +131,12 @@ give-sold b i pool n roll =
 
 -- what a bid won, if it is of this round
 abbrev pub wonThen : ℕ → Bid → ℕ
-wonThen round b = if eqb (b .round) round then b .won else 0
+wonThen round b = if inRound round b then b .won else 0
 
 turn-sold : (b round i : ℕ) (x : Bid) (roll : List Entry)
-    → count (soldTo b) (if eqb (x .round) round then giveLowest (x .pool) (Sold i) (x .won) roll else roll)
+    → count (soldTo b) (if inRound round x then giveLowest (x .pool) (Sold i) (x .won) roll else roll)
     ≤ count (soldTo b) roll + (if eqb i b then wonThen round x else 0)
-turn-sold b round i x roll = go (eqb (x .round) round)
+turn-sold b round i x roll = go (inRound round x)
   where
     go : (t : Bool) → count (soldTo b) (if t then giveLowest (x .pool) (Sold i) (x .won) roll else roll)
         ≤ count (soldTo b) roll + (if eqb i b then (if t then x .won else 0) else 0)
@@ -151,7 +151,7 @@ sold-before b round i (x ∷ bs) roll l =
     omega (
       arith,
       rw (ne-eqb i b (omega arith)) at (turn-sold b round i x roll),
-      sold-before b round (suc i) bs (if eqb (x .round) round then giveLowest (x .pool) (Sold i) (x .won) roll else roll) (omega arith),
+      sold-before b round (suc i) bs (if inRound round x then giveLowest (x .pool) (Sold i) (x .won) roll else roll) (omega arith),
     )
 
 -- bid i + k, of those that are given units from bid i on
@@ -163,10 +163,10 @@ sell-sold zero round i (x ∷ bs) roll =
     omega (
       arith,
       rw (eq-eqb i (i + 0) (omega arith)) at (turn-sold (i + 0) round i x roll),
-      sold-before (i + 0) round (suc i) bs (if eqb (x .round) round then giveLowest (x .pool) (Sold i) (x .won) roll else roll) (omega arith),
+      sold-before (i + 0) round (suc i) bs (if inRound round x then giveLowest (x .pool) (Sold i) (x .won) roll else roll) (omega arith),
     )
 sell-sold (suc k) round i (x ∷ bs) roll =
-    let next : List Entry = if eqb (x .round) round then giveLowest (x .pool) (Sold i) (x .won) roll else roll in
+    let next : List Entry = if inRound round x then giveLowest (x .pool) (Sold i) (x .won) roll else roll in
     let same : suc i + k ≡ i + suc k = omega arith in
     omega (
       arith,

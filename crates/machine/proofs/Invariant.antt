@@ -136,6 +136,8 @@ pub record WonOk (s : Stage) (rounds : List Round) (bids : List Bid) (roll : Lis
   pub unsold : letter s ≡ 2 → Each (λ b. b .round ≡ roundOf s → b .won ≡ 0) bids
   -- a bid has at most as many entries as it won
   pub sold : (b : ℕ) → count (soldTo b) roll ≤ getD bids b noBid .won
+  -- a bid that was taken back has won nothing (document 02, C-14)
+  pub withdrawn : Each (λ b. b .stands ≡ false → b .won ≡ 0) bids
 
 -- ---- open units
 

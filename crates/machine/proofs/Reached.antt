@@ -11,7 +11,7 @@ use Rattle.lists.specs.Lists.{between}
 use Rattle.lists.proofs.Bools.{either}
 use Rattle.lists.proofs.Places.{length-tab}
 use Rattle.lists.specs.Tests.{Passed}
-use Rattle.machine.specs.Wire.{Head, Call, HEAD, POOL, MEMBER, ROUND, BID, CLOSE, ALLOCATE, TEAR, CALL, PAY, MOVE, MISS, FINISH, SALE, number, rightLength, callOf, decode}
+use Rattle.machine.specs.Wire.{Head, Call, HEAD, POOL, MEMBER, ROUND, BID, CLOSE, ALLOCATE, TEAR, CALL, PAY, MOVE, MISS, FINISH, SALE, WITHDRAW, number, rightLength, callOf, decode}
 use Rattle.machine.specs.State.{Case, State, newCase, theCase, letterOf}
 use Rattle.machine.specs.Calls.{accepted}
 use Rattle.machine.specs.Refusals.{tests}
@@ -19,7 +19,7 @@ use Rattle.machine.specs.Machine.{step}
 use Rattle.machine.specs.Run.{runFrom}
 use Rattle.machine.proofs.Answers.{step-cases}
 use Rattle.machine.proofs.Invariant.{CaseOk}
-use Rattle.machine.proofs.CallsKept.{head-ok, pool-ok, member-ok, round-ok, bid-ok, close-ok, allocate-ok, tear-ok, call-ok, pay-ok, move-ok, miss-ok, finish-ok, sale-ok}
+use Rattle.machine.proofs.CallsKept.{head-ok, pool-ok, member-ok, round-ok, bid-ok, close-ok, allocate-ok, tear-ok, call-ok, pay-ok, move-ok, miss-ok, finish-ok, sale-ok, withdraw-ok}
 
 -- ---- what the bytes' length says of a call: MEMBER expects units in four pools
 
@@ -38,6 +38,7 @@ Fits (MOVE m) = Unit {0}
 Fits (MISS m price) = Unit {0}
 Fits FINISH = Unit {0}
 Fits (SALE pool m price) = Unit {0}
+Fits (WITHDRAW m n) = Unit {0}
 
 call-fits : (tag : ℕ) (v : List ℕ) → Fits (callOf tag v)
 unfolding callOf
@@ -54,7 +55,8 @@ call-fits tag v =
     (either Fits (eqb tag 10) tt
     (either Fits (eqb tag 11) tt
     (either Fits (eqb tag 12) tt
-    (either Fits (eqb tag 13) tt tt))))))))))))
+    (either Fits (eqb tag 13) tt
+    (either Fits (eqb tag 14) tt tt)))))))))))))
 
 -- every call that bytes are fits
 abbrev AllFit : Option Call → Type 0
@@ -67,7 +69,7 @@ decoded-fits [] = tt
 decoded-fits (tag ∷ []) = tt
 decoded-fits (tag ∷ high ∷ []) = tt
 decoded-fits (tag ∷ high ∷ low ∷ v) =
-    either AllFit (between 1 14 tag && eqb (high * 256 + low) (length v) && rightLength tag (length v)) {x = some (callOf tag v)} {y = none} (call-fits tag v) tt
+    either AllFit (between 1 15 tag && eqb (high * 256 + low) (length v) && rightLength tag (length v)) {x = some (callOf tag v)} {y = none} (call-fits tag v) tt
 
 pub decode-fits : (bytes : List ℕ) (call : Call) → decode bytes ≡ some call → Fits call
 decode-fits bytes call e = rw e at (decoded-fits bytes)
@@ -95,6 +97,7 @@ next-ok c ok (MOVE m) f t = move-ok c ok m t
 next-ok c ok (MISS m price) f t = miss-ok c ok m price t
 next-ok c ok FINISH f t = finish-ok c ok t
 next-ok c ok (SALE pool m price) f t = sale-ok c ok pool m price t
+next-ok c ok (WITHDRAW m n) f t = withdraw-ok c ok m n t
 
 -- where there is no case, only HEAD is accepted
 pub first-call : (P : Call → Type 0) → ((h : Head) → P (HEAD h)) → (call : Call) → Passed (tests none (theCase none) call) → P call
@@ -113,6 +116,7 @@ first-call P head (MOVE m) t = absurd (false≢true (sym (t .0)))
 first-call P head (MISS m price) t = absurd (false≢true (sym (t .0)))
 first-call P head FINISH t = absurd (false≢true (sym (t .0)))
 first-call P head (SALE pool m price) t = absurd (false≢true (sym (t .0)))
+first-call P head (WITHDRAW m n) t = absurd (false≢true (sym (t .0)))
 
 accepted-ok : (s : State) → StateOk s → (call : Call) → Fits call → Passed (tests s (theCase s) call) → CaseOk (accepted (theCase s) call)
 unfolding accepted tests

@@ -15,7 +15,7 @@ use Rattle.lists.proofs.Each.{Each, drop-step}
 use Rattle.lists.proofs.Pairs.{Pairs, pairs-same, pairs-trans, pairs-map, pairs-changeFirst, pairs-set, pairs-each, pairs-field, pairs-count, pairs-count-falls}
 use Rattle.auction.specs.Price.{zeroPrice}
 use Rattle.machine.specs.Roll.{UnitState, Open, Sold, Allocated, Moved, Torn, Agreed, Entry, Bid, noBid, withState, kind, isOpen, openIn, giveLowest, changedIf, tornIf, openUnits, priceOf}
-use Rattle.machine.specs.Calls.{giveShares, sell}
+use Rattle.machine.specs.Calls.{giveShares, inRound, sell}
 use Rattle.machine.specs.Move.{Found, mayMove, turn, later, better, nextFrom, moveUnits}
 
 -- ---- what is counted
@@ -105,9 +105,9 @@ module _ (New : ℕ → UnitState → Type 0) where
   changes-sell bids new round i [] roll e = changes-none roll
   changes-sell bids new round i (b ∷ bs) roll e =
       let r = drop-step bids i b noBid bs e in
-      let next = if eqb (b .round) round then giveLowest (b .pool) (Sold i) (b .won) roll else roll in
+      let next = if inRound round b then giveLowest (b .pool) (Sold i) (b .won) roll else roll in
       changes-trans roll next _
-      (either (Changes New roll) (eqb (b .round) round)
+      (either (Changes New roll) (inRound round b)
       (changes-give (b .pool) (Sold i) (b .won) roll (rw (ap (λ (x : Bid). x .pool) (r .1)) at (new i (r .0)))) (changes-none roll))
       (changes-sell bids new round (suc i) bs next (r .2))
 

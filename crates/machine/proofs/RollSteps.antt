@@ -12,12 +12,12 @@ use Rattle.lists.specs.Lists.{if_then_else_, count}
 use Rattle.lists.proofs.Counts.{count-append, count-of-map}
 use Rattle.lists.proofs.Each.{each-always, map-append, map-replicate}
 use Rattle.lists.specs.Tests.{Passed}
-use Rattle.machine.specs.Wire.{Call, HEAD, POOL, MEMBER, ROUND, BID, CLOSE, ALLOCATE, TEAR, CALL, PAY, MOVE, MISS, FINISH, SALE, decode}
+use Rattle.machine.specs.Wire.{Call, HEAD, POOL, MEMBER, ROUND, BID, CLOSE, ALLOCATE, TEAR, CALL, PAY, MOVE, MISS, FINISH, SALE, WITHDRAW, decode}
 use Rattle.machine.specs.Roll.{UnitState, Open, Sold, Allocated, Moved, Torn, Agreed, Entry, noBid, kind, isOpen, openIn, openUnits, putUp, passedTo}
 use Rattle.machine.specs.State.{State, theCase, letterOf, memberList, roundOf}
 use Rattle.machine.specs.Requirement.{owes}
 use Rattle.machine.specs.Move.{moveAll}
-use Rattle.machine.specs.Calls.{accepted, afterPool, afterMember, afterRound, afterBid, bidsAfter, afterClose, allocation, afterAllocate, afterTear, afterCall, afterPay, afterMove, afterMiss, sold, afterSale}
+use Rattle.machine.specs.Calls.{accepted, afterPool, afterMember, afterRound, afterBid, bidsAfter, afterClose, allocation, afterAllocate, afterTear, afterCall, afterPay, afterMove, afterMiss, sold, afterSale, afterWithdraw}
 use Rattle.machine.specs.Refusals.{tests}
 use Rattle.machine.specs.Machine.{step}
 use Rattle.machine.proofs.Answers.{step-cases}
@@ -40,6 +40,7 @@ putUpBy (MOVE m) = []
 putUpBy (MISS m price) = []
 putUpBy FINISH = []
 putUpBy (SALE pool m price) = []
+putUpBy (WITHDRAW m n) = []
 
 abbrev pub openEntry : ℕ → Entry
 openEntry pool = record { pool = pool; state = Open }
@@ -67,7 +68,7 @@ module _
 
     pub roll-changes : (s : State) (call : Call) → ((pool m price : ℕ) → call ≡ SALE pool m price → (k : ℕ) → New k (Agreed m price))
         → Passed (tests s (theCase s) call) → Changes New (putUpAll (putUpBy call) (rollOf s)) (accepted (theCase s) call .roll)
-    unfolding accepted afterPool afterMember afterRound afterBid afterClose afterAllocate afterTear afterCall afterPay afterMove afterMiss sold afterSale putUp moveAll tests letterOf
+    unfolding accepted afterPool afterMember afterRound afterBid afterClose afterAllocate afterTear afterCall afterPay afterMove afterMiss sold afterSale afterWithdraw putUp moveAll tests letterOf
     roll-changes none (HEAD h) agreed t = tt
     roll-changes (some c) (HEAD h) agreed t = absurd (false≢true (sym (letter-some (c .stage)) ∙ not-false _ (t .0)))
     roll-changes s (POOL pool units mark) agreed t = rw (map-replicate openEntry units pool) (changes-none New (putUp pool units (rollOf s)))
@@ -93,6 +94,7 @@ module _
         none-added (rollOf s) _ (changes-torn New (λ e. passedTo m (e .state)) price (rollOf s) (λ k. torn-new k price))
     roll-changes s FINISH agreed t = same-roll s
     roll-changes s (SALE pool m price) agreed t = none-added (rollOf s) _ (changes-changed New (openIn pool) (Agreed m price) (rollOf s) (agreed pool m price refl))
+    roll-changes s (WITHDRAW m n) agreed t = same-roll s
 
 -- no state given is open
 abbrev Shut : ℕ → UnitState → Type 0

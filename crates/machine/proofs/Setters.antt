@@ -81,6 +81,7 @@ module _ (c : Case) (ok : CaseOk c) where
           reserves = ok .won .reserves;
           unsold = ok .won .unsold;
           sold = λ b. omega (arith, ok .won .sold b, sold-falls New (c .roll) v changes b (λ pool s n. n .unsold b));
+          withdrawn = ok .won .withdrawn;
         };
         units = record {
           opened = λ e. absurd (late e);
@@ -143,6 +144,7 @@ module _ (c : Case) (ok : CaseOk c) where
           reserves = ok .won .reserves;
           unsold = λ e. absurd (omega arith);
           sold = ok .won .sold;
+          withdrawn = ok .won .withdrawn;
         };
         units = record { opened = λ e. absurd (omega arith); none = λ l. shut; setup = λ e. absurd (omega arith); sold-out = λ a z. shut };
       }
@@ -174,6 +176,7 @@ module _ (c : Case) (ok : CaseOk c) where
           reserves = ok .won .reserves;
           unsold = λ e. absurd (omega arith);
           sold = ok .won .sold;
+          withdrawn = ok .won .withdrawn;
         };
         units = record { opened = λ e. absurd (omega arith); none = λ l. absurd (omega arith); setup = λ e. absurd (omega arith); sold-out = λ a z. shut };
       }

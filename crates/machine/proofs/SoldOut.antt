@@ -17,11 +17,11 @@ use Rattle.lists.proofs.Each.{Each, each-more, each-both, each-always, each-get
 use Rattle.lists.specs.Tests.{Passed, firstOf}
 use Rattle.auction.specs.Price.{priceOk}
 use Rattle.waterfall.specs.Charging.{charged}
-use Rattle.machine.specs.Wire.{Call, HEAD, POOL, MEMBER, ROUND, BID, CLOSE, ALLOCATE, TEAR, CALL, PAY, MOVE, MISS, FINISH, SALE}
+use Rattle.machine.specs.Wire.{Call, HEAD, POOL, MEMBER, ROUND, BID, CLOSE, ALLOCATE, TEAR, CALL, PAY, MOVE, MISS, FINISH, SALE, WITHDRAW}
 use Rattle.machine.specs.Roll.{Entry, isOpen, isAgreed, anyOpen, passedTo}
 use Rattle.machine.specs.State.{Stage, Setup, Bidding, After, CallsOut, Finished, Member, Case, noMember, memberList, memberAt, letter, letterOf, roundOf}
 use Rattle.machine.specs.Requirement.{requirement, prefunded, owes}
-use Rattle.machine.specs.Calls.{accepted, afterPool, afterMember, afterRound, afterBid, afterClose, afterAllocate, afterTear, afterCall, afterPay, afterMove, afterMiss, sold, afterSale}
+use Rattle.machine.specs.Calls.{accepted, afterPool, afterMember, afterRound, afterBid, afterClose, afterAllocate, afterTear, afterCall, afterPay, afterMove, afterMiss, sold, afterSale, afterWithdraw}
 use Rattle.machine.specs.Refusals.{tests, refusal, noneOpen, nonePassed, someoneOwes}
 use Rattle.machine.specs.Result.{limits, sixCharges, charge}
 use Rattle.machine.specs.Run.{runFrom}
@@ -134,6 +134,7 @@ module _ (c : Case) (ok : CaseOk c) (so : SoldOut c) (after : letter (c .stage) 
   only-finish (MISS m price) t = absurd (false≢true (sym (t .1 .1 .1 .0) ∙ none-passed m))
   only-finish FINISH t = refl
   only-finish (SALE pool m price) t = absurd (omega (arith, letter-is (c .stage) 1 (t .0)))
+  only-finish (WITHDRAW m n) t = absurd (omega (arith, letter-is (c .stage) 2 (t .0)))
 
 -- ---- every call keeps it
 
@@ -156,7 +157,7 @@ module _ (c : Case) (ok : CaseOk c) (so : SoldOut c) where
       )
 
   sold-call : (call : Call) → Passed (tests (some c) c call) → SoldOut (accepted c call)
-  unfolding accepted tests letterOf letter afterPool afterMember afterRound afterBid afterClose afterAllocate afterTear afterCall afterPay afterMove afterMiss
+  unfolding accepted tests letterOf letter afterPool afterMember afterRound afterBid afterClose afterAllocate afterTear afterCall afterPay afterMove afterMiss afterWithdraw
   sold-call (HEAD h) t a z = absurd (omega arith)
   sold-call (POOL pool units mark) t a z = absurd (omega (arith, letter-is (c .stage) 1 (t .0)))
   sold-call (MEMBER m contribution expected) t a z = absurd (omega (arith, letter-is (c .stage) 1 (t .0)))
@@ -173,6 +174,7 @@ module _ (c : Case) (ok : CaseOk c) (so : SoldOut c) where
   sold-call (MISS m price) t a z = absurd (false≢true (sym (t .1 .1 .1 .0) ∙ none-passed c ok so a z m))
   sold-call FINISH t a z = absurd (omega arith)
   sold-call (SALE pool m price) t a z = sold-sale pool m price t a z
+  sold-call (WITHDRAW m n) t a z = absurd (omega (arith, letter-is (c .stage) 2 (t .0)))
 
 -- after every list of calls
 pub sold-out : (calls : List (List ℕ)) (c : Case) → runFrom none calls ≡ some c → SoldOut c

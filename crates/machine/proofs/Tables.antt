@@ -13,10 +13,10 @@ use Rattle.lists.specs.Lists.{if_then_else_}
 use Rattle.lists.specs.Tests.{Test, firstOf}
 use Rattle.lists.proofs.Passed.{ascending, ascending-above}
 use Rattle.lists.proofs.Each.{Each}
-use Rattle.machine.specs.Wire.{Head, Call, HEAD, POOL, MEMBER, ROUND, BID, CLOSE, ALLOCATE, TEAR, CALL, PAY, MOVE, MISS, FINISH, SALE, decode}
+use Rattle.machine.specs.Wire.{Head, Call, HEAD, POOL, MEMBER, ROUND, BID, CLOSE, ALLOCATE, TEAR, CALL, PAY, MOVE, MISS, FINISH, SALE, WITHDRAW, decode}
 use Rattle.machine.specs.Roll.{anyOpen}
 use Rattle.machine.specs.State.{Stage, Setup, Bidding, After, CallsOut, Finished, Case, State, letter, letterOf, roundOf, theCase}
-use Rattle.machine.specs.Calls.{accepted, afterPool, afterMember, afterRound, afterBid, afterClose, afterAllocate, afterTear, afterCall, afterPay, afterMove, afterMiss, sold, afterSale}
+use Rattle.machine.specs.Calls.{accepted, afterPool, afterMember, afterRound, afterBid, afterClose, afterAllocate, afterTear, afterCall, afterPay, afterMove, afterMiss, sold, afterSale, afterWithdraw}
 use Rattle.machine.specs.Refusals.{tests, refusal}
 use Rattle.machine.specs.Machine.{step, answered}
 use Rattle.machine.specs.Table.{Letter, N, S, B1, B2, A1, A2, C, F, ofRound, letterOfStage, letterIn, Cell, x, to, whileOpen, row, stageTable, wrongReserves, wrongLength, declined, meant, earlyAnswer, firstTwo, ByTable}
@@ -91,6 +91,7 @@ early-none (MOVE m) = refl
 early-none (MISS m price) = refl
 early-none FINISH = refl
 early-none (SALE pool m price) = refl
+early-none (WITHDRAW m n) = refl
 
 module _ (c : Case) where
   -- a call whose first test is that of the stage
@@ -126,6 +127,7 @@ module _ (c : Case) where
   early-some (MISS m price) = by-row (MISS m price) (λ k one. not (eqb k 3 || eqb k 4)) _ refl refl refl refl refl refl refl refl
   early-some FINISH = by-row FINISH (λ k one. not (eqb k 3 || eqb k 4)) _ refl refl refl refl refl refl refl refl
   early-some (SALE pool m price) = by-row (SALE pool m price) (λ k one. not (eqb k 1)) _ refl refl refl refl refl refl refl refl
+  early-some (WITHDRAW m n) = by-row (WITHDRAW m n) (λ k one. not (eqb k 2)) _ refl refl refl refl refl refl refl refl
 
 early : (s : State) (call : Call) → firstTwo (refusal s call) ≡ earlyAnswer s (some call)
 early none call = early-none call
@@ -237,13 +239,14 @@ stage-none (MOVE m) e = absurd (omega arith)
 stage-none (MISS m price) e = absurd (omega arith)
 stage-none FINISH e = absurd (omega arith)
 stage-none (SALE pool m price) e = absurd (omega arith)
+stage-none (WITHDRAW m n) e = absurd (omega arith)
 
 module _ (c : Case) where
   abbrev here : Letter
   here = letterOfStage (c .stage)
 
   stage-some : (call : Call) → declined (stageTable call here) ≡ 0 → to (letterOfStage (accepted c call .stage)) ≡ meant (some (accepted c call)) (stageTable call here)
-  unfolding stageTable meant accepted letterOfStage afterPool afterMember afterRound afterBid afterClose afterAllocate afterTear afterCall afterPay afterMove afterMiss afterSale row
+  unfolding stageTable meant accepted letterOfStage afterPool afterMember afterRound afterBid afterClose afterAllocate afterTear afterCall afterPay afterMove afterMiss afterSale afterWithdraw row
   stage-some (HEAD h) e = made (some (accepted c (HEAD h))) true false false false false false false false S here e
   stage-some (POOL pool units mark) e = left (some (accepted c (POOL pool units mark))) false true false false false false false false here e
   stage-some (MEMBER m contribution expected) e = left (some (accepted c (MEMBER m contribution expected))) false true false false false false false false here e
@@ -258,6 +261,7 @@ module _ (c : Case) where
   stage-some (MISS m price) e = left (some (accepted c (MISS m price))) false false false false true true true false here e
   stage-some FINISH e = made (some (accepted c FINISH)) false false false false true true true false F here e
   stage-some (SALE pool m price) e = rw (in-setup (c .stage) e) (ap to (sale-makes (c .stage) (anyOpen (sold pool m price (c .roll))) e))
+  stage-some (WITHDRAW m n) e = left (some (accepted c (WITHDRAW m n))) false false true true false false false false here e
 
 stage-after : (s : State) (call : Call) → declined (stageTable call (letterIn s)) ≡ 0
     → to (letterIn (some (accepted (theCase s) call))) ≡ meant (some (accepted (theCase s) call)) (stageTable call (letterIn s))

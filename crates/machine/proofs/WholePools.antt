@@ -14,10 +14,10 @@ use Rattle.lists.proofs.Bools.{cases, by-test, and-right, and-false, or-right}
 use Rattle.lists.proofs.Counts.{count-append, count-replicate-out, count-none}
 use Rattle.lists.proofs.Each.{Each, each-append, each-replicate, each-map, each-more, each-always, map-ext}
 use Rattle.lists.specs.Tests.{Passed}
-use Rattle.machine.specs.Wire.{Call, HEAD, POOL, MEMBER, ROUND, BID, CLOSE, ALLOCATE, TEAR, CALL, PAY, MOVE, MISS, FINISH, SALE}
+use Rattle.machine.specs.Wire.{Call, HEAD, POOL, MEMBER, ROUND, BID, CLOSE, ALLOCATE, TEAR, CALL, PAY, MOVE, MISS, FINISH, SALE, WITHDRAW}
 use Rattle.machine.specs.Roll.{Agreed, Entry, withState, kind, isOpen, openIn, changedIf, openUnits, putUp}
 use Rattle.machine.specs.State.{Case, letter, letterOf}
-use Rattle.machine.specs.Calls.{accepted, afterPool, afterMember, afterRound, afterBid, afterClose, afterAllocate, afterTear, afterCall, afterPay, afterMove, afterMiss, sold, afterSale}
+use Rattle.machine.specs.Calls.{accepted, afterPool, afterMember, afterRound, afterBid, afterClose, afterAllocate, afterTear, afterCall, afterPay, afterMove, afterMiss, sold, afterSale, afterWithdraw}
 use Rattle.machine.specs.Refusals.{tests, noneOpen, notInCase}
 use Rattle.machine.specs.Run.{runFrom}
 use Rattle.machine.proofs.RollChanges.{Closed, changes-changed, open-falls}
@@ -82,7 +82,7 @@ WholeInSetup c = letter (c .stage) ≡ 1 → Whole (c .roll)
 
 module _ (c : Case) (ok : CaseOk c) (whole : WholeInSetup c) where
   whole-call : (call : Call) → Passed (tests (some c) c call) → WholeInSetup (accepted c call)
-  unfolding accepted tests letterOf letter afterPool afterMember afterRound afterBid afterClose afterAllocate afterTear afterCall afterPay afterMove afterMiss afterSale
+  unfolding accepted tests letterOf letter afterPool afterMember afterRound afterBid afterClose afterAllocate afterTear afterCall afterPay afterMove afterMiss afterSale afterWithdraw
   whole-call (HEAD h) t s = λ pool l. tt
   whole-call (POOL pool units mark) t s =
       let next = eqb-true pool (length (c .pools)) (not-false _ (or-right (notInCase (c .head) pool) _ (t .1 .0))) in
@@ -99,6 +99,7 @@ module _ (c : Case) (ok : CaseOk c) (whole : WholeInSetup c) where
   whole-call (MISS m price) t s = absurd (omega (arith, letter-AC (c .stage) (t .0) .0))
   whole-call FINISH t s = absurd (omega arith)
   whole-call (SALE pool m price) t s = whole-sale pool m price (c .roll) (whole (letter-is (c .stage) 1 (t .0)))
+  whole-call (WITHDRAW m n) t s = absurd (omega (arith, letter-is (c .stage) 2 (t .0)))
 
 -- after every list of calls
 pub whole-pools : (calls : List (List ℕ)) (c : Case) → runFrom none calls ≡ some c → WholeInSetup c

@@ -8,8 +8,8 @@ use mathlib.Core.Bool.{true, false}
 use Rattle.lists.specs.Lists.{if_then_else_, sum, keep, among, mapFrom, tab}
 use Rattle.splitting.specs.Split.{splitAmong}
 use Rattle.auction.specs.Auction.{allot}
-use Rattle.machine.specs.Wire.{Call, HEAD, POOL, MEMBER, ROUND, BID, CLOSE, ALLOCATE, TEAR, CALL, PAY, MOVE, MISS, FINISH, SALE}
-use Rattle.machine.specs.Roll.{Sold, Allocated, Agreed, Entry, Bid, withWon, openIn, openUnits, anyOpen, putUp, giveLowest, changedIf, tornIf, passedTo}
+use Rattle.machine.specs.Wire.{Call, HEAD, POOL, MEMBER, ROUND, BID, CLOSE, ALLOCATE, TEAR, CALL, PAY, MOVE, MISS, FINISH, SALE, WITHDRAW}
+use Rattle.machine.specs.Roll.{Sold, Allocated, Agreed, Entry, Bid, noBid, withWon, withdrawn, openIn, openUnits, anyOpen, putUp, giveLowest, changedIf, tornIf, passedTo}
 use Rattle.machine.specs.State.{Bidding, After, CallsOut, Finished, Member, Round, Case, newCase, noRound, inSet, memberList, memberAt, roundOf}
 use Rattle.machine.specs.State.{withStage, withPools, withMembers, withRounds, withBids, withRoll, withAllocated, withCalled, withPaid, withMoved}
 use Rattle.machine.specs.Requirement.{requirement, prefunded, contributionOf, contributions, owes}
@@ -41,7 +41,7 @@ afterRound c reserves =
 
 -- a bid of a round, which has won nothing yet
 abbrev pub newBid : ℕ → ℕ → ℕ → ℕ → ℕ → Bid
-newBid round pool m units price = record { round = round; pool = pool; member = m; units = units; price = price; won = 0 }
+newBid round pool m units price = record { round = round; pool = pool; member = m; units = units; price = price; won = 0; stands = true }
 
 -- "bids, numbered from 0 as accepted"
 unfoldable pub afterBid : Case → ℕ → ℕ → ℕ → ℕ → Case
@@ -53,9 +53,13 @@ afterBid c pool m units price = withBids c (c .bids ++ (newBid (roundOf (c .stag
 unfoldable pub reserve : List Round → ℕ → ℕ → ℕ
 reserve rounds round pool = getD (getD rounds (round - 1) noRound .reserves) pool 0
 
+-- a bid of this round that stands. Document 02, C-14: "CLOSE allots as though a withdrawn bid had not been sent"
+unfoldable pub inRound : ℕ → Bid → Bool
+inRound round b = b .stands && eqb (b .round) round
+
 -- "a bid of this round .. and only that pool's bids counted"
 unfoldable pub inAuction : ℕ → ℕ → Bid → Bool
-inAuction round pool b = eqb (b .round) round && eqb (b .pool) pool
+inAuction round pool b = inRound round b && eqb (b .pool) pool
 
 -- the units won in a pool, at the place of each bid
 unfoldable pub wonIn : Case → ℕ → ℕ → List ℕ
@@ -64,19 +68,19 @@ wonIn c round pool =
     (λ bs. allot (openUnits (c .roll) pool) (reserve (c .rounds) round pool) (map (λ b. b .units) bs) (map (λ b. b .price) bs))
     (c .bids)
 
--- bid i, with the units that it won if it is of this round; `wins` has a list of units won for each pool
+-- bid i, with the units that it won if it stands and is of this round; `wins` has a list of units won for each pool
 unfoldable pub wonGiven : ℕ → List (List ℕ) → ℕ → Bid → Bid
-wonGiven round wins i b = if eqb (b .round) round then withWon b (getD (getD wins (b .pool) []) i 0) else b
+wonGiven round wins i b = if inRound round b then withWon b (getD (getD wins (b .pool) []) i 0) else b
 
--- the bids, those of this round with the units that they won
+-- the bids, those that stand in this round with the units that they won
 unfoldable pub bidsAfter : Case → ℕ → List Bid
 bidsAfter c round = let wins = tab (c .head .pools) (wonIn c round) in mapFrom 0 (wonGiven round wins) (c .bids)
 
--- "CLOSE gives each bid in order the lowest open entries": the bids of this round, from number i on
+-- "CLOSE gives each bid in order the lowest open entries": the bids of this round that stand, from number i on
 unfoldable pub sell : ℕ → ℕ → List Bid → List Entry → List Entry
 sell round i [] roll = roll
 sell round i (b ∷ bs) roll =
-    sell round (suc i) bs (if eqb (b .round) round then giveLowest (b .pool) (Sold i) (b .won) roll else roll)
+    sell round (suc i) bs (if inRound round b then giveLowest (b .pool) (Sold i) (b .won) roll else roll)
 
 -- CLOSE "makes A"
 unfoldable pub afterClose : Case → Case
@@ -167,6 +171,12 @@ afterSale c pool m price =
     let roll = sold pool m price (c .roll) in
     withStage (withRoll c roll) (if anyOpen roll then c .stage else After 1)
 
+-- ---- WITHDRAW
+
+-- document 02, C-14: the bid no longer stands; it "keeps its number and still counts towards 256"
+unfoldable pub afterWithdraw : Case → ℕ → Case
+afterWithdraw c n = withBids c (set (c .bids) n (withdrawn (getD (c .bids) n noBid)))
+
 -- ---- the case after an accepted call
 
 unfoldable pub accepted : Case → Call → Case
@@ -184,3 +194,4 @@ accepted c (MOVE m) = afterMove c m
 accepted c (MISS m price) = afterMiss c m price
 accepted c FINISH = withStage c Finished
 accepted c (SALE pool m price) = afterSale c pool m price
+accepted c (WITHDRAW m n) = afterWithdraw c n

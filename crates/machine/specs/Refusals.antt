@@ -8,11 +8,11 @@ use lib.ListN.{length, getD, take, drop}
 use Rattle.lists.specs.Lists.{sum, between, any, all}
 use Rattle.lists.specs.Tests.{Test, firstOf}
 use Rattle.auction.specs.Price.{zeroPrice, priceOk}
-use Rattle.machine.specs.Wire.{Head, Call, HEAD, POOL, MEMBER, ROUND, BID, CLOSE, ALLOCATE, TEAR, CALL, PAY, MOVE, MISS, FINISH, SALE}
-use Rattle.machine.specs.Roll.{Entry, openUnits, anyOpen, passedTo, agreedPrices}
-use Rattle.machine.specs.State.{Pool, Case, State, theCase, noCase, isS, isB, isA, isA1, isC, noPool, inSet, memberList, memberAt}
+use Rattle.machine.specs.Wire.{Head, Call, HEAD, POOL, MEMBER, ROUND, BID, CLOSE, ALLOCATE, TEAR, CALL, PAY, MOVE, MISS, FINISH, SALE, WITHDRAW}
+use Rattle.machine.specs.Roll.{Entry, noBid, openUnits, anyOpen, passedTo, agreedPrices}
+use Rattle.machine.specs.State.{Pool, Case, State, theCase, noCase, isS, isB, isA, isA1, isC, noPool, inSet, memberList, memberAt, roundOf}
 use Rattle.machine.specs.Requirement.{requirement, prefunded, owes}
-use Rattle.machine.specs.Calls.{totalShortfall, sold}
+use Rattle.machine.specs.Calls.{inRound, totalShortfall, sold}
 
 -- ---- "5. A number is out of range."
 
@@ -85,6 +85,10 @@ unfoldable pub saleTooDear : Case → ℕ → ℕ → ℕ → Bool
 saleTooDear c pool m price =
     let ps = agreedPrices (c .bids) (sold pool m price (c .roll)) in
     ltb (c .head .margin + c .head .fund + sum ps) (c .head .hedgeLoss + c .head .otherLoss + zeroPrice * length ps)
+
+-- document 02, C-14: "18, after the member check, where no standing bid of that member in the open round has the number"
+unfoldable pub noneStands : Case → ℕ → ℕ → Bool
+noneStands c m n = let b = getD (c .bids) n noBid in not (inRound (roundOf (c .stage)) b && eqb (b .member) m)
 
 -- ---- the lists
 
@@ -171,6 +175,11 @@ tests s c (SALE pool m price) =
     ∷ (8, noneOpen (c .roll) pool)
     ∷ (10, notGiven c)
     ∷ (17, saleTooDear c pool m price)
+    ∷ []
+tests s c (WITHDRAW m n) =
+    (2, not (isB s))
+    ∷ (4, notInSet (c .head) m)
+    ∷ (18, noneStands c m n)
     ∷ []
 
 -- the answer to a call: the first number that applies; "0 is accepted"

@@ -22,7 +22,7 @@ pub record Entry : Type 0 where
   pub pool : ℕ
   pub state : UnitState
 
--- an accepted BID with its round, and the "bid's units won"
+-- an accepted BID with its round, and the "bid's units won". Document 02, C-14: "A bid record in the case now says whether it stands"
 pub record Bid : Type 0 where
   pub round : ℕ
   pub pool : ℕ
@@ -30,14 +30,19 @@ pub record Bid : Type 0 where
   pub units : ℕ
   pub price : ℕ
   pub won : ℕ
+  pub stands : Bool
 
 -- what stands for a bid that is not there
 abbrev pub noBid : Bid
-noBid = record { round = 0; pool = 0; member = 0; units = 0; price = 0; won = 0 }
+noBid = record { round = 0; pool = 0; member = 0; units = 0; price = 0; won = 0; stands = false }
 
 -- a bid that won v units
 abbrev pub withWon : Bid → ℕ → Bid
-withWon b v = record { round = b .round; pool = b .pool; member = b .member; units = b .units; price = b .price; won = v }
+withWon b v = record { round = b .round; pool = b .pool; member = b .member; units = b .units; price = b .price; won = v; stands = b .stands }
+
+-- a bid that was withdrawn
+abbrev pub withdrawn : Bid → Bid
+withdrawn b = record { round = b .round; pool = b .pool; member = b .member; units = b .units; price = b .price; won = b .won; stands = false }
 
 -- an entry in another state
 abbrev pub withState : Entry → UnitState → Entry

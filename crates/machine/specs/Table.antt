@@ -8,7 +8,7 @@ use Prim.Native.Nat.{ℕ}
 use lib.Dec.{leb, eqb}
 use lib.ListN.{length}
 use Rattle.lists.specs.Lists.{if_then_else_}
-use Rattle.machine.specs.Wire.{Call, HEAD, POOL, MEMBER, ROUND, BID, CLOSE, ALLOCATE, TEAR, CALL, PAY, MOVE, MISS, FINISH, SALE, decode}
+use Rattle.machine.specs.Wire.{Call, HEAD, POOL, MEMBER, ROUND, BID, CLOSE, ALLOCATE, TEAR, CALL, PAY, MOVE, MISS, FINISH, SALE, WITHDRAW, decode}
 use Rattle.machine.specs.Roll.{anyOpen}
 use Rattle.machine.specs.State.{Stage, Setup, Bidding, After, CallsOut, Finished, State, theCase}
 use Rattle.machine.specs.Machine.{step}
@@ -90,6 +90,8 @@ stageTable (MISS m price) = row x x x x (to A1) (to A2) (to C) x
 stageTable FINISH = row x x x x (to F) (to F) (to F) x
 -- document 02, C-12: "in stage S .. If no unit is open afterwards the stage becomes A1"
 stageTable (SALE pool m price) = row x (whileOpen S A1) x x x x x x
+-- document 02, C-14: "while a round is open"
+stageTable (WITHDRAW m n) = row x x (to B1) (to B2) x x x x
 
 -- ---- the law
 
@@ -113,6 +115,7 @@ wrongLength s (MOVE m) = false
 wrongLength s (MISS m price) = false
 wrongLength s FINISH = false
 wrongLength s (SALE pool m price) = false
+wrongLength s (WITHDRAW m n) = false
 
 -- "2. The stage doesn't allow the call."
 unfoldable pub declined : Cell → ℕ

@@ -21,7 +21,7 @@ pub record Head : Type 0 where
   pub fund : ℕ
   pub house : ℕ
 
--- the thirteen calls and SALE, each with the numbers of its value. Prices and reserves are held as cents + 1,000,000
+-- the thirteen calls, SALE and WITHDRAW, each with the numbers of its value. Prices and reserves are held as cents + 1,000,000
 pub data Call : Type 0 where
   HEAD : Head → Call
   POOL : (pool units mark : ℕ) → Call
@@ -37,6 +37,7 @@ pub data Call : Type 0 where
   MISS : (member price : ℕ) → Call
   FINISH : Call
   SALE : (pool member price : ℕ) → Call
+  WITHDRAW : (member bid : ℕ) → Call
 
 -- the big-endian number of bytes, behind the digits already read
 unfoldable pub bigEndian : ℕ → List ℕ → ℕ
@@ -60,9 +61,10 @@ price at v = (number at 4 v + zeroPrice) % 2 ^ 32
 unfoldable pub rightLength : ℕ → ℕ → Bool
 rightLength tag n =
     if eqb tag 4 then between 4 16 n && eqb (n % 4) 0
-    else eqb n (getD (27 ∷ 4 ∷ 13 ∷ 0 ∷ 8 ∷ 0 ∷ 5 ∷ 5 ∷ 0 ∷ 5 ∷ 1 ∷ 5 ∷ 0 ∷ 6 ∷ []) (tag - 1) 0)
+    else eqb n (getD (27 ∷ 4 ∷ 13 ∷ 0 ∷ 8 ∷ 0 ∷ 5 ∷ 5 ∷ 0 ∷ 5 ∷ 1 ∷ 5 ∷ 0 ∷ 6 ∷ 3 ∷ []) (tag - 1) 0)
 
--- the column "value (bytes)"; document 02, C-12: "SALE (tag 14: pool 1, member 1, price 4)"
+-- the column "value (bytes)"; document 02, C-12: "SALE (tag 14: pool 1, member 1, price 4)"; C-14: "WITHDRAW (tag 15: member 1, bid
+-- number 2)"
 unfoldable pub callOf : ℕ → List ℕ → Call
 callOf tag v =
     if eqb tag 1 then
@@ -88,7 +90,8 @@ callOf tag v =
     else if eqb tag 11 then MOVE (number 0 1 v)
     else if eqb tag 12 then MISS (number 0 1 v) (price 1 v)
     else if eqb tag 13 then FINISH
-    else SALE (number 0 1 v) (number 1 1 v) (price 2 v)
+    else if eqb tag 14 then SALE (number 0 1 v) (number 1 1 v) (price 2 v)
+    else WITHDRAW (number 0 1 v) (number 1 2 v)
 
 -- the call that the bytes are; none is "1. Unknown tag, bytes that aren't exactly one field, or a wrong length"
 unfoldable pub decode : List ℕ → Option Call
@@ -96,4 +99,4 @@ decode [] = none
 decode (tag ∷ []) = none
 decode (tag ∷ high ∷ []) = none
 decode (tag ∷ high ∷ low ∷ v) =
-    if between 1 14 tag && eqb (high * 256 + low) (length v) && rightLength tag (length v) then some (callOf tag v) else none
+    if between 1 15 tag && eqb (high * 256 + low) (length v) && rightLength tag (length v) then some (callOf tag v) else none
