@@ -15,7 +15,7 @@ use Rattle.auction.specs.Price.{priceLimit}
 use Rattle.auction.specs.Limits.{unitLimit}
 use Rattle.machine.specs.Roll as M
 use Rattle.machine.specs.State as S
-use Rattle.machine.specs.Calls.{reserve, wonIn, wonGiven, bidsAfter}
+use Rattle.machine.specs.Calls.{inRound, reserve, wonIn, wonGiven, bidsAfter}
 use Rattle.accounts.specs.declared.bids.Bids.{Bids}
 use Rattle.accounts.specs.Bids.{winsOf, inRoundAt, withWins, bidAt, viewBids}
 use Rattle.accounts.proofs.ViewBids.{BidsLong}
@@ -29,18 +29,18 @@ view-taken : (x : Bids) (round pools : ℕ) (runs : List (List ℕ)) (wins : ℕ
     → ((i : ℕ) → i < x .kept → getD (x .pool) i 0 < pools)
     → ((i : ℕ) → i < x .kept → min (getD (getD runs (getD (x .pool) i 0) []) i 0) most16 ≡ getD (wins (getD (x .pool) i 0)) i 0)
     → viewBids (withWins x round runs) ≡ mapFrom 0 (wonGiven round (tab pools wins)) (viewBids x)
-unfolding withWins inRoundAt wonGiven
+unfolding withWins inRoundAt wonGiven inRound
 view-taken x round pools runs wins few within agree =
-    tab-ext (x .kept) (bidAt (withWins x round runs)) (λ i. wonGiven round (tab pools wins) i (bidAt x i)) (λ i l. given i l (eqb (getD (x .round) i 0) round) refl)
+    tab-ext (x .kept) (bidAt (withWins x round runs)) (λ i. wonGiven round (tab pools wins) i (bidAt x i)) (λ i l. given i l (inRound round (bidAt x i)) refl)
     ∙ sym (mapFrom-tab (x .kept) (wonGiven round (tab pools wins)) (bidAt x))
   where
     new : ℕ → ℕ
     new i = if inRoundAt x round i then min (getD (getD runs (getD (x .pool) i 0) []) i 0) most16 else getD (x .won) i 0
 
-    at : (i : ℕ) → i < x .kept → getD (tab 256 new) i 0 ≡ (if eqb (getD (x .round) i 0) round then getD (wins (getD (x .pool) i 0)) i 0 else getD (x .won) i 0)
+    at : (i : ℕ) → i < x .kept → getD (tab 256 new) i 0 ≡ (if inRound round (bidAt x i) then getD (wins (getD (x .pool) i 0)) i 0 else getD (x .won) i 0)
     at i l = getD-tab 256 new i 0 (omega arith) ∙ rw (lt-ltb i (x .kept) l, agree i l)
 
-    given : (i : ℕ) → i < x .kept → (b : Bool) → eqb (getD (x .round) i 0) round ≡ b → bidAt (withWins x round runs) i ≡ wonGiven round (tab pools wins) i (bidAt x i)
+    given : (i : ℕ) → i < x .kept → (b : Bool) → inRound round (bidAt x i) ≡ b → bidAt (withWins x round runs) i ≡ wonGiven round (tab pools wins) i (bidAt x i)
     given i l true e =
         rw e
         (ap (M.withWon (bidAt x i))

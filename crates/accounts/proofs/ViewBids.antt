@@ -1,5 +1,6 @@
 -- The bids kept, as the machine has them: `new` shows none, `put` one more at the end, and the arrays agree with what is shown. Assumes nothing.
 use mathlib.Core.Path.{_≡_, refl, sym, ap, _∙_}
+use mathlib.Core.Bool.{Bool, true, false}
 use mathlib.Core.Logic.{⊎-elim}
 use mathlib.Core.List.{List, [], _∷_, _++_}
 use Prim.Native.Nat.{ℕ, _≤_, _<_, min}
@@ -12,13 +13,13 @@ use Rattle.lists.proofs.Each.{set-cases}
 use Rattle.lists.specs.Lists.{if_then_else_, tab}
 use Rattle.lists.specs.Adding.{most16}
 use Rattle.lists.proofs.Bools.{by-test, lt-or-le}
-use Rattle.lists.proofs.Places.{tab-more, getD-tab, getD-tab-past, length-tab, getD-same}
+use Rattle.lists.proofs.Places.{tab-more, getD-tab, getD-tab-past, length-tab, getD-same, tab-set}
 use Rattle.auction.specs.Price.{priceLimit}
 use Rattle.auction.specs.Limits.{unitLimit}
 use Rattle.machine.specs.Roll as M
 use Rattle.machine.specs.Calls.{newBid}
 use Rattle.accounts.specs.declared.bids.Bids.{Bids}
-use Rattle.accounts.specs.Bids.{noBids, putBid, inRoundAt, withWins, bidAt, viewBids}
+use Rattle.accounts.specs.Bids.{noBids, putBid, inRoundAt, withdrawBid, withWins, bidAt, viewBids}
 
 -- ---- what holds of every value that a program reaches
 
@@ -30,6 +31,7 @@ pub record BidsLong (x : Bids) : Type 0 where
   pub units : length (x .units) ≡ 256
   pub price : length (x .price) ≡ 256
   pub won : length (x .won) ≡ 256
+  pub stands : length (x .stands) ≡ 256
   pub unit-limit : (k : ℕ) → getD (x .units) k 0 ≤ unitLimit
   pub price-limit : (k : ℕ) → getD (x .price) k 0 ≤ priceLimit
   -- the places behind the bids have won nothing
@@ -45,6 +47,7 @@ new-long = record {
   units = refl;
   price = refl;
   won = refl;
+  stands = refl;
   unit-limit = λ k. rw (getD-same {A = ℕ} 256 k 0) (omega arith);
   price-limit = λ k. rw (getD-same {A = ℕ} 256 k 0) (omega arith);
   unused = λ k l. getD-same 256 k 0;
@@ -63,6 +66,7 @@ put-long x round pool m units price w few low =
       units = simp length-set (w .units);
       price = simp length-set (w .price);
       won = simp length-set (w .won);
+      stands = simp length-set (w .stands);
       unit-limit = λ k. set-cases (λ (v : ℕ). v ≤ unitLimit) (x .units) (x .kept) units 0 k (λ e. few) (w .unit-limit k);
       price-limit = λ k. set-cases (λ (v : ℕ). v ≤ priceLimit) (x .price) (x .kept) price 0 k (λ e. low) (w .price-limit k);
       unused = λ k l. getD-set-other (x .won) (x .kept) k 0 0 (omega arith) ∙ w .unused k (omega arith);
@@ -79,6 +83,7 @@ take-long x round wins w = record {
   units = w .units;
   price = w .price;
   won = length-tab 256 new;
+  stands = w .stands;
   unit-limit = w .unit-limit;
   price-limit = w .price-limit;
   unused = λ k h.
@@ -114,6 +119,7 @@ view-put x round pool m units price w room =
       units = other (x .units) i units l j;
       price = other (x .price) i price l j;
       won = other (x .won) i 0 l j;
+      stands = getD-set-other (x .stands) (x .kept) i true false (omega arith) j;
     })
     (λ j. record {
       round = same (x .round) round (w .round) j;
@@ -122,6 +128,7 @@ view-put x round pool m units price w room =
       units = same (x .units) units (w .units) j;
       price = same (x .price) price (w .price) j;
       won = same (x .won) 0 (w .won) j;
+      stands = getD-set-same (x .stands) (x .kept) true false (omega (arith, w .stands)) j;
     }))
   where
     other : (l : List ℕ) (i v : ℕ) → i < x .kept → getD (set l (x .kept) v) i 0 ≡ getD l i 0
@@ -129,6 +136,44 @@ view-put x round pool m units price w room =
 
     same : (l : List ℕ) (v : ℕ) → length l ≡ 256 → getD (set l (x .kept) v) (x .kept) 0 ≡ v
     same l v long = getD-set-same l (x .kept) v 0 (omega arith)
+
+-- WITHDRAW
+pub withdraw-long : (x : Bids) (n : ℕ) → BidsLong x → BidsLong (withdrawBid x n)
+unfolding withdrawBid
+withdraw-long x n w = record {
+  few = w .few;
+  round = w .round;
+  pool = w .pool;
+  member = w .member;
+  units = w .units;
+  price = w .price;
+  won = w .won;
+  stands = simp length-set (w .stands);
+  unit-limit = w .unit-limit;
+  price-limit = w .price-limit;
+  unused = w .unused;
+}
+
+pub view-withdraw : (x : Bids) (n : ℕ) → BidsLong x → n < x .kept
+    → viewBids (withdrawBid x n) ≡ set (viewBids x) n (M.withdrawn (getD (viewBids x) n M.noBid))
+unfolding withdrawBid
+view-withdraw x n w l =
+    tab-set (x .kept) (bidAt x) (bidAt (withdrawBid x n)) n (M.withdrawn (getD (viewBids x) n M.noBid))
+    (λ k h other. λ j. record {
+      round = getD (x .round) k 0;
+      pool = getD (x .pool) k 0;
+      member = getD (x .member) k 0;
+      units = getD (x .units) k 0;
+      price = getD (x .price) k 0;
+      won = getD (x .won) k 0;
+      stands = getD-set-other (x .stands) n k false false other j;
+    })
+    (λ h. ap (λ (b : Bool). stood (bidAt x n) b) (getD-set-same (x .stands) n false false (omega (arith, w .stands, w .few)))
+    ∙ ap M.withdrawn (sym (getD-tab (x .kept) (bidAt x) n M.noBid h)))
+  where
+    -- a bid with another mark
+    stood : M.Bid → Bool → M.Bid
+    stood b s = record { round = b .round; pool = b .pool; member = b .member; units = b .units; price = b .price; won = b .won; stands = s }
 
 -- ---- the arrays agree with what is shown
 

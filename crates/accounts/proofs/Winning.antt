@@ -20,9 +20,9 @@ use Rattle.auction.proofs.Laws.{allot-le}
 use Rattle.auction.proofs.Absent.{allot-among, allot-pad}
 use Rattle.machine.specs.Roll as M
 use Rattle.machine.specs.State as S
-use Rattle.machine.specs.Calls.{inAuction, wonIn, reserve}
+use Rattle.machine.specs.Calls.{inRound, inAuction, wonIn, reserve}
 use Rattle.accounts.specs.declared.bids.Bids.{Bids}
-use Rattle.accounts.specs.Bids.{inAuctionAt, unitsIn, winsOf, bidAt, viewBids}
+use Rattle.accounts.specs.Bids.{inRoundAt, inAuctionAt, unitsIn, winsOf, bidAt, viewBids}
 use Rattle.accounts.proofs.ViewBids.{BidsLong, length-view}
 
 -- what the auction leaves in a run of zeros, as the code calls it
@@ -45,7 +45,7 @@ module _ (x : Bids) (round pool n reserve : ℕ) (w : BidsLong x) (small : n ≤
 
   -- the units of all bids, and 0 behind them
   units-are : unitsIn x round pool ≡ map own (viewBids x) ++ replicate unused 0
-  unfolding unitsIn inAuctionAt inAuction
+  unfolding unitsIn inAuctionAt inRoundAt inAuction inRound
   units-are =
       let all : 256 ≡ x .kept + unused = omega (arith, w .few) in
       ap (λ (n : ℕ). tab n at) all
@@ -71,7 +71,7 @@ module _ (x : Bids) (round pool n reserve : ℕ) (w : BidsLong x) (small : n ≤
 
   -- none behind the bids
   units-past : (k : ℕ) → x .kept ≤ k → getD (unitsIn x round pool) k 0 ≡ 0
-  unfolding unitsIn inAuctionAt
+  unfolding unitsIn inAuctionAt inRoundAt
   units-past k h =
       ⊎-elim
       (λ l. getD-tab 256 at k 0 l ∙ rw (le-ltb k (x .kept) h))

@@ -1,5 +1,5 @@
 -- The bids kept, over the program's struct, and as the machine has them.
-use mathlib.Core.Bool.{Bool, _&&_}
+use mathlib.Core.Bool.{Bool, true, false, _&&_}
 use mathlib.Core.List.{List, []}
 use Prim.Native.Nat.{ℕ, _+_, _-_, _*_, min}
 use lib.Dec.{ltb, eqb}
@@ -20,9 +20,10 @@ noBids =
       units = replicate 256 0;
       price = replicate 256 0;
       won = replicate 256 0;
+      stands = replicate 256 false;
     }
 
--- a bid more, where there is room; it has won nothing
+-- a bid more, where there is room; it stands and has won nothing
 unfoldable pub putBid : Bids → ℕ → ℕ → ℕ → ℕ → ℕ → Bids
 putBid x round pool m units price =
     if ltb (x .kept) 256 then
@@ -34,26 +35,45 @@ putBid x round pool m units price =
       units = set (x .units) (x .kept) units;
       price = set (x .price) (x .kept) price;
       won = set (x .won) (x .kept) 0;
+      stands = set (x .stands) (x .kept) true;
     }
     else x
 
--- whether the bid at place i is kept, of the round and in the pool
-unfoldable pub inAuctionAt : Bids → ℕ → ℕ → ℕ → Bool
-inAuctionAt x round pool i = ltb i (x .kept) && eqb (getD (x .round) i 0) round && eqb (getD (x .pool) i 0) pool
+-- whether the bid at place i is kept, stands and is of the round
+unfoldable pub inRoundAt : Bids → ℕ → ℕ → Bool
+inRoundAt x round i = ltb i (x .kept) && getD (x .stands) i false && eqb (getD (x .round) i 0) round
 
--- the units of the bids of a round in a pool, and 0 for the others
+-- whether a bid of a member that stands in a round has the number
+unfoldable pub standsFor : Bids → ℕ → ℕ → ℕ → Bool
+standsFor x round m n = inRoundAt x round n && eqb (getD (x .member) n 0) m
+
+-- the bid with the number no longer stands; all else is as it was
+unfoldable pub withdrawBid : Bids → ℕ → Bids
+withdrawBid x n =
+    record {
+      kept = x .kept;
+      round = x .round;
+      pool = x .pool;
+      member = x .member;
+      units = x .units;
+      price = x .price;
+      won = x .won;
+      stands = set (x .stands) n false;
+    }
+
+-- whether it is in the pool too
+unfoldable pub inAuctionAt : Bids → ℕ → ℕ → ℕ → Bool
+inAuctionAt x round pool i = inRoundAt x round i && eqb (getD (x .pool) i 0) pool
+
+-- the units of the bids that stand in a round in a pool, and 0 for the others
 unfoldable pub unitsIn : Bids → ℕ → ℕ → List ℕ
 unitsIn x round pool = tab 256 (λ i. if inAuctionAt x round pool i then getD (x .units) i 0 else 0)
 
--- what the bids of a round win of a pool's open units, each at its place, and 0 for the others
+-- what the bids that stand in a round win of a pool's open units, each at its place, and 0 for the others
 unfoldable pub winsOf : Bids → ℕ → ℕ → ℕ → ℕ → List ℕ
 winsOf x round pool n reserve = allotInto 0 placeLimit n reserve (unitsIn x round pool) (x .price) (replicate 256 0) .1
 
--- whether the bid at place i is kept and of the round
-unfoldable pub inRoundAt : Bids → ℕ → ℕ → Bool
-inRoundAt x round i = ltb i (x .kept) && eqb (getD (x .round) i 0) round
-
--- the bids of a round with the units that they won; `wins` has a list of units won for each pool
+-- the bids that stand in a round with the units that they won; `wins` has a list of units won for each pool
 unfoldable pub withWins : Bids → ℕ → List (List ℕ) → Bids
 withWins x round wins =
     record {
@@ -64,6 +84,7 @@ withWins x round wins =
       units = x .units;
       price = x .price;
       won = tab 256 (λ i. if inRoundAt x round i then min (getD (getD wins (getD (x .pool) i 0) []) i 0) most16 else getD (x .won) i 0);
+      stands = x .stands;
     }
 
 -- the units won by member and pool, those of member m in pool p at place 4 × m + p, each sum held to 16 bits
@@ -89,6 +110,7 @@ bidAt x i =
       units = getD (x .units) i 0;
       price = getD (x .price) i 0;
       won = getD (x .won) i 0;
+      stands = getD (x .stands) i false;
     }
 
 abbrev pub viewBids : Bids → List M.Bid

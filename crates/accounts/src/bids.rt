@@ -4,7 +4,7 @@ ghost use mathlib.Core.Bool.{_&&_, cond};
 ghost use mathlib.Core.List.{[], _∷_};
 ghost use Prim.Native.Nat.{_+_, _-_, _*_, min};
 ghost use lib.ListN.{getD};
-ghost use Rattle.accounts.specs.Bids.{noBids, putBid, unitsIn, winsOf, withWins, wonTable, gainTable};
+ghost use Rattle.accounts.specs.Bids.{noBids, putBid, standsFor, withdrawBid, unitsIn, winsOf, withWins, wonTable, gainTable};
 
 pub struct Bids {
     pub kept: usize,
@@ -14,6 +14,7 @@ pub struct Bids {
     pub units: [u16; 256],
     pub price: [u32; 256],
     pub won: [u16; 256],
+    pub stands: [bool; 256],
 }
 
 // The places that bids have, of 256.
@@ -30,11 +31,11 @@ fn place_of(member: u8, pool: u8) -> usize
     4 * member as usize + pool as usize
 }
 
-// Whether a bid is kept, of the round and in the pool.
-fn is_in(kept: bool, round: bool, pool: bool) -> bool
-    ensures { λ r. ⌜ r ≡ (kept && round && pool) ⌝ }
+// Whether a bid is kept, stands and is of the round.
+fn in_round(kept: bool, stands: bool, round: bool) -> bool
+    ensures { λ r. ⌜ r ≡ (kept && stands && round) ⌝ }
 {
-    lists::both(lists::both(kept, round), pool)
+    lists::both(lists::both(kept, stands), round)
 }
 
 // The one number where the test holds, and the other where it does not.
@@ -88,10 +89,11 @@ impl Bids {
             units: [0u16; 256],
             price: [0u32; 256],
             won: [0u16; 256],
+            stands: [false; 256],
         }
     }
 
-    // One bid more, which has won nothing; unchanged where 256 are kept.
+    // One bid more, which stands and has won nothing; unchanged where 256 are kept.
     pub fn put(self, round: u8, pool: u8, member: u8, units: u16, price: u32) -> Bids
         ensures { λ r. ⌜ r ≡ putBid self round pool member units price ⌝ }
     {
@@ -106,25 +108,52 @@ impl Bids {
         out.units[n] = units;
         out.price[n] = price;
         out.won[n] = 0;
+        out.stands[n] = true;
         out.kept = n + 1;
         out
     }
 
-    // The units of the bids of a round in a pool, and 0 for the others.
+    // Whether a bid of a member that stands in a round has the number.
+    pub fn stands_for(self, round: u8, member: u8, n: u16) -> bool
+        ensures { λ r. ⌜ r ≡ standsFor self round member n ⌝ }
+    {
+        let i = n as usize;
+        if Bids::MOST <= i {
+            return false;
+        }
+        let here = in_round(i < self.kept, self.stands[i], self.round[i] == round);
+        lists::both(here, self.member[i] == member)
+    }
+
+    // The bid with the number no longer stands; it keeps its place.
+    pub fn withdraw(self, n: u16) -> Bids
+        ensures { λ r. ⌜ r ≡ withdrawBid self n ⌝ }
+    {
+        let i = n as usize;
+        if Bids::MOST <= i {
+            return self;
+        }
+        let mut out = self;
+        out.stands[i] = false;
+        out
+    }
+
+    // The units of the bids that stand in a round in a pool, and 0 for the others.
     fn units_in(self, round: u8, pool: u8) -> [u64; 256]
         ensures { λ r. ⌜ r ≡ unitsIn self round pool ⌝ }
     {
         let mut out = [0u64; 256];
         let mut i: usize = 0;
         while i < 256 {
-            let here = is_in(i < self.kept, self.round[i] == round, self.pool[i] == pool);
-            out[i] = lists::number_if(here, lists::wide16(self.units[i]));
+            let here = in_round(i < self.kept, self.stands[i], self.round[i] == round);
+            let bids = lists::both(here, self.pool[i] == pool);
+            out[i] = lists::number_if(bids, lists::wide16(self.units[i]));
             i += 1;
         }
         out
     }
 
-    // What the bids of a round win of a pool's open units, each at its place, and 0 for the others.
+    // What the bids that stand in a round win of a pool's open units, each at its place, and 0 for the others.
     pub fn wins(self, round: u8, pool: u8, open_units: u16, reserve: u32) -> [u64; 256]
         ensures { λ r. ⌜ r ≡ winsOf self round pool open_units reserve ⌝ }
     {
@@ -135,7 +164,7 @@ impl Bids {
         won
     }
 
-    // The bids of a round with the units that they won, from what is won in pools 0 to 3.
+    // The bids that stand in a round with the units that they won, from what is won in pools 0 to 3.
     pub fn take_wins(
         self,
         round: u8,
@@ -149,7 +178,7 @@ impl Bids {
         let mut won = self.won;
         let mut i: usize = 0;
         while i < 256 {
-            let here = lists::both(i < self.kept, self.round[i] == round);
+            let here = in_round(i < self.kept, self.stands[i], self.round[i] == round);
             let win = of_pool(self.pool[i], a[i], b[i], c[i], d[i]);
             won[i] = chosen(here, lists::narrow16(win), won[i]);
             i += 1;

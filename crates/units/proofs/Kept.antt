@@ -13,14 +13,14 @@ use borrow.Author.Tests.{lt-ltb, eqb-true, eqb-false, eq-eqb, ne-eqb}
 use Rattle.lists.specs.Lists.{if_then_else_, sum, count, oneIf}
 use Rattle.lists.specs.Adding.{most16, addAt}
 use Rattle.lists.proofs.Adding.{length-added}
-use Rattle.lists.proofs.Bools.{cases, lt-or-le}
+use Rattle.lists.proofs.Bools.{cases, lt-or-le, same-choice, and-right}
 use Rattle.lists.proofs.Each.{Each, each-more, set-cases}
 use Rattle.lists.proofs.Keep.{sum-keep-cons}
 use Rattle.sets.specs.Set.{members}
 use Rattle.sets.proofs.Members.{members-each}
 use Rattle.auction.specs.Price.{zeroPrice, priceLimit}
 use Rattle.machine.specs.Roll.{UnitState, Sold, Allocated, Entry, Bid, noBid, kind, isOpen, openIn, priceOf, openUnits, putUp, giveLowest}
-use Rattle.machine.specs.Calls.{inAuction, sell, giveShares}
+use Rattle.machine.specs.Calls.{inRound, inAuction, sell, giveShares}
 use Rattle.machine.proofs.Giving.{wonWhere}
 use Rattle.units.specs.declared.Units.{Units}
 use Rattle.units.specs.Places.{allocatedAt, soldAt, agreedAt, unitAt, over, weigh, Counted}
@@ -190,7 +190,7 @@ pub record Lent (bids : List Bid) (rounds pools prices wins : List ℕ) : Type 0
 
 -- the turn of one bid on the roll
 abbrev soldOne : ℕ → ℕ → Bid → List Entry → List Entry
-soldOne round i b roll = if eqb (b .round) round then giveLowest (b .pool) (Sold i) (b .won) roll else roll
+soldOne round i b roll = if inRound round b then giveLowest (b .pool) (Sold i) (b .won) roll else roll
 
 sell-more : (round i : ℕ) (bs : List Bid) (b : Bid) (roll : List Entry) → sell round i (bs ++ (b ∷ [])) roll ≡ soldOne round (i + length bs) b (sell round i bs roll)
 unfolding sell
@@ -200,7 +200,8 @@ sell-more round i (x ∷ bs) b roll =
     sell-more round (suc i) bs b (soldOne round i x roll) ∙ rw e
 
 module _ (allocation noted buyers : List ℕ) (bids : List Bid) (few : length bids ≤ 256) (pools-below : (b : ℕ) → b < length bids → getD bids b noBid .pool < 4) (round : ℕ)
-    (rounds pools prices won : List ℕ) (lent : Lent bids rounds pools prices won) where
+    (rounds pools prices won : List ℕ) (lent : Lent bids rounds pools prices won)
+    (none-withdrawn : (b : ℕ) → b < length bids → getD bids b noBid .stands ≡ false → getD bids b noBid .won ≡ 0) where
   -- the units won in each pool by the bids from number i on are open
   abbrev Enough : ℕ → List ℕ → Type 0
   Enough i counts = (pool : ℕ) → pool < 4 → wonWhere (inAuction round pool) (drop i bids) ≤ getD counts pool 0
@@ -216,24 +217,31 @@ module _ (allocation noted buyers : List ℕ) (bids : List Bid) (few : length bi
     pool-is : poolOf round rounds pools won i ≡ bid .pool
     pool-is = rw (lent .pool i l) (omega (arith, pools-below i l))
 
-    win-here : bid .round ≡ round → win ≡ bid .won
-    win-here e = rw (lent .round i l, eq-eqb (bid .round) round e, lent .won i l)
+    win-here : inRound round bid ≡ true → win ≡ bid .won
+    unfolding inRound
+    win-here t = rw (lent .round i l, and-right (bid .stands) (eqb (bid .round) round) t, lent .won i l)
 
-    win-not : (bid .round ≡ round → ⊥) → win ≡ 0
-    win-not a = rw (lent .round i l, ne-eqb (bid .round) round a)
+    -- one that was withdrawn has won nothing
+    win-not : inRound round bid ≡ false → win ≡ 0
+    unfolding inRound
+    win-not t =
+        rw (lent .round i l, lent .won i l)
+        (cases (bid .stands) _
+        (λ s. rw (rw s at t))
+        (λ s. rw (none-withdrawn i l s) (same-choice {A = ℕ} (eqb (bid .round) round) 0)))
 
     -- the bids from number i on, with this one first
-    here-won : (pool : ℕ) → wonWhere (inAuction round pool) (drop i bids) ≡ (if eqb (bid .round) round && eqb (bid .pool) pool then bid .won else 0) + wonWhere (inAuction round pool) (drop (suc i) bids)
+    here-won : (pool : ℕ) → wonWhere (inAuction round pool) (drop i bids) ≡ (if inRound round bid && eqb (bid .pool) pool then bid .won else 0) + wonWhere (inAuction round pool) (drop (suc i) bids)
     unfolding inAuction
     here-won pool = rw (drop-cons bids i noBid l) (sum-keep-cons (inAuction round pool) (λ (x : Bid). x .won) bid (drop (suc i) bids))
 
     win-few : (counts : List ℕ) → Enough i counts → win ≤ getD counts (bid .pool) 0
     win-few counts enough =
-        cases (eqb (bid .round) round) _
+        cases (inRound round bid) _
         (λ t.
         let h = rw (t, eq-eqb (bid .pool) (bid .pool) refl) at (here-won (bid .pool)) in
-        omega (arith, h, win-here (eqb-true (bid .round) round t), enough (bid .pool) (pools-below i l)))
-        (λ t. omega (arith, win-not (eqb-false (bid .round) round t)))
+        omega (arith, h, win-here t, enough (bid .pool) (pools-below i l)))
+        (λ t. omega (arith, win-not t))
 
     enough-next : (counts : List ℕ) → length counts ≡ 780 → Enough i counts → Enough (suc i) (transferred counts (bid .pool) (soldAt i) win)
     enough-next counts long enough pool lp =
@@ -242,9 +250,9 @@ module _ (allocation noted buyers : List ℕ) (bids : List Bid) (few : length bi
         let e = eqb-true (bid .pool) pool t in
         let now : getD (transferred counts (bid .pool) (soldAt i) win) pool 0 ≡ getD counts pool 0 - win =
         rw (← e) (passed-from counts (bid .pool) (soldAt i) win (omega (arith, pools-below i l)) (λ x. absurd (omega (arith, pools-below i l)))) in
-        cases (eqb (bid .round) round) _
-        (λ r. let h = rw (r, t) at (here-won pool) in omega (arith, now, h, win-here (eqb-true (bid .round) round r), enough pool lp))
-        (λ r. let h = rw r at (here-won pool) in omega (arith, now, h, win-not (eqb-false (bid .round) round r), enough pool lp)))
+        cases (inRound round bid) _
+        (λ r. let h = rw (r, t) at (here-won pool) in omega (arith, now, h, win-here r, enough pool lp))
+        (λ r. let h = rw r at (here-won pool) in omega (arith, now, h, win-not r, enough pool lp)))
         (λ t.
         let a = eqb-false (bid .pool) pool t in
         let same : getD (transferred counts (bid .pool) (soldAt i) win) pool 0 ≡ getD counts pool 0 = passed-other counts (bid .pool) (soldAt i) win pool (λ x. a (sym x)) (λ x. absurd (omega arith)) in
@@ -258,12 +266,12 @@ module _ (allocation noted buyers : List ℕ) (bids : List Bid) (few : length bi
         let is = unit-sold allocation noted buyers bids i (omega (arith, few)) in
         let to = soldAt i in
         rw (lent .price i l)
-        (cases (eqb (bid .round) round) _
+        (cases (inRound round bid) _
         (λ t.
-        let w = win-here (eqb-true (bid .round) round t) in
+        let w = win-here t in
         rw (t, w) (give-tied allocation noted buyers bids counts sums roll tied (bid .pool) to (bid .won) (Sold i) (pools-below i l) (omega arith) (omega (arith, few)) (omega (arith, w, win-few counts enough)) is))
         (λ t.
-        let w = win-not (eqb-false (bid .round) round t) in
+        let w = win-not t in
         let from = unit-open allocation noted buyers bids (bid .pool) (pools-below i l) in
         rw (t, w) (rw (from, is) at
         (transfer-tied counts sums (unitAt allocation noted buyers bids) bids roll tied (bid .pool) to 0 (bid .pool) (omega (arith, pools-below i l)) (omega (arith, few))
@@ -289,12 +297,13 @@ module _ (allocation noted buyers : List ℕ) (bids : List Bid) (few : length bi
 
 pub sell-kept : (u : Units) (bids : List Bid) (roll : List Entry) → Kept u bids roll → length bids ≤ 256 → ((b : ℕ) → b < length bids → getD bids b noBid .pool < 4)
     → (round : ℕ) (rounds pools prices won : List ℕ) → Lent bids rounds pools prices won
+    → ((b : ℕ) → b < length bids → getD bids b noBid .stands ≡ false → getD bids b noBid .won ≡ 0)
     → ((pool : ℕ) → pool < 4 → wonWhere (inAuction round pool) bids ≤ openUnits roll pool)
     → Kept (sellUnits u (length bids) round rounds pools prices won) bids (sell round 0 bids roll)
 unfolding sellUnits
-sell-kept u bids roll kept few below round rounds pools prices won lent enough =
+sell-kept u bids roll kept few below round rounds pools prices won lent none-withdrawn enough =
     let all : min (length bids) 256 ≡ length bids = min-eq-left few in
-    let sold = sold-tied (u .allocation) (u .noted) (u .buyers) bids few below round rounds pools prices won lent (u .counts) (u .sums) roll (kept .tied)
+    let sold = sold-tied (u .allocation) (u .noted) (u .buyers) bids few below round rounds pools prices won lent none-withdrawn (u .counts) (u .sums) roll (kept .tied)
     (λ pool l. omega (arith, enough pool l, open-shown u bids roll kept pool l)) (length bids) (omega arith) in
     rw all (record { tied = rw (take-length bids) at (sold .0); four = kept .four; long = kept .long; buyers = kept .buyers })
 

@@ -233,6 +233,7 @@ module _ (c : Case) (ok : CaseOk c) where
       after-call CLOSE t u (sellUnits u (length (c .bids)) round rounds pools prices won) right
       (rw (← long)
       (sell-kept u bids (c .roll) all (fits .bids .few) (bid-pool (c .head) (length (c .rounds)) bids (fits .bids .each) (ok .head .pools-most)) round rounds pools prices won lent
+      (λ b l. each-at _ bids b noBid l (fits .won .withdrawn))
       (λ pool l. close-few (letter-is (c .stage) 2 (t .0)) pool)))
       (none-grown c (afterClose c) (u .counts) (sellUnits u (length (c .bids)) round rounds pools prices won .counts)
       (λ p m lp lm. sell-less u (length (c .bids)) round rounds pools prices won (allocatedAt p m) (inl (omega arith)))

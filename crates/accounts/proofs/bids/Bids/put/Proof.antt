@@ -36,6 +36,9 @@ mul-out-3 c = search needs
 element-write-out-6 : tie.Need-element-write-out-6
 element-write-out-6 c = search needs
 
+element-write-out-7 : tie.Need-element-write-out-7
+element-write-out-7 c = search needs
+
 add-out : tie.Need-add-out
 add-out c = search needs
 
@@ -57,5 +60,6 @@ put-spec =
     element-write-out-5
     mul-out-3
     element-write-out-6
+    element-write-out-7
     add-out
     returns-2)

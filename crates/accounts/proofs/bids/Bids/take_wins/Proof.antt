@@ -32,11 +32,14 @@ of-four a b c d (suc (suc (suc (suc p)))) i = refl
 loop-holds : tie.Need-loop-holds Inv-loop μ-loop
 loop-holds c = (search needs, search needs, below-none _, λ k l. refl)
 
-element-copy-out-both : tie.Need-element-copy-out-both Inv-loop μ-loop
-element-copy-out-both c = search needs
+element-copy-out-in-round : tie.Need-element-copy-out-in-round Inv-loop μ-loop
+element-copy-out-in-round c = search needs
 
-both-requires : tie.Need-both-requires Inv-loop μ-loop
-both-requires c κs = search needs
+element-copy-out-in-round-2 : tie.Need-element-copy-out-in-round-2 Inv-loop μ-loop
+element-copy-out-in-round-2 c = search needs
+
+in-round-requires : tie.Need-in-round-requires Inv-loop μ-loop
+in-round-requires c κs = search needs
 
 element-copy-out-of-pool : tie.Need-element-copy-out-of-pool Inv-loop μ-loop
 element-copy-out-of-pool c = search needs
@@ -94,15 +97,15 @@ loop-less c = search needs
 
 loop-again : tie.Need-loop-again Inv-loop μ-loop
 unfolding inRoundAt
-loop-again c = let at = c .before .before .before .before .before .before .before .loop in
-    let s = c .before .before .before .before .before .before .before .before .before .args in
+loop-again c = let at = c .before .before .before .before .before .before .before .before .loop in
+    let s = c .before .before .before .before .before .before .before .before .before .before .args in
     let same = at .inv .3 (at .i) (omega arith) in
     let win = of-four (s .t3) (s .t4) (s .t5) (s .t6) (getD (s .t1 .pool) (at .i) 0) (at .i) in (
       omega arith,
       simp length-set (omega arith),
       filled-next _ 0 (at .won) (at .i) _ (omega arith) (at .inv .2)
           (c .chosen .ensures
-          ∙ rw (same, c .before .narrow16 .ensures, c .before .before .of-pool .ensures, c .before .before .before .before .both .ensures, win)),
+          ∙ rw (same, c .before .narrow16 .ensures, c .before .before .of-pool .ensures, c .before .before .before .before .in-round .ensures, win)),
       unfilled-next 0 (at .won) (s .t1 .won) (at .i) _ (at .inv .3),
     )
 
@@ -117,8 +120,9 @@ take-wins-spec =
     Inv-loop
     μ-loop
     loop-holds
-    element-copy-out-both
-    both-requires
+    element-copy-out-in-round
+    element-copy-out-in-round-2
+    in-round-requires
     element-copy-out-of-pool
     mul-of-pool
     array-read-of-pool

@@ -6,7 +6,7 @@ use lib.ListN.{length, getD, length-set}
 use borrow.Author.Count.{below-none}
 use Rattle.lists.specs.Lists.{if_then_else_}
 use Rattle.lists.proofs.Places.{filled-next, tab-of}
-use Rattle.accounts.specs.Bids.{inAuctionAt, unitsIn}
+use Rattle.accounts.specs.Bids.{inRoundAt, inAuctionAt, unitsIn}
 use borrow.Author.Needs.{needs}
 use Rattle.accounts.proofs.bids.Bids.units_in.Statement.{statement}
 use Rattle.accounts.proofs.bids.Bids.units_in.Tie as tie
@@ -20,14 +20,20 @@ abbrev μ-loop : tie.MeasureT-loop
 loop-holds : tie.Need-loop-holds Inv-loop μ-loop
 loop-holds c = (search needs, search needs, below-none _)
 
-element-copy-out-is-in : tie.Need-element-copy-out-is-in Inv-loop μ-loop
-element-copy-out-is-in c = search needs
+element-copy-out-in-round : tie.Need-element-copy-out-in-round Inv-loop μ-loop
+element-copy-out-in-round c = search needs
 
-element-copy-out-is-in-2 : tie.Need-element-copy-out-is-in-2 Inv-loop μ-loop
-element-copy-out-is-in-2 c = search needs
+element-copy-out-in-round-2 : tie.Need-element-copy-out-in-round-2 Inv-loop μ-loop
+element-copy-out-in-round-2 c = search needs
 
-is-in-requires : tie.Need-is-in-requires Inv-loop μ-loop
-is-in-requires c κs = search needs
+in-round-requires : tie.Need-in-round-requires Inv-loop μ-loop
+in-round-requires c κs = search needs
+
+element-copy-out-both : tie.Need-element-copy-out-both Inv-loop μ-loop
+element-copy-out-both c = search needs
+
+both-requires : tie.Need-both-requires Inv-loop μ-loop
+both-requires c κs = search needs
 
 mul-wide16 : tie.Need-mul-wide16 Inv-loop μ-loop
 mul-wide16 c = search needs
@@ -54,9 +60,9 @@ loop-less : tie.Need-loop-less Inv-loop μ-loop
 loop-less c = search needs
 
 loop-again : tie.Need-loop-again Inv-loop μ-loop
-unfolding inAuctionAt
-loop-again c = let at = c .before .before .before .before .before .before .before .loop in
-    (omega arith, simp length-set (omega arith), filled-next _ 0 (at .out) (at .i) _ (omega arith) (at .inv .2) (simp (c .number-if .ensures, c .before .wide16 .ensures .0, c .before .before .before .is-in .ensures)))
+unfolding inAuctionAt inRoundAt
+loop-again c = let at = c .before .before .before .before .before .before .before .before .before .loop in
+    (omega arith, simp length-set (omega arith), filled-next _ 0 (at .out) (at .i) _ (omega arith) (at .inv .2) (simp (c .number-if .ensures, c .before .wide16 .ensures .0, c .before .before .before .both .ensures, c .before .before .before .before .before .in-round .ensures)))
 
 returns : tie.Need-returns Inv-loop μ-loop
 unfolding unitsIn
@@ -69,9 +75,11 @@ units-in-spec =
     Inv-loop
     μ-loop
     loop-holds
-    element-copy-out-is-in
-    element-copy-out-is-in-2
-    is-in-requires
+    element-copy-out-in-round
+    element-copy-out-in-round-2
+    in-round-requires
+    element-copy-out-both
+    both-requires
     mul-wide16
     element-copy-out-wide16
     wide16-requires
