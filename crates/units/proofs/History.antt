@@ -16,12 +16,12 @@ use Rattle.lists.proofs.Bools.{or-right}
 use Rattle.lists.proofs.Counts.{count-replicate-out}
 use Rattle.lists.proofs.Pairs.{pairs-at, pairs-set, pairs-mapFrom}
 use Rattle.lists.specs.Tests.{Passed}
-use Rattle.machine.specs.Wire.{Call, HEAD, POOL, MEMBER, ROUND, BID, CLOSE, ALLOCATE, TEAR, CALL, PAY, MOVE, MISS, FINISH, SALE}
+use Rattle.machine.specs.Wire.{Call, HEAD, POOL, MEMBER, ROUND, BID, CLOSE, ALLOCATE, TEAR, CALL, PAY, MOVE, MISS, FINISH, SALE, WITHDRAW}
 use Rattle.machine.specs.Roll.{openUnits}
 use Rattle.machine.specs.State.{Member, Case, noMember, memberAt, letter, letterOf, withCalled}
 use Rattle.machine.specs.Requirement.{owes}
 use Rattle.machine.specs.Calls.{accepted, allocation, alsoAllocated, calls}
-use Rattle.machine.specs.Calls.{afterPool, afterMember, afterRound, afterBid, afterClose, afterAllocate, afterTear, afterCall, afterPay, afterMove, afterMiss, afterSale}
+use Rattle.machine.specs.Calls.{afterPool, afterMember, afterRound, afterBid, afterClose, afterAllocate, afterTear, afterCall, afterPay, afterMove, afterMiss, afterSale, afterWithdraw}
 use Rattle.machine.specs.Refusals.{tests, notInCase}
 use Rattle.machine.proofs.Invariant.{CaseOk}
 use Rattle.machine.proofs.Stages.{letter-is, letter-some}
@@ -69,7 +69,7 @@ Flags x y = x .moved ≡ true → y .moved ≡ true
 
 module _ (c : Case) (ok : CaseOk c) (begun : Begun c) where
   still-moved : (call : Call) → Passed (tests (some c) c call) → (m : ℕ) → HadMove c m → HadMove (accepted c call) m
-  unfolding accepted tests letterOf letter memberAt afterPool afterMember afterRound afterBid afterClose afterAllocate afterTear afterCall afterPay afterMove afterMiss afterSale alsoAllocated
+  unfolding accepted tests letterOf letter memberAt afterPool afterMember afterRound afterBid afterClose afterAllocate afterTear afterCall afterPay afterMove afterMiss afterSale afterWithdraw alsoAllocated
   still-moved (HEAD h) t m f = absurd (false≢true (sym (letter-some (c .stage)) ∙ not-false _ (t .0)))
   still-moved (POOL pool units mark) t m f = f
   still-moved (MEMBER x contribution expected) t m f = absurd (omega (arith, letter-is (c .stage) 1 (t .0)))
@@ -88,6 +88,7 @@ module _ (c : Case) (ok : CaseOk c) (begun : Begun c) where
   still-moved (MISS x price) t m f = f
   still-moved FINISH t m f = f
   still-moved (SALE pool x price) t m f = f
+  still-moved (WITHDRAW x n) t m f = f
 
   pub call-goes : (call : Call) → Passed (tests (some c) c call) → Goes c (accepted c call)
   call-goes call t =
@@ -122,9 +123,10 @@ module _ (c : Case) (call : Call) (t : Passed (tests (some c) c call)) where
       go (MISS x price) t = refl
       go FINISH t = refl
       go (SALE p x price) t = refl
+      go (WITHDRAW x n) t = refl
 
   still-given : (pool : ℕ) → pool < length (c .pools) → pool < length (accepted c call .pools)
-  unfolding accepted tests letterOf afterPool afterMember afterRound afterBid afterClose afterAllocate afterTear afterCall afterPay afterMove afterMiss afterSale
+  unfolding accepted tests letterOf afterPool afterMember afterRound afterBid afterClose afterAllocate afterTear afterCall afterPay afterMove afterMiss afterSale afterWithdraw
   still-given pool l = go call t
     where
       go : (call : Call) → Passed (tests (some c) c call) → pool < length (accepted c call .pools)
@@ -142,6 +144,7 @@ module _ (c : Case) (call : Call) (t : Passed (tests (some c) c call)) where
       go (MISS x price) t = l
       go FINISH t = l
       go (SALE p x price) t = l
+      go (WITHDRAW x n) t = l
 
   pub still-shut : (pool : ℕ) → Shut c pool → Shut (accepted c call) pool
   still-shut pool shut = (still-given pool (shut .0), omega (arith, call-open (some c) call t pool, not-put pool (shut .0), shut .1))

@@ -14,23 +14,23 @@ use Rattle.lists.specs.Lists.{sum, count, tab}
 use Rattle.lists.specs.Adding.{most16, addAt}
 use Rattle.lists.proofs.Bools.{cases, or-left, lt-or-le}
 use Rattle.lists.proofs.Places.{getD-same}
-use Rattle.lists.proofs.Each.{Each, each-more, each-at, getD-mapFrom, length-mapFrom}
+use Rattle.lists.proofs.Each.{Each, each-more, each-at, getD-mapFrom, length-mapFrom, set-cases}
 use Rattle.lists.specs.Tests.{Passed}
 use Rattle.sets.specs.Set.{members}
 use Rattle.sets.proofs.Members.{members-each}
 use Rattle.auction.specs.Price.{zeroPrice, priceLimit}
-use Rattle.machine.specs.Wire.{Head, Call, POOL, MEMBER, ROUND, BID, CLOSE, ALLOCATE, TEAR, CALL, PAY, MOVE, MISS, FINISH, SALE}
-use Rattle.machine.specs.Roll.{Bid, noBid, withWon, openUnits}
+use Rattle.machine.specs.Wire.{Head, Call, POOL, MEMBER, ROUND, BID, CLOSE, ALLOCATE, TEAR, CALL, PAY, MOVE, MISS, FINISH, SALE, WITHDRAW}
+use Rattle.machine.specs.Roll.{Bid, noBid, withWon, openUnits, withdrawn}
 use Rattle.machine.specs.State.{Case, newCase, letter, letterOf, roundOf}
 use Rattle.machine.specs.Requirement.{owes}
 use Rattle.machine.specs.Calls.{accepted, inAuction, wonGiven, wonIn, bidsAfter, allocation, newBid}
-use Rattle.machine.specs.Calls.{afterPool, afterMember, afterRound, afterBid, afterClose, afterAllocate, afterTear, afterCall, afterPay, afterMove, afterMiss, sold, afterSale}
+use Rattle.machine.specs.Calls.{afterPool, afterMember, afterRound, afterBid, afterClose, afterAllocate, afterTear, afterCall, afterPay, afterMove, afterMiss, sold, afterSale, afterWithdraw}
 use Rattle.machine.specs.Refusals.{tests, notInCase, notInSet, noneOpen}
 use Rattle.machine.proofs.Invariant.{BidOk, CaseOk}
 use Rattle.machine.proofs.RollChanges.{soldIs, soldTo}
 use Rattle.machine.proofs.Giving.{wonWhere}
 use Rattle.machine.proofs.Closing.{given-same}
-use Rattle.machine.proofs.CallsKept.{pool-ok, bid-ok, close-gives, close-ok, round-complete}
+use Rattle.machine.proofs.CallsKept.{pool-ok, bid-ok, close-gives, close-ok, round-complete, withdraw-ok}
 use Rattle.machine.proofs.Shares.{allocation-sum}
 use Rattle.machine.proofs.Bounds as B
 use Rattle.machine.proofs.Stages.{letter-is, letter-AC}
@@ -195,6 +195,19 @@ module _ (c : Case) (ok : CaseOk c) where
       same-units (BID pool m units price) t u right
       (bids-kept u (c .bids) bids (c .roll) (right .kept) (λ b l. bid-price (c .head) (length (c .rounds)) bids (bid-ok c ok pool m units price t .bids .each) b)
       (λ b l live. (ap (λ (x : Bid). x .pool) (same b l live), ap (λ (x : Bid). x .price) (same b l live))))
+
+  -- a bid that is withdrawn keeps its pool and its price
+  pub withdraw-right : (m n : ℕ) → Passed (tests (some c) c (WITHDRAW m n)) → (u : Units) → Right c u → Right (accepted c (WITHDRAW m n)) u
+  unfolding accepted afterWithdraw
+  withdraw-right m n t u right =
+      let new = withdrawn (getD (c .bids) n noBid) in
+      let bids = set (c .bids) n new in
+      same-units (WITHDRAW m n) t u right
+      (bids-kept u (c .bids) bids (c .roll) (right .kept) (λ b l. bid-price (c .head) (length (c .rounds)) bids (withdraw-ok c ok m n t .bids .each) b)
+      (λ b l live. (
+        set-cases (λ (x : Bid). x .pool ≡ getD (c .bids) b noBid .pool) (c .bids) n new noBid b (λ e. rw e) refl,
+        set-cases (λ (x : Bid). x .price ≡ getD (c .bids) b noBid .price) (c .bids) n new noBid b (λ e. rw e) refl,
+      )))
 
   -- ---- POOL
 
