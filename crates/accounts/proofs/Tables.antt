@@ -21,7 +21,7 @@ use Rattle.machine.specs.Roll as M
 use Rattle.machine.specs.Calls.{wonByMember}
 use Rattle.accounts.specs.declared.bids.Bids.{Bids}
 use Rattle.accounts.specs.Members.{overPoolsAt, overPools}
-use Rattle.accounts.specs.Bids.{putBid, wonTable, gainAt, gainTable, bidAt, viewBids}
+use Rattle.accounts.specs.Bids.{putBid, withdrawBid, wonTable, gainAt, gainTable, bidAt, viewBids}
 use Rattle.accounts.proofs.ViewBids.{BidsLong}
 
 -- a sum by key over the places that are used
@@ -106,7 +106,11 @@ pub won-table-long : (x : Bids) → length (wonTable x) ≡ 128
 unfolding wonTable
 won-table-long x = length-held most16 _ ∙ length-sums 128 _ _ (places (min (x .kept) 256))
 
--- ---- a new bid has won nothing
+-- ---- a withdrawal changes no units won, and a new bid has won nothing
+
+pub won-table-withdraw : (x : Bids) (n : ℕ) → wonTable (withdrawBid x n) ≡ wonTable x
+unfolding withdrawBid wonTable
+won-table-withdraw x n = refl
 
 pub won-table-put : (x : Bids) (round pool m units price : ℕ) → BidsLong x → wonTable (putBid x round pool m units price) ≡ wonTable x
 unfolding putBid wonTable

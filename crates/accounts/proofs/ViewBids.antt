@@ -1,12 +1,12 @@
 -- The bids kept, as the machine has them: `new` shows none, `put` one more at the end, and the arrays agree with what is shown. Assumes nothing.
 use mathlib.Core.Path.{_≡_, refl, sym, ap, _∙_}
-use mathlib.Core.Bool.{Bool, true, false}
+use mathlib.Core.Bool.{Bool, true, false, _&&_}
 use mathlib.Core.Logic.{⊎-elim}
 use mathlib.Core.List.{List, [], _∷_, _++_}
 use Prim.Native.Nat.{ℕ, _≤_, _<_, min}
 use native.Mathlib.Omega.{arith}
-use lib.Dec.{ltb}
-use lib.ListN.{length, getD, set, length-set}
+use lib.Dec.{ltb, eqb}
+use lib.ListN.{length, getD, set, length-set, List·getD-eq-default}
 use lib.Seq.{getD-set-same, getD-set-other}
 use borrow.Author.Tests.{lt-ltb, le-ltb, ltb-true}
 use Rattle.lists.proofs.Each.{set-cases}
@@ -17,9 +17,9 @@ use Rattle.lists.proofs.Places.{tab-more, getD-tab, getD-tab-past, length-tab, 
 use Rattle.auction.specs.Price.{priceLimit}
 use Rattle.auction.specs.Limits.{unitLimit}
 use Rattle.machine.specs.Roll as M
-use Rattle.machine.specs.Calls.{newBid}
+use Rattle.machine.specs.Calls.{newBid, inRound}
 use Rattle.accounts.specs.declared.bids.Bids.{Bids}
-use Rattle.accounts.specs.Bids.{noBids, putBid, inRoundAt, withdrawBid, withWins, bidAt, viewBids}
+use Rattle.accounts.specs.Bids.{noBids, putBid, inRoundAt, standsFor, withdrawBid, withWins, bidAt, viewBids}
 
 -- ---- what holds of every value that a program reaches
 
@@ -174,6 +174,15 @@ view-withdraw x n w l =
     -- a bid with another mark
     stood : M.Bid → Bool → M.Bid
     stood b s = record { round = b .round; pool = b .pool; member = b .member; units = b .units; price = b .price; won = b .won; stands = s }
+
+-- whether a bid that stands has the number, by its place and as the machine has it
+pub stands-shown : (x : Bids) (round m n : ℕ) → standsFor x round m n ≡ (inRound round (getD (viewBids x) n M.noBid) && eqb (getD (viewBids x) n M.noBid .member) m)
+unfolding standsFor inRoundAt inRound
+stands-shown x round m n =
+    ⊎-elim
+    (λ l. rw (lt-ltb n (x .kept) l, getD-tab (x .kept) (bidAt x) n M.noBid l))
+    (λ h. rw (le-ltb n (x .kept) h, List·getD-eq-default (viewBids x) M.noBid {n = n} (omega (arith, length-view x))))
+    (lt-or-le n (x .kept))
 
 -- ---- the arrays agree with what is shown
 

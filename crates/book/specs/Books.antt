@@ -21,7 +21,7 @@ use Rattle.accounts.specs.declared.bids.Bids.{Bids}
 use Rattle.accounts.specs.Pools.{noPools, putPool}
 use Rattle.accounts.specs.Members.{noMembers, owesOf, shortfallsOf, putMember, withShares, withCalls, withPayment, withMove, withWon}
 use Rattle.accounts.specs.Rounds.{noRounds, putRound, reserveOf}
-use Rattle.accounts.specs.Bids.{noBids, putBid, winsOf, withWins, wonTable}
+use Rattle.accounts.specs.Bids.{noBids, putBid, withdrawBid, winsOf, withWins, wonTable}
 use Rattle.book.specs.declared.Book.{Book}
 
 -- ---- a book with one part changed
@@ -176,3 +176,7 @@ missBook b m price = withUnits b (missUnits (b .units) m price)
 -- SALE
 unfoldable pub saleBook : Book → ℕ → ℕ → ℕ → Book
 saleBook b pool m price = withUnits b (saleUnits (b .units) pool m price)
+
+-- WITHDRAW
+unfoldable pub withdrawBook : Book → ℕ → Book
+withdrawBook b n = withBids b (withdrawBid (b .bids) n)

@@ -7,7 +7,7 @@ ghost use Rattle.lists.specs.Adding.{most16};
 ghost use Rattle.accounts.specs.Members.{shortfallsOf};
 ghost use Rattle.book.specs.Stages.{letterOf, roundOf, nextRound};
 ghost use Rattle.book.specs.Books.{openIn, anyOpenIn, soldPools, passedIn, pricesIn, tooDearIn, requirementIn, contributionsIn, prefundedIn, shortIn, allocationIn, callsIn};
-ghost use Rattle.book.specs.Books.{newBook, poolBook, memberBook, roundBook, bidBook, closeBook, allocateBook, tearBook, callBook, payBook, moveBook, missBook, saleBook};
+ghost use Rattle.book.specs.Books.{newBook, poolBook, memberBook, roundBook, bidBook, closeBook, allocateBook, tearBook, callBook, payBook, moveBook, missBook, saleBook, withdrawBook};
 ghost use Rattle.book.specs.Results.{limitsIn, ranksIn, resultIn};
 use accounts::bids::Bids;
 use accounts::members::Members;
@@ -378,6 +378,17 @@ impl Book {
         let sold = units.sell_pool(pool, m, price);
         let mut next = self;
         next.units = sold;
+        next
+    }
+
+    // WITHDRAW
+    pub fn take_withdraw(self, n: u16) -> Book
+        ensures { λ r. ⌜ r ≡ withdrawBook self n ⌝ }
+    {
+        let bids = self.bids;
+        let fewer = bids.withdraw(n);
+        let mut next = self;
+        next.bids = fewer;
         next
     }
 

@@ -1,4 +1,4 @@
--- BID and CLOSE, accepted: the program's case shows the machine's. Assumes nothing.
+-- BID, WITHDRAW and CLOSE, accepted: the program's case shows the machine's. Assumes nothing.
 use mathlib.Core.Path.{_≡_, refl, sym, ap, _∙_}
 use mathlib.Core.Bool.{true, _&&_}
 use mathlib.Core.List.{List}
@@ -16,23 +16,24 @@ use Rattle.machine.specs.Wire as Wire
 use Rattle.machine.specs.Roll.{Entry, Bid, noBid}
 use Rattle.machine.specs.State as M
 use Rattle.machine.specs.State.{letterOf}
-use Rattle.machine.specs.Calls.{reserve, bidsAfter, afterBid, afterClose, accepted}
-use Rattle.machine.specs.Refusals.{tests, bidOk}
+use Rattle.machine.specs.Calls.{reserve, inRound, bidsAfter, afterBid, afterClose, afterWithdraw, accepted}
+use Rattle.machine.specs.Refusals.{tests, bidOk, noneStands}
 use Rattle.machine.proofs.Invariant.{CaseOk}
 use Rattle.machine.proofs.Bounds.{won-le-units, pool-ok, reserve-ok}
+use Rattle.machine.proofs.CallsKept.{stands-kept}
 use Rattle.machine.proofs.Stages.{letter-is, bidding-stage}
 use Rattle.units.proofs.Kept.{Lent}
-use Rattle.units.proofs.Right.{bid-right, close-right}
+use Rattle.units.proofs.Right.{bid-right, withdraw-right, close-right}
 use Rattle.accounts.specs.declared.bids.Bids.{Bids}
 use Rattle.accounts.specs.Bids.{withWins, wonTable, viewBids}
 use Rattle.accounts.specs.Rounds.{reserveOf}
 use Rattle.accounts.proofs.ViewMembers.{win-long}
 use Rattle.accounts.proofs.ViewRounds as Y
 use Rattle.accounts.proofs.ViewBids as Z
-use Rattle.accounts.proofs.Tables.{won-table-put, won-table-long}
+use Rattle.accounts.proofs.Tables.{won-table-put, won-table-withdraw, won-table-long}
 use Rattle.accounts.proofs.Taking.{Closing, view-closed}
 use Rattle.book.specs.Stages.{roundOf}
-use Rattle.book.specs.Books.{openIn, bidBook, bidsClosed, closeBook}
+use Rattle.book.specs.Books.{openIn, bidBook, withdrawBook, bidsClosed, closeBook}
 use Rattle.book.proofs.Sound.{Sound}
 use Rattle.book.proofs.Shown.{open-shown, bid-pool}
 use Rattle.case.specs.declared.Case.{Case}
@@ -77,6 +78,26 @@ module _ (c : Case) (roll : List Entry) (s : Sound (c .stage) (c .book) roll) (o
         won = s .won ∙ sym (won-table-put x (roundOf (c .stage)) pool m units price (s .bids));
       })
       (bid-right (view c roll) ok pool m units price t (b .units) (s .units))
+
+  -- the bid is one of those kept, since it stands
+  pub withdraw-shown : (m n : ℕ) → Passed (tests (some (view c roll)) (view c roll) (Wire.WITHDRAW m n)) → Shown c roll (Wire.WITHDRAW m n)
+  unfolding tests noneStands inRound caseAfter accepted withdrawBook afterWithdraw
+  withdraw-shown m n t =
+      let b = c .book in
+      let x = b .bids in
+      let stands = and-left _ _ (and-left _ _ (not-false _ (t .1 .1 .0))) in
+      let kept : n < x .kept = omega (arith, Z.length-view x, stands-kept (view c roll) ok n stands) in
+      shown-by c roll (Wire.WITHDRAW m n)
+      (case-ext _ _ refl refl refl refl refl (Z.view-withdraw x n (s .bids) kept) refl)
+      (record {
+        set = s .set;
+        pools = s .pools;
+        members = s .members;
+        rounds = s .rounds;
+        bids = Z.withdraw-long x n (s .bids);
+        won = s .won ∙ sym (won-table-withdraw x n);
+      })
+      (withdraw-right (view c roll) ok m n t (b .units) (s .units))
 
   -- ---- CLOSE
 

@@ -13,7 +13,7 @@ use Rattle.lists.specs.Tests.{firstOf}
 use Rattle.lists.proofs.Bools.{either, by-test, and-left, and-right}
 use Rattle.lists.proofs.Each.{each-drop}
 use Rattle.lists.proofs.Places.{length-tab, tab-self}
-use Rattle.machine.specs.Wire.{Head, Call, HEAD, POOL, MEMBER, ROUND, BID, CLOSE, ALLOCATE, TEAR, CALL, PAY, MOVE, MISS, FINISH, SALE, number, price, rightLength, callOf, decode}
+use Rattle.machine.specs.Wire.{Head, Call, HEAD, POOL, MEMBER, ROUND, BID, CLOSE, ALLOCATE, TEAR, CALL, PAY, MOVE, MISS, FINISH, SALE, WITHDRAW, number, price, rightLength, callOf, decode}
 use Rattle.machine.specs.Roll.{Entry}
 use Rattle.machine.specs.State as M
 use Rattle.machine.specs.Refusals.{tests, refusal}
@@ -26,7 +26,7 @@ use Rattle.case.specs.declared.Case.{Case}
 use Rattle.case.specs.View.{view}
 use Rattle.case.specs.Claim.{Read}
 use Rattle.case.specs.Cases.{headFrom, caseAnswer, firstAnswer}
-use Rattle.refusals.proofs.AnswersShown.{head-answer, pool-answer, member-answer, round-answer, bid-answer, close-answer, allocate-answer, tear-answer, call-answer, pay-answer, move-answer, miss-answer, finish-answer, sale-answer}
+use Rattle.refusals.proofs.AnswersShown.{head-answer, pool-answer, member-answer, round-answer, bid-answer, close-answer, allocate-answer, tear-answer, call-answer, pay-answer, move-answer, miss-answer, finish-answer, sale-answer, withdraw-answer}
 
 -- ---- the bytes
 
@@ -46,6 +46,7 @@ read-fits (MOVE m) r = tt
 read-fits (MISS m price) r = tt
 read-fits FINISH r = tt
 read-fits (SALE pool m price) r = tt
+read-fits (WITHDRAW m n) r = tt
 
 -- a ROUND's length is at most 16
 round-few : (tag : ℕ) (v : List ℕ) → rightLength tag (length v) ≡ true → eqb tag 4 ≡ true → length v / 4 ≤ 4
@@ -116,6 +117,7 @@ answer-shown c roll sound ok (MOVE m) r = move-answer (c .stage) (c .book) roll 
 answer-shown c roll sound ok (MISS m price) r = miss-answer (c .stage) (c .book) roll sound ok m price
 answer-shown c roll sound ok FINISH r = finish-answer (c .stage) (c .book) roll sound ok
 answer-shown c roll sound ok (SALE pool m price) r = sale-answer (c .stage) (c .book) roll sound ok pool m price
+answer-shown c roll sound ok (WITHDRAW m n) r = withdraw-answer (c .stage) (c .book) roll sound ok m n
 
 -- where none is held
 pub first-shown : (call : Call) → firstAnswer call ≡ refusal none call
@@ -134,3 +136,4 @@ first-shown (MOVE m) = refl
 first-shown (MISS m price) = refl
 first-shown FINISH = refl
 first-shown (SALE pool m price) = refl
+first-shown (WITHDRAW m n) = refl

@@ -11,7 +11,7 @@ use Rattle.lists.specs.Tests.{Test, firstOf}
 use Rattle.lists.proofs.Bools.{either, and-left, and-right}
 use Rattle.lists.proofs.Each.{Each}
 use Rattle.machine.specs.Wire as Wire
-use Rattle.refusals.specs.Answers.{headAnswer, poolAnswer, memberAnswer, roundAnswer, bidAnswer, closeAnswer, allocateAnswer, tearAnswer, callAnswer, payAnswer, moveAnswer, missAnswer, finishAnswer, saleAnswer}
+use Rattle.refusals.specs.Answers.{headAnswer, poolAnswer, memberAnswer, roundAnswer, bidAnswer, closeAnswer, allocateAnswer, tearAnswer, callAnswer, payAnswer, moveAnswer, missAnswer, finishAnswer, saleAnswer, withdrawAnswer}
 use Rattle.case.specs.declared.Case.{Case}
 use Rattle.case.specs.declared.Held.{Held}
 use Rattle.case.specs.Cases.{caseAnswer, firstAnswer, caseAnswerTo, firstAnswerTo, answerTo, takeAsked, applied}
@@ -29,7 +29,7 @@ first-most (t ∷ ts) h =
     either (λ (n : ℕ). n ≤ 17) (t .1) (leb-true (t .0) 17 (and-left (leb (t .0) 17) (small ts) h)) (first-most ts (and-right (leb (t .0) 17) (small ts) h))
 
 case-most : (c : Case) (call : Wire.Call) → caseAnswer c call ≤ 17
-unfolding caseAnswer poolAnswer memberAnswer roundAnswer bidAnswer closeAnswer allocateAnswer tearAnswer callAnswer payAnswer moveAnswer missAnswer finishAnswer saleAnswer
+unfolding caseAnswer poolAnswer memberAnswer roundAnswer bidAnswer closeAnswer allocateAnswer tearAnswer callAnswer payAnswer moveAnswer missAnswer finishAnswer saleAnswer withdrawAnswer
 case-most c (Wire.HEAD h) = omega arith
 case-most c (Wire.POOL pool units mark) = first-most _ refl
 case-most c (Wire.MEMBER m contribution es) = first-most _ refl
@@ -44,6 +44,7 @@ case-most c (Wire.MOVE m) = first-most _ refl
 case-most c (Wire.MISS m price) = first-most _ refl
 case-most c Wire.FINISH = first-most _ refl
 case-most c (Wire.SALE pool m price) = first-most _ refl
+case-most c (Wire.WITHDRAW m n) = first-most _ refl
 
 first-call-most : (call : Wire.Call) → firstAnswer call ≤ 17
 unfolding firstAnswer headAnswer
@@ -61,6 +62,7 @@ first-call-most (Wire.MOVE m) = omega arith
 first-call-most (Wire.MISS m price) = omega arith
 first-call-most Wire.FINISH = omega arith
 first-call-most (Wire.SALE pool m price) = omega arith
+first-call-most (Wire.WITHDRAW m n) = omega arith
 
 to-most : (present : Bool) (c : Case) (asked : Option Wire.Call) → answerTo present c asked ≤ 17
 unfolding answerTo caseAnswerTo firstAnswerTo

@@ -18,7 +18,7 @@ use Rattle.case.specs.View.{view}
 pub use Rattle.case.proofs.Showing.{Shown}
 pub use Rattle.case.proofs.SetupSteps.{head-shown}
 use Rattle.case.proofs.SetupSteps.{pool-shown, member-shown, round-shown, sale-shown}
-use Rattle.case.proofs.BiddingSteps.{bid-shown, close-shown}
+use Rattle.case.proofs.BiddingSteps.{bid-shown, withdraw-shown, close-shown}
 use Rattle.case.proofs.PlacingSteps.{allocate-shown, tear-shown}
 use Rattle.case.proofs.CallingSteps.{call-shown, pay-shown, move-shown, miss-shown, finish-shown}
 
@@ -40,3 +40,4 @@ next-shown c roll s ok (Wire.MOVE m) f t = move-shown c roll s ok m t
 next-shown c roll s ok (Wire.MISS m price) f t = miss-shown c roll s ok m price t
 next-shown c roll s ok Wire.FINISH f t = finish-shown c roll s ok t
 next-shown c roll s ok (Wire.SALE pool m price) f t = sale-shown c roll s ok pool m price t
+next-shown c roll s ok (Wire.WITHDRAW m n) f t = withdraw-shown c roll s ok m n t

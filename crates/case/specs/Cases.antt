@@ -12,8 +12,8 @@ use Rattle.book.specs.declared.Book.{Book}
 use Rattle.book.specs.declared.Stage.{Stage}
 use Rattle.book.specs.declared.Stage.the-variants.{Setup, Bidding, After, CallsOut, Finished}
 use Rattle.book.specs.Stages.{roundOf, nextRound}
-use Rattle.book.specs.Books.{anyOpenIn, newBook, poolBook, memberBook, roundBook, bidBook, closeBook, allocateBook, tearBook, callBook, payBook, moveBook, missBook, saleBook}
-use Rattle.refusals.specs.Answers.{headAnswer, poolAnswer, memberAnswer, roundAnswer, bidAnswer, closeAnswer, allocateAnswer, tearAnswer, callAnswer, payAnswer, moveAnswer, missAnswer, finishAnswer, saleAnswer}
+use Rattle.book.specs.Books.{anyOpenIn, newBook, poolBook, memberBook, roundBook, bidBook, closeBook, allocateBook, tearBook, callBook, payBook, moveBook, missBook, saleBook, withdrawBook}
+use Rattle.refusals.specs.Answers.{headAnswer, poolAnswer, memberAnswer, roundAnswer, bidAnswer, closeAnswer, allocateAnswer, tearAnswer, callAnswer, payAnswer, moveAnswer, missAnswer, finishAnswer, saleAnswer, withdrawAnswer}
 use Rattle.case.specs.declared.Case.{Case}
 use Rattle.case.specs.declared.Outcome.{Outcome}
 use Rattle.case.specs.declared.Held.{Held}
@@ -55,6 +55,7 @@ caseAnswer c (Wire.MOVE m) = moveAnswer (c .stage) (c .book) m
 caseAnswer c (Wire.MISS m price) = missAnswer (c .stage) (c .book) m price
 caseAnswer c Wire.FINISH = finishAnswer (c .stage) (c .book)
 caseAnswer c (Wire.SALE pool m price) = saleAnswer (c .stage) (c .book) pool m price
+caseAnswer c (Wire.WITHDRAW m n) = withdrawAnswer (c .stage) (c .book) m n
 
 -- the answer to a call, where none is held: only HEAD has a stage
 unfoldable pub firstAnswer : Wire.Call → ℕ
@@ -72,6 +73,7 @@ firstAnswer (Wire.MOVE m) = 2
 firstAnswer (Wire.MISS m price) = 2
 firstAnswer Wire.FINISH = 2
 firstAnswer (Wire.SALE pool m price) = 2
+firstAnswer (Wire.WITHDRAW m n) = 2
 
 -- the answer to what is asked; bytes that are no call are answered 1
 unfoldable pub caseAnswerTo : Case → Option Wire.Call → ℕ
@@ -118,6 +120,7 @@ caseAfter c Wire.FINISH = caseOf Finished (c .book)
 caseAfter c (Wire.SALE pool m price) =
     let b = saleBook (c .book) pool m price in
     caseOf (if anyOpenIn b then c .stage else After 1) b
+caseAfter c (Wire.WITHDRAW m n) = caseOf (c .stage) (withdrawBook (c .book) n)
 
 -- the case after what is asked, if it is accepted
 unfoldable pub afterAsked : Case → Option Wire.Call → Case

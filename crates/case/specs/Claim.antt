@@ -17,7 +17,7 @@ use Rattle.lists.specs.Lists.{sum, count, Each, Bytes}
 use Rattle.lists.specs.Tests.{Passed, First}
 use Rattle.sets.specs.Set.{member, members}
 use Rattle.auction.specs.Price.{atLeast0}
-use Rattle.machine.specs.Wire.{Call, HEAD, POOL, MEMBER, ROUND, BID, CLOSE, ALLOCATE, TEAR, CALL, PAY, MOVE, MISS, FINISH, SALE, decode}
+use Rattle.machine.specs.Wire.{Call, HEAD, POOL, MEMBER, ROUND, BID, CLOSE, ALLOCATE, TEAR, CALL, PAY, MOVE, MISS, FINISH, SALE, WITHDRAW, decode}
 use Rattle.machine.specs.Roll.{Entry, Agreed, agreedIn}
 use Rattle.machine.specs.State as M
 use Rattle.machine.specs.Requirement.{requirement}
@@ -91,6 +91,7 @@ Read (MOVE m) = Unit {0}
 Read (MISS m price) = Unit {0}
 Read FINISH = Unit {0}
 Read (SALE pool m price) = Unit {0}
+Read (WITHDRAW m n) = Unit {0}
 
 -- a method of a case that a list of calls has led to answers as the machine, and what is then observed of the case is what is observed of the machine
 abbrev pub MethodsAgree : Type 0

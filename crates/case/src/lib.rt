@@ -1,4 +1,4 @@
-// The case (documents 01 and 02): its stage and its book, and the fourteen calls. "Each call takes the case and hands the case back."
+// The case (documents 01 and 02): its stage and its book, and the fifteen calls. "Each call takes the case and hands the case back."
 ghost use mathlib.Core.Path.{_≡_};
 ghost use mathlib.Core.Bool.{Bool};
 ghost use mathlib.Core.List.{[], _∷_};
@@ -6,7 +6,7 @@ ghost use mathlib.Core.Option.{some};
 ghost use Prim.Native.Nat.{_<_, _^_};
 ghost use lib.IntN.{subℕ};
 ghost use lib.ListN.{set};
-ghost use Rattle.machine.specs.Wire.{POOL, MEMBER, BID, CLOSE, ALLOCATE, TEAR, CALL, PAY, MOVE, MISS, FINISH, SALE};
+ghost use Rattle.machine.specs.Wire.{POOL, MEMBER, BID, CLOSE, ALLOCATE, TEAR, CALL, PAY, MOVE, MISS, FINISH, SALE, WITHDRAW};
 ghost use Rattle.wire.specs.Asked.{asked};
 ghost use Rattle.wire.specs.declared.Call.the-variants.{Round};
 ghost use Rattle.units.specs.Shown.{countOf};
@@ -327,6 +327,18 @@ impl Case {
         Case::accepted(next, sold)
     }
 
+    pub fn withdraw(self, m: u8, n: u16) -> Outcome
+        ensures { λ r. ⌜ r ≡ outcomeOf self (some (WITHDRAW m n)) ⌝ }
+    {
+        let stage = self.stage;
+        let book = self.book;
+        let answer = refusals::withdraw_answer(book, stage, m, n);
+        if answer != 0 {
+            return self.declined(answer);
+        }
+        Case::accepted(stage, book.take_withdraw(n))
+    }
+
     // ---- what is read of a case
 
     // How many units of a pool are open (0), sold (1), allocated (2), moved (3) or torn (4).
@@ -434,6 +446,7 @@ fn first_answer(call: Call) -> u8
             member: _,
             price: _,
         } => 2,
+        Call::Withdraw { member: _, bid: _ } => 2,
         Call::Unknown => 1,
     }
 }
@@ -480,6 +493,7 @@ fn answer_in(case: Case, call: Call) -> u8
             member,
             price,
         } => refusals::sale_answer(case.book, stage, pool, member, price),
+        Call::Withdraw { member, bid } => refusals::withdraw_answer(case.book, stage, member, bid),
         Call::Unknown => 1,
     }
 }
@@ -538,6 +552,7 @@ pub fn after(case: Case, call: Call) -> Case
             let held = case;
             case_of(held.sale(pool, member, price))
         }
+        Call::Withdraw { member, bid } => case_of(case.withdraw(member, bid)),
         Call::Unknown => case,
     }
 }

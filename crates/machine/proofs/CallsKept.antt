@@ -688,7 +688,7 @@ module _ (c : Case) (ok : CaseOk c) where
   -- ---- WITHDRAW
 
   -- a standing bid is one of those kept
-  stands-kept : (n : ℕ) → getD (c .bids) n noBid .stands ≡ true → n < length (c .bids)
+  pub stands-kept : (n : ℕ) → getD (c .bids) n noBid .stands ≡ true → n < length (c .bids)
   stands-kept n s =
       ⊎-elim (λ l. l) (λ g. absurd (false≢true (ap (λ (b : Bid). b .stands) (sym (List·getD-eq-default (c .bids) noBid {n = n} g)) ∙ s)))
       (lt-or-le n (length (c .bids)))

@@ -20,10 +20,10 @@ use Rattle.lists.proofs.Places.{length-tab, getD-tab}
 use Rattle.sets.specs.Set.{member, members}
 use Rattle.sets.proofs.Bits.{member-high}
 use Rattle.sets.proofs.Members.{members-each, ext}
-use Rattle.machine.specs.Wire.{HEAD, POOL, MEMBER, ROUND, BID, CLOSE, ALLOCATE, TEAR, CALL, PAY, MOVE, MISS, FINISH, SALE}
+use Rattle.machine.specs.Wire.{HEAD, POOL, MEMBER, ROUND, BID, CLOSE, ALLOCATE, TEAR, CALL, PAY, MOVE, MISS, FINISH, SALE, WITHDRAW}
 use Rattle.machine.specs.Roll.{Entry}
 use Rattle.machine.specs.State.{Member, Case, memberAt, letter, letterOf}
-use Rattle.machine.specs.Refusals.{notInCase, notInSet, noneOpen, marked, notGiven, tests, refusal}
+use Rattle.machine.specs.Refusals.{notInCase, notInSet, noneOpen, marked, notGiven, tests, refusal, noneStands}
 use Rattle.machine.proofs.Invariant.{CaseOk}
 use Rattle.machine.proofs.Stages.{letter-some}
 use Rattle.wire.specs.declared.Head.{Head}
@@ -34,7 +34,7 @@ use Rattle.accounts.proofs.ViewPools as VP
 use Rattle.accounts.proofs.ViewBids as VB
 use Rattle.book.specs.declared.Stage.{Stage}
 use Rattle.book.specs.declared.Book.{Book}
-use Rattle.refusals.specs.Answers.{headAnswer, poolAnswer, memberAnswer, roundAnswer, bidAnswer, closeAnswer, allocateAnswer, tearAnswer, callAnswer, payAnswer, moveAnswer, missAnswer, finishAnswer, saleAnswer}
+use Rattle.refusals.specs.Answers.{headAnswer, poolAnswer, memberAnswer, roundAnswer, bidAnswer, closeAnswer, allocateAnswer, tearAnswer, callAnswer, payAnswer, moveAnswer, missAnswer, finishAnswer, saleAnswer, withdrawAnswer}
 use Rattle.book.specs.View.{viewOf}
 use Rattle.book.proofs.Sound.{Sound}
 use Rattle.book.proofs.Shown.{open-shown, any-open-shown, requirement-shown, prefunded-shown, short-shown, passed-shown, too-dear-shown, debt-shown, someone-owes-shown}
@@ -245,3 +245,13 @@ module _ (stage : Stage) (b : Book) (roll : List Entry) (w : Sound stage b roll)
       (λ e. same 10 _ _ (rw (VP.length-view (b .pools), all-given-shown))
       (λ e. same 17 _ _ (too-dear-shown stage b roll w ok (eqb-true (letter (c .stage)) 1 (not-false _ setup)) pool m price)
       (λ e. refl)))))))
+
+  -- ---- WITHDRAW
+
+  pub withdraw-answer : (m n : ℕ) → withdrawAnswer stage b m n ≡ refusal (some (viewOf stage b roll)) (WITHDRAW m n)
+  unfolding withdrawAnswer refusal tests notInSet noneStands letterOf
+  withdraw-answer m n =
+      same 2 _ _ refl
+      (λ e. same 4 _ _ refl
+      (λ e. same 18 _ _ (rw (VB.stands-shown (b .bids) (roundOf stage) m n))
+      (λ e. refl)))

@@ -13,6 +13,7 @@ use Rattle.machine.specs.Refusals.{headOk, poolOk, memberOk, bidOk, paymentOk}
 use Rattle.wire.specs.declared.Head.{Head}
 use Rattle.wire.specs.Asked.{headOf}
 use Rattle.accounts.specs.Members.{owesOf, someoneOwesIn}
+use Rattle.accounts.specs.Bids.{standsFor}
 use Rattle.book.specs.declared.Stage.{Stage}
 use Rattle.book.specs.declared.Book.{Book}
 use Rattle.book.specs.Stages.{letterOf, roundOf}
@@ -146,4 +147,13 @@ saleAnswer stage b pool m price =
     ∷ (8, eqb (openIn b pool) 0)
     ∷ (10, ltb (b .pools .given) (b .head .pools) || not (eqb (b .members .given) (b .head .set)))
     ∷ (17, tooDearIn b pool price)
+    ∷ [])
+
+-- document 02, C-14
+unfoldable pub withdrawAnswer : Stage → Book → ℕ → ℕ → ℕ
+withdrawAnswer stage b m n =
+    firstOf
+    ((2, not (isIn stage 2))
+    ∷ (4, not (member (b .head .set) m))
+    ∷ (18, not (standsFor (b .bids) (roundOf stage) m n))
     ∷ [])

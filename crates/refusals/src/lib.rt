@@ -6,7 +6,7 @@ ghost use Rattle.lists.specs.Lists.{between, all};
 ghost use Rattle.auction.specs.Price.{priceOk};
 ghost use Rattle.machine.specs.Refusals.{headOk, poolOk, memberOk, bidOk, paymentOk};
 ghost use Rattle.wire.specs.Asked.{headOf};
-ghost use Rattle.refusals.specs.Answers.{expectedOk, headAnswer, poolAnswer, memberAnswer, roundAnswer, bidAnswer, closeAnswer, allocateAnswer, tearAnswer, callAnswer, payAnswer, moveAnswer, missAnswer, finishAnswer, saleAnswer};
+ghost use Rattle.refusals.specs.Answers.{expectedOk, headAnswer, poolAnswer, memberAnswer, roundAnswer, bidAnswer, closeAnswer, allocateAnswer, tearAnswer, callAnswer, payAnswer, moveAnswer, missAnswer, finishAnswer, saleAnswer, withdrawAnswer};
 use book::Book;
 use book::Stage;
 use wire::Call;
@@ -351,4 +351,18 @@ pub fn sale_answer(book: Book, stage: Stage, pool: u8, m: u8, price: u32) -> u8
     let a4 = lists::decline_if(!in_set, 4, a5);
     let a3 = lists::decline_if(head.pools <= pool, 3, a4);
     lists::decline_if(letter != 1, 2, a3)
+}
+
+pub fn withdraw_answer(book: Book, stage: Stage, m: u8, n: u16) -> u8
+    ensures { λ r. ⌜ r ≡ withdrawAnswer stage book m n ⌝ }
+{
+    let letter = book::letter(stage);
+    let round = book::round_of(stage);
+    let head = book.head;
+    let bids = book.bids;
+    let in_set = sets::has(head.set, m);
+    let stands = bids.stands_for(round, m, n);
+    let a18 = lists::decline_if(!stands, 18, 0);
+    let a4 = lists::decline_if(!in_set, 4, a18);
+    lists::decline_if(letter != 2, 2, a4)
 }
