@@ -43,7 +43,7 @@ module _ (s : List ℕ) (at : ℕ) where
 -- ---- the length of a value
 
 abbrev pub lengths : List ℕ
-lengths = 27 ∷ 4 ∷ 13 ∷ 0 ∷ 8 ∷ 0 ∷ 5 ∷ 5 ∷ 0 ∷ 5 ∷ 1 ∷ 5 ∷ 0 ∷ 6 ∷ []
+lengths = 27 ∷ 4 ∷ 13 ∷ 0 ∷ 8 ∷ 0 ∷ 5 ∷ 5 ∷ 0 ∷ 5 ∷ 1 ∷ 5 ∷ 0 ∷ 6 ∷ 3 ∷ []
 
 pub length-round : (tag n : ℕ) → tag ≡ 4 → rightLength tag n ≡ (between 4 16 n && eqb (n % 4) 0)
 unfolding rightLength
@@ -53,7 +53,7 @@ pub length-other : (tag n : ℕ) → (tag ≡ 4 → ⊥) → rightLength tag n �
 unfolding rightLength
 length-other tag n h = rw (ne-eqb tag 4 h)
 
-pub length-small : (i : ℕ) → getD lengths i 0 ≤ 79
+pub length-small : (i : ℕ) → getD lengths i 0 ≤ 82
 unfolding sum
 length-small i = entry-le lengths i
 
@@ -102,14 +102,14 @@ past : (tag k : ℕ) → k ≤ tag → (tag ≡ k → ⊥) → suc k ≤ tag
 past tag k low h = omega arith
 
 -- the last of the tags has no test of its own
-pub last-tag : (tag : ℕ) → 1 ≤ tag → tag ≤ 14
+pub last-tag : (tag : ℕ) → 1 ≤ tag → tag ≤ 15
     → (tag ≡ 1 → ⊥) → (tag ≡ 2 → ⊥) → (tag ≡ 3 → ⊥) → (tag ≡ 4 → ⊥) → (tag ≡ 5 → ⊥) → (tag ≡ 6 → ⊥) → (tag ≡ 7 → ⊥)
-    → (tag ≡ 8 → ⊥) → (tag ≡ 9 → ⊥) → (tag ≡ 10 → ⊥) → (tag ≡ 11 → ⊥) → (tag ≡ 12 → ⊥) → (tag ≡ 13 → ⊥)
-    → tag ≡ 14
-last-tag tag low high h1 h2 h3 h4 h5 h6 h7 h8 h9 h10 h11 h12 h13 =
+    → (tag ≡ 8 → ⊥) → (tag ≡ 9 → ⊥) → (tag ≡ 10 → ⊥) → (tag ≡ 11 → ⊥) → (tag ≡ 12 → ⊥) → (tag ≡ 13 → ⊥) → (tag ≡ 14 → ⊥)
+    → tag ≡ 15
+last-tag tag low high h1 h2 h3 h4 h5 h6 h7 h8 h9 h10 h11 h12 h13 h14 =
     let low₅ = past tag 4 (past tag 3 (past tag 2 (past tag 1 low h1) h2) h3) h4 in
     let low₁₀ = past tag 9 (past tag 8 (past tag 7 (past tag 6 (past tag 5 low₅ h5) h6) h7) h8) h9 in
-    at-most tag 14 high (past tag 13 (past tag 12 (past tag 11 (past tag 10 low₁₀ h10) h11) h12) h13)
+    at-most tag 15 high (past tag 14 (past tag 13 (past tag 12 (past tag 11 (past tag 10 low₁₀ h10) h11) h12) h13) h14)
   where
     at-most : (n k : ℕ) → n ≤ k → k ≤ n → n ≡ k
     at-most n k h l = omega arith
@@ -130,7 +130,7 @@ decode-short (a ∷ b ∷ c ∷ l) h = absurd (omega arith)
 -- three bytes and more: the tests, in the order of the code
 decode-long : (s : List ℕ) → 3 ≤ length s
     → decode s
-    ≡ (if between 1 14 (getD s 0 0) && eqb (number 1 2 s) (length (drop 3 s)) && rightLength (getD s 0 0) (length (drop 3 s))
+    ≡ (if between 1 15 (getD s 0 0) && eqb (number 1 2 s) (length (drop 3 s)) && rightLength (getD s 0 0) (length (drop 3 s))
     then some (callOf (getD s 0 0) (drop 3 s)) else none)
 unfolding decode
 decode-long [] h = absurd (omega arith)
@@ -146,18 +146,18 @@ module _ (s v : List ℕ) (is : v ≡ take (length s - 3) (drop 3 s)) (long : 3 
   pub decode-low : getD s 0 0 < 1 → decode s ≡ none
   decode-low h = rw (decode-long s long, lt-leb 1 (getD s 0 0) h)
 
-  pub decode-high : 1 ≤ getD s 0 0 → 14 < getD s 0 0 → decode s ≡ none
-  decode-high l h = rw (decode-long s long, le-leb 1 (getD s 0 0) l, lt-leb (getD s 0 0) 14 h)
+  pub decode-high : 1 ≤ getD s 0 0 → 15 < getD s 0 0 → decode s ≡ none
+  decode-high l h = rw (decode-long s long, le-leb 1 (getD s 0 0) l, lt-leb (getD s 0 0) 15 h)
 
-  module _ (low : 1 ≤ getD s 0 0) (high : getD s 0 0 ≤ 14) where
+  module _ (low : 1 ≤ getD s 0 0) (high : getD s 0 0 ≤ 15) where
     pub decode-size : (number 1 2 s ≡ length v → ⊥) → decode s ≡ none
     decode-size h =
-        rw (decode-long s long, value-is, le-leb 1 (getD s 0 0) low, le-leb (getD s 0 0) 14 high, ne-eqb (number 1 2 s) (length v) h)
+        rw (decode-long s long, value-is, le-leb 1 (getD s 0 0) low, le-leb (getD s 0 0) 15 high, ne-eqb (number 1 2 s) (length v) h)
 
     pub decode-length : number 1 2 s ≡ length v → rightLength (getD s 0 0) (length v) ≡ false → decode s ≡ none
     decode-length e h =
-        rw (decode-long s long, value-is, le-leb 1 (getD s 0 0) low, le-leb (getD s 0 0) 14 high, eq-eqb (number 1 2 s) (length v) e, h)
+        rw (decode-long s long, value-is, le-leb 1 (getD s 0 0) low, le-leb (getD s 0 0) 15 high, eq-eqb (number 1 2 s) (length v) e, h)
 
     pub decode-call : number 1 2 s ≡ length v → rightLength (getD s 0 0) (length v) ≡ true → decode s ≡ some (callOf (getD s 0 0) v)
     decode-call e h =
-        rw (decode-long s long, value-is, le-leb 1 (getD s 0 0) low, le-leb (getD s 0 0) 14 high, eq-eqb (number 1 2 s) (length v) e, h)
+        rw (decode-long s long, value-is, le-leb 1 (getD s 0 0) low, le-leb (getD s 0 0) 15 high, eq-eqb (number 1 2 s) (length v) e, h)

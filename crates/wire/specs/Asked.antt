@@ -1,4 +1,4 @@
--- What a value of `Call` asks for: a call of document 01 or SALE, or none where the bytes are no call.
+-- What a value of `Call` asks for: a call of document 01, SALE or WITHDRAW, or none where the bytes are no call.
 use mathlib.Core.List.{[], _∷_}
 use mathlib.Core.Option.{Option, none, some}
 use lib.ListN.{take}
@@ -6,7 +6,7 @@ use Rattle.lists.specs.Lists.{if_then_else_, between}
 use Rattle.machine.specs.Wire as Wire
 use Rattle.wire.specs.declared.Head.{Head}
 use Rattle.wire.specs.declared.Call.{Call}
-use Rattle.wire.specs.declared.Call.the-variants.{Head as HeadCall, Pool, Member, Round, Bid, Close, Allocate, Tear, Call as CallCall, Pay, Move, Miss, Finish, Sale, Unknown}
+use Rattle.wire.specs.declared.Call.the-variants.{Head as HeadCall, Pool, Member, Round, Bid, Close, Allocate, Tear, Call as CallCall, Pay, Move, Miss, Finish, Sale, Withdraw, Unknown}
 
 -- the numbers of HEAD
 abbrev pub headOf : Head → Wire.Head
@@ -38,4 +38,5 @@ asked (Move m) = some (Wire.MOVE m)
 asked (Miss m price) = some (Wire.MISS m price)
 asked Finish = some Wire.FINISH
 asked (Sale pool m price) = some (Wire.SALE pool m price)
+asked (Withdraw m n) = some (Wire.WITHDRAW m n)
 asked Unknown = none

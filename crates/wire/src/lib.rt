@@ -1,4 +1,4 @@
-// The calls of document 01 and SALE of document 02 as values, and how a call is read from any bytes.
+// The calls of document 01, and SALE and WITHDRAW of document 02, as values, and how a call is read from any bytes.
 ghost use mathlib.Core.Path.{_≡_};
 ghost use mathlib.Core.Bool.{true};
 ghost use mathlib.Core.Option.{some};
@@ -43,7 +43,7 @@ impl Head {
     pub const MAX_HOUSE_MONEY: u32 = 4_000_000_000;
 }
 
-// The thirteen calls and SALE, and what bytes are that are none of them. Prices are held as cents + 1,000,000.
+// The thirteen calls, SALE and WITHDRAW, and what bytes are that are none of them. Prices are held as cents + 1,000,000.
 pub enum Call {
     Head(Head),
     Pool {
@@ -101,6 +101,11 @@ pub enum Call {
         member: u8,
         price: u32,
     },
+    // WITHDRAW, with the number of a bid
+    Withdraw {
+        member: u8,
+        bid: u16,
+    },
     Unknown,
 }
 
@@ -125,10 +130,10 @@ impl Call {
 }
 
 // The last tag.
-pub const LAST_TAG: u8 = 14;
+pub const LAST_TAG: u8 = 15;
 
 // The length of each tag's value; ROUND's is not read here.
-const LENGTHS: [u8; 14] = [27, 4, 13, 0, 8, 0, 5, 5, 0, 5, 1, 5, 0, 6];
+const LENGTHS: [u8; 15] = [27, 4, 13, 0, 8, 0, 5, 5, 0, 5, 1, 5, 0, 6, 3];
 
 // A byte as a wider number.
 fn wide(b: u8) -> u32
@@ -183,7 +188,7 @@ fn price_or_none(s: &[u8], at: usize) -> u32
 
 // Whether a value of this tag has its right length.
 fn right_length(tag: u8, n: usize) -> bool
-    requires { ⌜ (1 ≤ tag) × (tag ≤ 14) ⌝ }
+    requires { ⌜ (1 ≤ tag) × (tag ≤ 15) ⌝ }
     ensures { λ r. ⌜ r ≡ rightLength tag n ⌝ }
 {
     if tag == 4 {
@@ -318,9 +323,19 @@ fn read_sale(v: &[u8]) -> Call
     }
 }
 
+fn read_withdraw(v: &[u8]) -> Call
+    requires { ⌜ rightLength 15 (length (now v)) ≡ true ⌝ }
+    ensures { λ r. ⌜ asked r ≡ some (callOf 15 (now (v .entry))) ⌝ }
+{
+    Call::Withdraw {
+        member: one(v, 0),
+        bid: two(v, 1),
+    }
+}
+
 // The call that a value of its right length is, by its tag.
 fn read_value(tag: u8, v: &[u8]) -> Call
-    requires { ⌜ (1 ≤ tag) × (tag ≤ 14) × (rightLength tag (length (now v)) ≡ true) ⌝ }
+    requires { ⌜ (1 ≤ tag) × (tag ≤ 15) × (rightLength tag (length (now v)) ≡ true) ⌝ }
     ensures { λ r. ⌜ asked r ≡ some (callOf tag (now (v .entry))) ⌝ }
 {
     if tag == 1 {
@@ -362,7 +377,10 @@ fn read_value(tag: u8, v: &[u8]) -> Call
     if tag == 13 {
         return Call::Finish;
     }
-    read_sale(v)
+    if tag == 14 {
+        return read_sale(v);
+    }
+    read_withdraw(v)
 }
 
 // The call that the bytes are, or `Unknown`: "Unknown tag, bytes that aren't exactly one field, or a wrong length".

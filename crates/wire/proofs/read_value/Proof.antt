@@ -79,10 +79,16 @@ unfolding asked callOf
 returns-13 c = call-by-tag _ _ _ (c .if13 .taken) refl
 
 read-sale-requires : tie.Need-read-sale-requires
-read-sale-requires c κs = length-by-tag _ _ _ (last-tag _ (c .before .before .before .before .before .before .before .before .before .before .before .before .before .before .pre .0) (c .before .before .before .before .before .before .before .before .before .before .before .before .before .before .pre .1) (c .before .before .before .before .before .before .before .before .before .before .before .before .if1 .left) (c .before .before .before .before .before .before .before .before .before .before .before .if2 .left) (c .before .before .before .before .before .before .before .before .before .before .if3 .left) (c .before .before .before .before .before .before .before .before .before .if4 .left) (c .before .before .before .before .before .before .before .before .if5 .left) (c .before .before .before .before .before .before .before .if6 .left) (c .before .before .before .before .before .before .if7 .left) (c .before .before .before .before .before .if8 .left) (c .before .before .before .before .if9 .left) (c .before .before .before .if10 .left) (c .before .before .if11 .left) (c .before .if12 .left) (c .if13 .left)) (c .before .before .before .before .before .before .before .before .before .before .before .before .before .before .pre .2)
+read-sale-requires c κs = length-by-tag _ _ _ (c .if14 .taken) (c .before .before .before .before .before .before .before .before .before .before .before .before .before .before .before .pre .2)
 
 returns-14 : tie.Need-returns-14
-returns-14 c = call-by-tag _ _ _ (last-tag _ (c .before .before .before .before .before .before .before .before .before .before .before .before .before .before .before .pre .0) (c .before .before .before .before .before .before .before .before .before .before .before .before .before .before .before .pre .1) (c .before .before .before .before .before .before .before .before .before .before .before .before .before .if1 .left) (c .before .before .before .before .before .before .before .before .before .before .before .before .if2 .left) (c .before .before .before .before .before .before .before .before .before .before .before .if3 .left) (c .before .before .before .before .before .before .before .before .before .before .if4 .left) (c .before .before .before .before .before .before .before .before .before .if5 .left) (c .before .before .before .before .before .before .before .before .if6 .left) (c .before .before .before .before .before .before .before .if7 .left) (c .before .before .before .before .before .before .if8 .left) (c .before .before .before .before .before .if9 .left) (c .before .before .before .before .if10 .left) (c .before .before .before .if11 .left) (c .before .before .if12 .left) (c .before .if13 .left)) (c .read-sale .ensures)
+returns-14 c = call-by-tag _ _ _ (c .before .if14 .taken) (c .read-sale .ensures)
+
+read-withdraw-requires : tie.Need-read-withdraw-requires
+read-withdraw-requires c κs = length-by-tag _ _ _ (last-tag _ (c .before .before .before .before .before .before .before .before .before .before .before .before .before .before .before .pre .0) (c .before .before .before .before .before .before .before .before .before .before .before .before .before .before .before .pre .1) (c .before .before .before .before .before .before .before .before .before .before .before .before .before .if1 .left) (c .before .before .before .before .before .before .before .before .before .before .before .before .if2 .left) (c .before .before .before .before .before .before .before .before .before .before .before .if3 .left) (c .before .before .before .before .before .before .before .before .before .before .if4 .left) (c .before .before .before .before .before .before .before .before .before .if5 .left) (c .before .before .before .before .before .before .before .before .if6 .left) (c .before .before .before .before .before .before .before .if7 .left) (c .before .before .before .before .before .before .if8 .left) (c .before .before .before .before .before .if9 .left) (c .before .before .before .before .if10 .left) (c .before .before .before .if11 .left) (c .before .before .if12 .left) (c .before .if13 .left) (c .if14 .left)) (c .before .before .before .before .before .before .before .before .before .before .before .before .before .before .before .pre .2)
+
+returns-15 : tie.Need-returns-15
+returns-15 c = call-by-tag _ _ _ (last-tag _ (c .before .before .before .before .before .before .before .before .before .before .before .before .before .before .before .before .pre .0) (c .before .before .before .before .before .before .before .before .before .before .before .before .before .before .before .before .pre .1) (c .before .before .before .before .before .before .before .before .before .before .before .before .before .before .if1 .left) (c .before .before .before .before .before .before .before .before .before .before .before .before .before .if2 .left) (c .before .before .before .before .before .before .before .before .before .before .before .before .if3 .left) (c .before .before .before .before .before .before .before .before .before .before .before .if4 .left) (c .before .before .before .before .before .before .before .before .before .before .if5 .left) (c .before .before .before .before .before .before .before .before .before .if6 .left) (c .before .before .before .before .before .before .before .before .if7 .left) (c .before .before .before .before .before .before .before .if8 .left) (c .before .before .before .before .before .before .if9 .left) (c .before .before .before .before .before .if10 .left) (c .before .before .before .before .if11 .left) (c .before .before .before .if12 .left) (c .before .before .if13 .left) (c .before .if14 .left)) (c .read-withdraw .ensures)
 
 pub read-value-spec : {M : Type 1} → statement M
 read-value-spec =
@@ -112,4 +118,6 @@ read-value-spec =
     returns-12
     returns-13
     read-sale-requires
-    returns-14)
+    returns-14
+    read-withdraw-requires
+    returns-15)
