@@ -79,3 +79,4 @@ decode-encode (Wire.MISS m price) w = λ k. some (Wire.MISS (one-read m (w .0) k
 decode-encode Wire.FINISH w = refl
 decode-encode (Wire.SALE pool m price) w =
     λ k. some (Wire.SALE (one-read pool (w .0) k) (one-read m (w .1) k) (price-bytes price (w .2) k))
+decode-encode (Wire.WITHDRAW m n) w = λ k. some (Wire.WITHDRAW (one-read m (w .0) k) (two-read n (w .1) k))

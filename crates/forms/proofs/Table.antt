@@ -5,14 +5,14 @@ use lib.ListN.{getD}
 use borrow.Author.Tests.{lt-ltb, le-ltb}
 use Rattle.forms.specs.Forms.{kinds, kindOf}
 
-pub kind-high : (tag i : ℕ) → 15 ≤ tag → kindOf tag i ≡ 0
+pub kind-high : (tag i : ℕ) → 16 ≤ tag → kindOf tag i ≡ 0
 unfolding kindOf
-kind-high tag i h = rw (le-ltb tag 15 h)
+kind-high tag i h = rw (le-ltb tag 16 h)
 
-pub kind-past : (tag i : ℕ) → tag < 15 → 8 ≤ i → kindOf tag i ≡ 0
+pub kind-past : (tag i : ℕ) → tag < 16 → 8 ≤ i → kindOf tag i ≡ 0
 unfolding kindOf
-kind-past tag i l h = rw (lt-ltb tag 15 l, le-ltb i 8 h)
+kind-past tag i l h = rw (lt-ltb tag 16 l, le-ltb i 8 h)
 
-pub kind-in : (tag i : ℕ) → tag < 15 → i < 8 → kindOf tag i ≡ getD kinds (tag * 8 + i) 0
+pub kind-in : (tag i : ℕ) → tag < 16 → i < 8 → kindOf tag i ≡ getD kinds (tag * 8 + i) 0
 unfolding kindOf
-kind-in tag i l h = rw (lt-ltb tag 15 l, lt-ltb i 8 h)
+kind-in tag i l h = rw (lt-ltb tag 16 l, lt-ltb i 8 h)

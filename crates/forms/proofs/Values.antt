@@ -12,7 +12,7 @@ use Rattle.lists.specs.Lists.{between}
 use Rattle.lists.proofs.Bools.{cases, either, and-right}
 use Rattle.wire.specs.Asked.{asked}
 use Rattle.wire.specs.declared.Call.{Call}
-use Rattle.wire.specs.declared.Call.the-variants.{Head as HeadCall, Pool, Member, Round, Bid, Close, Allocate, Tear, Call as CallCall, Pay, Move, Miss, Finish, Sale, Unknown}
+use Rattle.wire.specs.declared.Call.the-variants.{Head as HeadCall, Pool, Member, Round, Bid, Close, Allocate, Tear, Call as CallCall, Pay, Move, Miss, Finish, Sale, Withdraw, Unknown}
 use Rattle.forms.specs.declared.Tagged.{Tagged}
 use Rattle.forms.specs.Forms.{kindOf, formOf, tagOf, numbersOf, flatRound, flattened}
 use Rattle.forms.specs.Encode.{bytesOf, widthOf, rawOf, fieldBytes, valueFrom, tagged, encodeForm}
@@ -98,6 +98,7 @@ flat-form (Move m) = refl
 flat-form (Miss m price) = refl
 flat-form Finish = refl
 flat-form (Sale pool m price) = refl
+flat-form (Withdraw m n) = refl
 flat-form Unknown = refl
 
 -- it has at most eight numbers
@@ -117,6 +118,7 @@ flat-few (Move m) = omega arith
 flat-few (Miss m price) = omega arith
 flat-few Finish = omega arith
 flat-few (Sale pool m price) = omega arith
+flat-few (Withdraw m n) = omega arith
 flat-few Unknown = omega arith
 
 -- the bytes of a call by its tag and its numbers

@@ -72,3 +72,4 @@ InWidth (Wire.MOVE m) = m < 2 ^ 8
 InWidth (Wire.MISS m price) = (m < 2 ^ 8) × (price < 2 ^ 32)
 InWidth Wire.FINISH = Unit {0}
 InWidth (Wire.SALE pool m price) = (pool < 2 ^ 8) × (m < 2 ^ 8) × (price < 2 ^ 32)
+InWidth (Wire.WITHDRAW m n) = (m < 2 ^ 8) × (n < 2 ^ 16)

@@ -8,7 +8,7 @@ use lib.ListN.{getD}
 use Rattle.lists.specs.Lists.{if_then_else_, between}
 use Rattle.machine.specs.Wire as Wire
 use Rattle.wire.specs.declared.Call.{Call}
-use Rattle.wire.specs.declared.Call.the-variants.{Head as HeadCall, Pool, Member, Round, Bid, Close, Allocate, Tear, Call as CallCall, Pay, Move, Miss, Finish, Sale, Unknown}
+use Rattle.wire.specs.declared.Call.the-variants.{Head as HeadCall, Pool, Member, Round, Bid, Close, Allocate, Tear, Call as CallCall, Pay, Move, Miss, Finish, Sale, Withdraw, Unknown}
 use Rattle.forms.specs.declared.Tagged.{Tagged}
 
 -- "tag (1 byte)"
@@ -27,6 +27,7 @@ tagOf (Wire.MOVE m) = 11
 tagOf (Wire.MISS m price) = 12
 tagOf Wire.FINISH = 13
 tagOf (Wire.SALE pool m price) = 14
+tagOf (Wire.WITHDRAW m n) = 15
 
 -- the numbers of a call, in the order of its value
 unfoldable pub numbersOf : Wire.Call → List ℕ
@@ -45,6 +46,7 @@ numbersOf (Wire.MOVE m) = m ∷ []
 numbersOf (Wire.MISS m price) = m ∷ price ∷ []
 numbersOf Wire.FINISH = []
 numbersOf (Wire.SALE pool m price) = pool ∷ m ∷ price ∷ []
+numbersOf (Wire.WITHDRAW m n) = m ∷ n ∷ []
 
 -- a tag and numbers; tag 0 is no call
 abbrev pub Form : Type 0
@@ -72,11 +74,12 @@ kinds =
     ∷ 1 ∷ 5 ∷ 0 ∷ 0 ∷ 0 ∷ 0 ∷ 0 ∷ 0
     ∷ 0 ∷ 0 ∷ 0 ∷ 0 ∷ 0 ∷ 0 ∷ 0 ∷ 0
     ∷ 1 ∷ 1 ∷ 5 ∷ 0 ∷ 0 ∷ 0 ∷ 0 ∷ 0
+    ∷ 1 ∷ 2 ∷ 0 ∷ 0 ∷ 0 ∷ 0 ∷ 0 ∷ 0
     ∷ []
 
 -- the kind of a call's number i, by its tag; 0 where the call has no such number
 unfoldable pub kindOf : ℕ → ℕ → ℕ
-kindOf tag i = if ltb tag 15 && ltb i 8 then getD kinds (tag * 8 + i) 0 else 0
+kindOf tag i = if ltb tag 16 && ltb i 8 then getD kinds (tag * 8 + i) 0 else 0
 
 -- a call of the program: a tag and eight numbers, of which the first `count` are the call's
 abbrev pub flatOf : (tag count a b c d e f g h : ℕ) → Tagged
@@ -102,4 +105,5 @@ flattened (Move m) = flatOf 11 1 m 0 0 0 0 0 0 0
 flattened (Miss m price) = flatOf 12 2 m price 0 0 0 0 0 0
 flattened Finish = flatOf 13 0 0 0 0 0 0 0 0 0
 flattened (Sale pool m price) = flatOf 14 3 pool m price 0 0 0 0 0
+flattened (Withdraw m n) = flatOf 15 2 m n 0 0 0 0 0 0
 flattened Unknown = flatOf 0 0 0 0 0 0 0 0 0 0

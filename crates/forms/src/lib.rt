@@ -17,7 +17,7 @@ pub struct Tagged {
 }
 
 // The kinds of the numbers, eight for each tag.
-const KINDS: [u8; 120] = *b"\
+const KINDS: [u8; 128] = *b"\
     \x00\x00\x00\x00\x00\x00\x00\x00\
     \x01\x02\x03\x04\x04\x04\x04\x04\
     \x01\x02\x01\x00\x00\x00\x00\x00\
@@ -32,7 +32,8 @@ const KINDS: [u8; 120] = *b"\
     \x01\x00\x00\x00\x00\x00\x00\x00\
     \x01\x05\x00\x00\x00\x00\x00\x00\
     \x00\x00\x00\x00\x00\x00\x00\x00\
-    \x01\x01\x05\x00\x00\x00\x00\x00";
+    \x01\x01\x05\x00\x00\x00\x00\x00\
+    \x01\x02\x00\x00\x00\x00\x00\x00";
 
 // A byte as a place.
 fn place(b: u8) -> usize
@@ -45,7 +46,7 @@ fn place(b: u8) -> usize
 pub fn kind(tag: u8, i: usize) -> u8
     ensures { λ r. ⌜ r ≡ kindOf tag i ⌝ }
 {
-    if 15 <= tag {
+    if 16 <= tag {
         return 0;
     }
     if 8 <= i {
@@ -173,6 +174,16 @@ pub fn flat(call: Call) -> Tagged
             member,
             price,
         } => flat_of(14, 3, one_wide(pool), one_wide(member), price, 0, 0, 0),
+        Call::Withdraw { member, bid } => flat_of(
+            15,
+            2,
+            one_wide(member),
+            two_wide(bid),
+            0,
+            0,
+            0,
+            0,
+        ),
         Call::Unknown => flat_of(0, 0, 0, 0, 0, 0, 0, 0),
     }
 }

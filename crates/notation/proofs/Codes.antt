@@ -34,33 +34,34 @@ rows =
     ∷ 12 ∷ 16 ∷ 0 ∷ 0 ∷ 0 ∷ 0 ∷ 0 ∷ 0
     ∷ 0 ∷ 0 ∷ 0 ∷ 0 ∷ 0 ∷ 0 ∷ 0 ∷ 0
     ∷ 9 ∷ 12 ∷ 16 ∷ 0 ∷ 0 ∷ 0 ∷ 0 ∷ 0
+    ∷ 12 ∷ 18 ∷ 0 ∷ 0 ∷ 0 ∷ 0 ∷ 0 ∷ 0
     ∷ []
 
 abbrev pub codes : List ℕ
-codes = 0 ∷ 17284499 ∷ 12748404 ∷ 14140118611 ∷ 8556773 ∷ 16392370 ∷ 437853486 ∷ 218564 ∷ 8902245 ∷ 540140 ∷ 22488723 ∷ 427595 ∷ 441878706 ∷ 125490089330091502 ∷ 198110728356 ∷ 624487389363 ∷ 17376357 ∷ 47699412 ∷ []
+codes = 0 ∷ 17284499 ∷ 12748404 ∷ 14140118611 ∷ 8556773 ∷ 16392370 ∷ 437853486 ∷ 218564 ∷ 8902245 ∷ 540140 ∷ 22488723 ∷ 427595 ∷ 441878706 ∷ 125490089330091502 ∷ 198110728356 ∷ 624487389363 ∷ 17376357 ∷ 47699412 ∷ 2340 ∷ []
 
-pub row-in : (k : ℕ) → getD rows k 0 ≤ 17
+pub row-in : (k : ℕ) → getD rows k 0 ≤ 18
 unfolding all
-row-in k = entry-small 17 rows k refl
+row-in k = entry-small 18 rows k refl
 
-codes-are : tab 120 (λ k. getD codes (getD rows k 0) 0) ≡ tab 120 (λ k. codeOf (getD keys k []))
+codes-are : tab 128 (λ k. getD codes (getD rows k 0) 0) ≡ tab 128 (λ k. codeOf (getD keys k []))
 unfolding computing
 codes-are = refl
 
-pub key-high : (tag i : ℕ) → 15 ≤ tag → keyCode tag i ≡ 0
+pub key-high : (tag i : ℕ) → 16 ≤ tag → keyCode tag i ≡ 0
 unfolding keyCode keyOf codeFrom
-key-high tag i h = rw (le-ltb tag 15 h)
+key-high tag i h = rw (le-ltb tag 16 h)
 
-pub key-past : (tag i : ℕ) → tag < 15 → 8 ≤ i → keyCode tag i ≡ 0
+pub key-past : (tag i : ℕ) → tag < 16 → 8 ≤ i → keyCode tag i ≡ 0
 unfolding keyCode keyOf codeFrom
-key-past tag i l h = rw (lt-ltb tag 15 l, le-ltb i 8 h)
+key-past tag i l h = rw (lt-ltb tag 16 l, le-ltb i 8 h)
 
-pub key-in : (tag i : ℕ) → tag < 15 → i < 8 → keyCode tag i ≡ getD codes (getD rows (tag * 8 + i) 0) 0
+pub key-in : (tag i : ℕ) → tag < 16 → i < 8 → keyCode tag i ≡ getD codes (getD rows (tag * 8 + i) 0) 0
 unfolding keyCode keyOf
 key-in tag i l h =
-    rw (lt-ltb tag 15 l, lt-ltb i 8 h)
-    (sym (getD-tab 120 (λ k. codeOf (getD keys k [])) (tag * 8 + i) 0 (omega arith)) ∙ ap (λ (l : List ℕ). getD l (tag * 8 + i) 0) (sym codes-are)
-    ∙ getD-tab 120 (λ k. getD codes (getD rows k 0) 0) (tag * 8 + i) 0 (omega arith))
+    rw (lt-ltb tag 16 l, lt-ltb i 8 h)
+    (sym (getD-tab 128 (λ k. codeOf (getD keys k [])) (tag * 8 + i) 0 (omega arith)) ∙ ap (λ (l : List ℕ). getD l (tag * 8 + i) 0) (sym codes-are)
+    ∙ getD-tab 128 (λ k. getD codes (getD rows k 0) 0) (tag * 8 + i) 0 (omega arith))
 
 abbrev pub limits : List ℕ
 limits = 0 ∷ 256 ∷ 65536 ∷ 32 ∷ 4294967296 ∷ 2147483648 ∷ []
@@ -93,7 +94,7 @@ pub limit-in : (kind : ℕ) → limitOf kind ≡ getD limits kind 0
 unfolding limitOf
 limit-in kind = refl
 
-pub named-by : (v : ℕ) → tagNamed v ≡ (if eqb v 267300 then 1 else if eqb v 540140 then 2 else if eqb v 441878706 then 3 else if eqb v 19387844 then 4 else if eqb v 2340 then 5 else if eqb v 3554917 then 6 else if eqb v 47663122053 then 7 else if eqb v 660530 then 8 else if eqb v 99724 then 9 else if eqb v 16441 then 10 else if eqb v 442053 then 11 else if eqb v 435827 then 12 else if eqb v 211232360 then 13 else if eqb v 624005 then 14 else 0)
+pub named-by : (v : ℕ) → tagNamed v ≡ (if eqb v 267300 then 1 else if eqb v 540140 then 2 else if eqb v 441878706 then 3 else if eqb v 19387844 then 4 else if eqb v 2340 then 5 else if eqb v 3554917 then 6 else if eqb v 47663122053 then 7 else if eqb v 660530 then 8 else if eqb v 99724 then 9 else if eqb v 16441 then 10 else if eqb v 442053 then 11 else if eqb v 435827 then 12 else if eqb v 211232360 then 13 else if eqb v 624005 then 14 else if eqb v 800617285687 then 15 else 0)
 unfolding computing
 named-by v = refl
 

@@ -202,3 +202,13 @@ pub key-14-2 : (s : Scan) (ns : List ℕ) (i : ℕ) → Settles s 14 2 ns → Be
 unfolding computing
 key-14-2 s ns i h =
     record { start = suc i; value = keyCode 14 2; is = ap (λ (t : Scan). scan t (suc i) (112 ∷ 114 ∷ 105 ∷ 99 ∷ 101 ∷ 32 ∷ [])) (space-step s 14 2 ns h i) }
+
+pub key-15-0 : (s : Scan) (ns : List ℕ) (i : ℕ) → Settles s 15 0 ns → Before (scan s i (separator (keyOf 15 0))) 15 0 ns
+unfolding computing
+key-15-0 s ns i h =
+    record { start = suc i; value = keyCode 15 0; is = ap (λ (t : Scan). scan t (suc i) (109 ∷ 101 ∷ 109 ∷ 98 ∷ 101 ∷ 114 ∷ 32 ∷ [])) (space-step s 15 0 ns h i) }
+
+pub key-15-1 : (s : Scan) (ns : List ℕ) (i : ℕ) → Settles s 15 1 ns → Before (scan s i (separator (keyOf 15 1))) 15 1 ns
+unfolding computing
+key-15-1 s ns i h =
+    record { start = suc i; value = keyCode 15 1; is = ap (λ (t : Scan). scan t (suc i) (98 ∷ 105 ∷ 100 ∷ 32 ∷ [])) (space-step s 15 1 ns h i) }

@@ -14,7 +14,7 @@ use Rattle.notation.specs.Reading.{ended, step, scan, codeOf, callOf, ou
 use Rattle.notation.specs.Computing.{computing}
 use Rattle.notation.proofs.Numbers.{mid, Settles, Before, Read-as, scan-append, read-count, read-amount, read-price}
 use Rattle.notation.proofs.Sets.{read-set}
-use Rattle.notation.proofs.Keys.{end-step, key-1-0, key-1-1, key-1-2, key-1-3, key-1-4, key-1-5, key-1-6, key-1-7, key-2-0, key-2-1, key-2-2, key-3-0, key-3-1, key-3-2, key-3-3, key-3-4, key-3-5, key-4-0, key-4-1, key-4-2, key-4-3, key-5-0, key-5-1, key-5-2, key-5-3, key-7-0, key-7-1, key-8-0, key-8-1, key-10-0, key-10-1, key-11-0, key-12-0, key-12-1, key-14-0, key-14-1, key-14-2}
+use Rattle.notation.proofs.Keys.{end-step, key-1-0, key-1-1, key-1-2, key-1-3, key-1-4, key-1-5, key-1-6, key-1-7, key-2-0, key-2-1, key-2-2, key-3-0, key-3-1, key-3-2, key-3-3, key-3-4, key-3-5, key-4-0, key-4-1, key-4-2, key-4-3, key-5-0, key-5-1, key-5-2, key-5-3, key-7-0, key-7-1, key-8-0, key-8-1, key-10-0, key-10-1, key-11-0, key-12-0, key-12-1, key-14-0, key-14-1, key-14-2, key-15-0, key-15-1}
 
 -- ---- a line, one number at a time
 
@@ -279,3 +279,14 @@ line-sale a b c ha hb hc =
     let p3 = then-price t2 14 2 (a ∷ b ∷ 0 ∷ 0 ∷ 0 ∷ 0 ∷ 0 ∷ 0 ∷ []) c (key-14-2 (scan begin 0 t2) (a ∷ b ∷ 0 ∷ 0 ∷ 0 ∷ 0 ∷ 0 ∷ 0 ∷ []) (0 + length t2) (p2 .settles)) refl hc in
     ap readLine (group-3 (nameOf 14) (itemText 14 0 a) (itemText 14 1 b) (itemText 14 2 c) (10 ∷ []))
     ∙ line-end (t2 ++ itemText 14 2 c) 14 3 (a ∷ b ∷ c ∷ 0 ∷ 0 ∷ 0 ∷ 0 ∷ 0 ∷ []) (p3 .settles) (λ start value at at'. refl)
+
+pub line-withdraw : (a : ℕ) (b : ℕ) → a < 2 ^ 8 → b < 2 ^ 16 → readLine (lineText 15 (a ∷ b ∷ [])) ≡ Called (callOf 15 2 (a ∷ b ∷ 0 ∷ 0 ∷ 0 ∷ 0 ∷ 0 ∷ 0 ∷ []))
+unfolding computing
+line-withdraw a b ha hb =
+    let r0 : Settles (scan begin 0 (nameOf 15)) 15 0 zeros = record { start = 0; value = codeOf (nameOf 15); is = refl; active = refl } in
+    let t0 = nameOf 15 in
+    let p1 = then-count t0 15 0 (0 ∷ 0 ∷ 0 ∷ 0 ∷ 0 ∷ 0 ∷ 0 ∷ 0 ∷ []) a (key-15-0 (scan begin 0 t0) (0 ∷ 0 ∷ 0 ∷ 0 ∷ 0 ∷ 0 ∷ 0 ∷ 0 ∷ []) (0 + length t0) r0) 1 refl (omega arith) ha (omega arith) in
+    let t1 = (t0 ++ itemText 15 0 a) in
+    let p2 = then-count t1 15 1 (a ∷ 0 ∷ 0 ∷ 0 ∷ 0 ∷ 0 ∷ 0 ∷ 0 ∷ []) b (key-15-1 (scan begin 0 t1) (a ∷ 0 ∷ 0 ∷ 0 ∷ 0 ∷ 0 ∷ 0 ∷ 0 ∷ []) (0 + length t1) (p1 .settles)) 2 refl (omega arith) hb (omega arith) in
+    ap readLine (group-2 (nameOf 15) (itemText 15 0 a) (itemText 15 1 b) (10 ∷ []))
+    ∙ line-end (t1 ++ itemText 15 1 b) 15 2 (a ∷ b ∷ 0 ∷ 0 ∷ 0 ∷ 0 ∷ 0 ∷ 0 ∷ []) (p2 .settles) (λ start value at at'. refl)

@@ -9,7 +9,7 @@ use Rattle.forms.specs.Encode.{InWidth}
 use Rattle.spelling.specs.Text.{lineOf}
 use Rattle.notation.specs.Reading.{readLine, askedBy}
 use Rattle.notation.specs.Computing.{computing}
-use Rattle.notation.proofs.Lines.{line-head, line-pool, line-member, line-round-1, line-round-2, line-round-3, line-round-4, line-bid, line-close, line-allocate, line-tear, line-call, line-pay, line-move, line-miss, line-finish, line-sale}
+use Rattle.notation.proofs.Lines.{line-head, line-pool, line-member, line-round-1, line-round-2, line-round-3, line-round-4, line-bid, line-close, line-allocate, line-tear, line-call, line-pay, line-move, line-miss, line-finish, line-sale, line-withdraw}
 
 mod-one : (n : ℕ) → n < 2 ^ 8 → n % 256 ≡ n
 mod-one n h = omega arith
@@ -70,3 +70,4 @@ read-line (Wire.MISS m price) w = ap askedBy (line-miss m price (w .0) (w .1)) �
 read-line Wire.FINISH w = ap askedBy line-finish
 read-line (Wire.SALE pool m price) w =
     ap askedBy (line-sale pool m price (w .0) (w .1) (w .2)) ∙ (λ k. some (Wire.SALE (mod-one pool (w .0) k) (mod-one m (w .1) k) price))
+read-line (Wire.WITHDRAW m n) w = ap askedBy (line-withdraw m n (w .0) (w .1)) ∙ (λ k. some (Wire.WITHDRAW (mod-one m (w .0) k) (mod-two n (w .1) k)))

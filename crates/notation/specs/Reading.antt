@@ -14,7 +14,7 @@ use Rattle.sets.specs.Set.{withMember}
 use Rattle.machine.specs.Wire as Wire
 use Rattle.wire.specs.Asked.{asked}
 use Rattle.wire.specs.declared.Call.{Call}
-use Rattle.wire.specs.declared.Call.the-variants.{Head as HeadCall, Pool, Member, Round, Bid, Close, Allocate, Tear, Call as CallCall, Pay, Move, Miss, Finish, Sale, Unknown}
+use Rattle.wire.specs.declared.Call.the-variants.{Head as HeadCall, Pool, Member, Round, Bid, Close, Allocate, Tear, Call as CallCall, Pay, Move, Miss, Finish, Sale, Withdraw, Unknown}
 use Rattle.forms.specs.Forms.{kindOf}
 use Rattle.spelling.specs.Words.{keyOf, nameOf}
 use Rattle.notation.specs.declared.Scan.{Scan}
@@ -44,7 +44,7 @@ keyCode tag i = codeOf (keyOf tag i)
 
 -- the call that a word names; 0 is none
 unfoldable pub tagNamed : ℕ → ℕ
-tagNamed v = firstOf (tab 14 (λ t. (suc t, eqb v (codeOf (nameOf (suc t))))))
+tagNamed v = firstOf (tab 15 (λ t. (suc t, eqb v (codeOf (nameOf (suc t))))))
 
 -- the numbers of a kind are below this; that of a negative price is one more
 unfoldable pub limitOf : ℕ → ℕ
@@ -229,6 +229,7 @@ callOf tag count ns =
     else if eqb tag 12 then Miss (getD ns 0 0 % 2 ^ 8) (getD ns 1 0)
     else if eqb tag 13 then Finish
     else if eqb tag 14 then Sale (getD ns 0 0 % 2 ^ 8) (getD ns 1 0 % 2 ^ 8) (getD ns 2 0)
+    else if eqb tag 15 then Withdraw (getD ns 0 0 % 2 ^ 8) (getD ns 1 0 % 2 ^ 16)
     else Unknown
 
 unfoldable pub outcome : Scan → Read

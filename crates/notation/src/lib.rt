@@ -36,7 +36,7 @@ pub enum Read {
 }
 
 // Which key stands before the numbers of each call, eight for each tag; 0 is none.
-const KEYS: [u8; 120] = *b"\
+const KEYS: [u8; 128] = *b"\
     \x00\x00\x00\x00\x00\x00\x00\x00\
     \x01\x02\x03\x04\x05\x06\x07\x08\
     \x09\x0a\x0b\x00\x00\x00\x00\x00\
@@ -51,10 +51,11 @@ const KEYS: [u8; 120] = *b"\
     \x0c\x00\x00\x00\x00\x00\x00\x00\
     \x0c\x10\x00\x00\x00\x00\x00\x00\
     \x00\x00\x00\x00\x00\x00\x00\x00\
-    \x09\x0c\x10\x00\x00\x00\x00\x00";
+    \x09\x0c\x10\x00\x00\x00\x00\x00\
+    \x0c\x12\x00\x00\x00\x00\x00\x00";
 
 // The keys as numbers.
-const CODES: [u64; 18] = [
+const CODES: [u64; 19] = [
     0,
     17284499,
     12748404,
@@ -73,6 +74,7 @@ const CODES: [u64; 18] = [
     624487389363,
     17376357,
     47699412,
+    2340,
 ];
 
 // What the numbers of each kind are below.
@@ -261,7 +263,7 @@ fn with_digit(value: u64, d: u64) -> u64
 fn key(tag: u8, i: usize) -> u64
     ensures { λ r. ⌜ r ≡ keyCode tag i ⌝ }
 {
-    if 15 <= tag {
+    if 16 <= tag {
         return 0;
     }
     if 8 <= i {
@@ -276,7 +278,8 @@ fn key(tag: u8, i: usize) -> u64
 fn tag_named(v: u64) -> u8
     ensures { λ r. ⌜ r ≡ tagNamed v ⌝ }
 {
-    let t14 = lists::decline_if(v == 624005, 14, 0);
+    let t15 = lists::decline_if(v == 800617285687, 15, 0);
+    let t14 = lists::decline_if(v == 624005, 14, t15);
     let t13 = lists::decline_if(v == 211232360, 13, t14);
     let t12 = lists::decline_if(v == 435827, 12, t13);
     let t11 = lists::decline_if(v == 442053, 11, t12);
@@ -818,6 +821,14 @@ fn sale_of(n: [u32; 8]) -> Call
     }
 }
 
+fn withdraw_of(n: [u32; 8]) -> Call
+    ensures { λ r. ⌜ r ≡ callOf 15 0 n ⌝ }
+{
+    let member = one(n[0]);
+    let bid = two(n[1]);
+    Call::Withdraw { member, bid }
+}
+
 // The calls from CLOSE on.
 fn later_call(tag: u8, n: [u32; 8]) -> Call
     requires { ⌜ 6 ≤ tag ⌝ }
@@ -863,6 +874,9 @@ fn later_call(tag: u8, n: [u32; 8]) -> Call
     }
     if tag == 14 {
         return sale_of(n);
+    }
+    if tag == 15 {
+        return withdraw_of(n);
     }
     Call::Unknown
 }

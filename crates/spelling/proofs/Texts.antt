@@ -10,7 +10,7 @@ use Rattle.sets.specs.Set.{members}
 use Rattle.machine.specs.Printed.{decimal}
 use Rattle.wire.specs.Asked.{asked}
 use Rattle.wire.specs.declared.Call.{Call}
-use Rattle.wire.specs.declared.Call.the-variants.{Head as HeadCall, Pool, Member, Round, Bid, Close, Allocate, Tear, Call as CallCall, Pay, Move, Miss, Finish, Sale, Unknown}
+use Rattle.wire.specs.declared.Call.the-variants.{Head as HeadCall, Pool, Member, Round, Bid, Close, Allocate, Tear, Call as CallCall, Pay, Move, Miss, Finish, Sale, Withdraw, Unknown}
 use Rattle.forms.specs.declared.Tagged.{Tagged}
 use Rattle.forms.specs.Forms.{formOf, flattened}
 use Rattle.forms.specs.Put.{Put, Written}
@@ -83,7 +83,7 @@ form-some zero ns h = absurd (h refl)
 form-some (suc t) ns h = refl
 
 -- the tag is one of the calls'
-pub tag-small : (call : Call) → flattened call .tag < 15
+pub tag-small : (call : Call) → flattened call .tag < 16
 unfolding flattened
 tag-small (HeadCall h) = omega arith
 tag-small (Pool pool units mark) = omega arith
@@ -99,6 +99,7 @@ tag-small (Move m) = omega arith
 tag-small (Miss m price) = omega arith
 tag-small Finish = omega arith
 tag-small (Sale pool m price) = omega arith
+tag-small (Withdraw m n) = omega arith
 tag-small Unknown = omega arith
 
 -- the line of a call by its tag and its numbers
@@ -120,17 +121,17 @@ module _ (tag i : ℕ) (out : List ℕ) where
   unfolding keyInto
   key-short h = rw (lt-ltb (length out) 16 h)
 
-  pub key-no-call : 16 ≤ length out → 15 ≤ tag → keyInto tag i out ≡ (0, out)
+  pub key-no-call : 16 ≤ length out → 16 ≤ tag → keyInto tag i out ≡ (0, out)
   unfolding keyInto
-  key-no-call h t = rw (le-ltb (length out) 16 h, le-leb 15 tag t)
+  key-no-call h t = rw (le-ltb (length out) 16 h, le-leb 16 tag t)
 
-  pub key-no-number : 16 ≤ length out → tag < 15 → 8 ≤ i → keyInto tag i out ≡ (0, out)
+  pub key-no-number : 16 ≤ length out → tag < 16 → 8 ≤ i → keyInto tag i out ≡ (0, out)
   unfolding keyInto
-  key-no-number h t l = rw (le-ltb (length out) 16 h, lt-leb 15 tag t, le-leb 8 i l)
+  key-no-number h t l = rw (le-ltb (length out) 16 h, lt-leb 16 tag t, le-leb 8 i l)
 
-  pub key-put : (r : ℕ) (new : List ℕ) → 16 ≤ length out → tag < 15 → i < 8 → Put out 0 (separator (keyOf tag i)) 16 r new
+  pub key-put : (r : ℕ) (new : List ℕ) → 16 ≤ length out → tag < 16 → i < 8 → Put out 0 (separator (keyOf tag i)) 16 r new
       → _≡_ {A = Written} (r, new) (keyInto tag i out)
   unfolding keyInto
   key-put r new h t l p =
       let e : r ≡ length (separator (keyOf tag i)) = omega (arith, p .behind) in
-      rw (le-ltb (length out) 16 h, lt-leb 15 tag t, lt-leb 8 i l) (λ k. (e k, p .stored k))
+      rw (le-ltb (length out) 16 h, lt-leb 16 tag t, lt-leb 8 i l) (λ k. (e k, p .stored k))

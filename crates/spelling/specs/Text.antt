@@ -73,6 +73,6 @@ unfoldable pub keyInto : (tag i : ℕ) → List ℕ → Written
 keyInto tag i out =
     let t = separator (keyOf tag i) in
     if ltb (length out) 16 then (0, out)
-    else if leb 15 tag then (0, out)
+    else if leb 16 tag then (0, out)
     else if leb 8 i then (0, out)
     else (length t, sets out 0 t)

@@ -61,6 +61,9 @@ price = 112 ∷ 114 ∷ 105 ∷ 99 ∷ 101 ∷ []
 abbrev pub amount : List ℕ
 amount = 97 ∷ 109 ∷ 111 ∷ 117 ∷ 110 ∷ 116 ∷ []
 
+abbrev pub bid : List ℕ
+bid = 98 ∷ 105 ∷ 100 ∷ []
+
 -- the keys, a row for each tag
 abbrev pub keys : List (List ℕ)
 keys =
@@ -79,9 +82,10 @@ keys =
     ∷ member ∷ price ∷ nokey ∷ nokey ∷ nokey ∷ nokey ∷ nokey ∷ nokey
     ∷ nokey ∷ nokey ∷ nokey ∷ nokey ∷ nokey ∷ nokey ∷ nokey ∷ nokey
     ∷ pool ∷ member ∷ price ∷ nokey ∷ nokey ∷ nokey ∷ nokey ∷ nokey
+    ∷ member ∷ bid ∷ nokey ∷ nokey ∷ nokey ∷ nokey ∷ nokey ∷ nokey
     ∷ []
 
--- the names of the calls, by tag: HEAD, POOL, MEMBER, ROUND, BID, CLOSE, ALLOCATE, TEAR, CALL, PAY, MOVE, MISS, FINISH, SALE
+-- the names of the calls, by tag: HEAD, POOL, MEMBER, ROUND, BID, CLOSE, ALLOCATE, TEAR, CALL, PAY, MOVE, MISS, FINISH, SALE, WITHDRAW
 abbrev pub names : List (List ℕ)
 names =
     []
@@ -99,11 +103,12 @@ names =
     ∷ (77 ∷ 73 ∷ 83 ∷ 83 ∷ [])
     ∷ (70 ∷ 73 ∷ 78 ∷ 73 ∷ 83 ∷ 72 ∷ [])
     ∷ (83 ∷ 65 ∷ 76 ∷ 69 ∷ [])
+    ∷ (87 ∷ 73 ∷ 84 ∷ 72 ∷ 68 ∷ 82 ∷ 65 ∷ 87 ∷ [])
     ∷ []
 
 -- the key of a call's number i
 unfoldable pub keyOf : ℕ → ℕ → List ℕ
-keyOf tag i = if ltb tag 15 && ltb i 8 then getD keys (tag * 8 + i) [] else []
+keyOf tag i = if ltb tag 16 && ltb i 8 then getD keys (tag * 8 + i) [] else []
 
 unfoldable pub nameOf : ℕ → List ℕ
 nameOf tag = getD names tag []

@@ -12,13 +12,13 @@ ghost use Rattle.spelling.specs.Text.{moneyText, priceText, membersText,
 use wire::Call;
 
 // What stands before the numbers of the calls, and their names, each once.
-const TEXT: [u8; 199] = *b"\
+const TEXT: [u8; 212] = *b"\
     , pools  least  members  hedge  other  margin  fund  house  pool  units \
-    \x20mark  member  contribution  expected  reserves  price  amount \
-    HEADPOOLMEMBERROUNDBIDCLOSEALLOCATETEARCALLPAYMOVEMISSFINISHSALE";
+    \x20mark  member  contribution  expected  reserves  price  amount  bid \
+    HEADPOOLMEMBERROUNDBIDCLOSEALLOCATETEARCALLPAYMOVEMISSFINISHSALEWITHDRAW";
 
 // Where each piece starts in TEXT: what stands before the numbers, eight for each tag, and then the names, by tag.
-const STARTS: [u8; 135] = *b"\
+const STARTS: [u8; 144] = *b"\
     \x00\x00\x00\x00\x00\x00\x00\x00\
     \x01\x08\x0f\x18\x1f\x26\x2e\x34\
     \x3b\x41\x48\x00\x00\x00\x00\x00\
@@ -34,11 +34,12 @@ const STARTS: [u8; 135] = *b"\
     \x4e\x78\x00\x00\x00\x00\x00\x00\
     \x00\x00\x00\x00\x00\x00\x00\x00\
     \x3b\x4e\x78\x00\x00\x00\x00\x00\
-    \x00\x87\x8b\x8f\x95\x9a\x9d\xa2\
-    \xaa\xae\xb2\xb5\xb9\xbd\xc3";
+    \x4e\x87\x00\x00\x00\x00\x00\x00\
+    \x00\x8c\x90\x94\x9a\x9f\xa2\xa7\
+    \xaf\xb3\xb7\xba\xbe\xc2\xc8\xcc";
 
 // How long each piece is.
-const LENGTHS: [u8; 135] = *b"\
+const LENGTHS: [u8; 144] = *b"\
     \x01\x01\x01\x01\x01\x01\x01\x01\
     \x07\x07\x09\x07\x07\x08\x06\x07\
     \x06\x07\x06\x01\x01\x01\x01\x01\
@@ -54,8 +55,9 @@ const LENGTHS: [u8; 135] = *b"\
     \x08\x07\x01\x01\x01\x01\x01\x01\
     \x01\x01\x01\x01\x01\x01\x01\x01\
     \x06\x08\x07\x01\x01\x01\x01\x01\
+    \x08\x05\x01\x01\x01\x01\x01\x01\
     \x00\x04\x04\x06\x05\x03\x05\x08\
-    \x04\x04\x03\x04\x04\x06\x04";
+    \x04\x04\x03\x04\x04\x06\x04\x08";
 
 // A byte as a place.
 fn place(b: u8) -> usize
@@ -75,7 +77,7 @@ fn put(out: &mut [u8], at: usize, b: u8) -> usize
 
 // A piece of text, from a place of the buffer on, and the place behind it.
 fn put_piece(out: &mut [u8], at: usize, k: usize) -> usize
-    requires { ⌜ (k < 135) × (at + 16 ≤ length (now out)) ⌝ }
+    requires { ⌜ (k < 144) × (at + 16 ≤ length (now out)) ⌝ }
     ensures { λ r. ⌜ Put (now (out .entry)) at (getD pieces k []) 16 r (now (out .exit)) ⌝ }
 {
     let start = place(STARTS[k]);
@@ -196,7 +198,7 @@ fn put_number(out: &mut [u8], at: usize, kind: u8, n: u32) -> usize
 
 // A number behind its key or a comma.
 fn put_item(out: &mut [u8], at: usize, tag: u8, i: usize, n: u32) -> usize
-    requires { ⌜ (tag < 15) × (i < 8) × (at + 708 ≤ length (now out)) ⌝ }
+    requires { ⌜ (tag < 16) × (i < 8) × (at + 708 ≤ length (now out)) ⌝ }
     ensures { λ r. ⌜ Put (now (out .entry)) at (itemText tag i n) 708 r (now (out .exit)) ⌝ }
 {
     let a = put_piece(out, at, place(tag) * 8 + i);
@@ -205,7 +207,7 @@ fn put_item(out: &mut [u8], at: usize, tag: u8, i: usize, n: u32) -> usize
 
 // The numbers of a call, and the line's end.
 fn put_items(out: &mut [u8], at: usize, tag: u8, count: usize, numbers: [u32; 8]) -> usize
-    requires { ⌜ (tag < 15) × (count ≤ 8) × (at + 5665 ≤ length (now out)) ⌝ }
+    requires { ⌜ (tag < 16) × (count ≤ 8) × (at + 5665 ≤ length (now out)) ⌝ }
     ensures { λ r. ⌜ Put (now (out .entry)) at (itemsText tag 0 (take count numbers)) 5665 r (now (out .exit)) ⌝ }
 {
     let mut to = at;
@@ -219,10 +221,10 @@ fn put_items(out: &mut [u8], at: usize, tag: u8, count: usize, numbers: [u32; 8]
 
 // A line from a place on, and the place behind it.
 fn put_form(out: &mut [u8], at: usize, tag: u8, count: usize, numbers: [u32; 8]) -> usize
-    requires { ⌜ (tag < 15) × (count ≤ 8) × (at + 8192 ≤ length (now out)) ⌝ }
+    requires { ⌜ (tag < 16) × (count ≤ 8) × (at + 8192 ≤ length (now out)) ⌝ }
     ensures { λ r. ⌜ Put (now (out .entry)) at (lineText tag (take count numbers)) 5681 r (now (out .exit)) ⌝ }
 {
-    let a = put_piece(out, at, 120 + place(tag));
+    let a = put_piece(out, at, 128 + place(tag));
     put_items(out, a, tag, count, numbers)
 }
 
@@ -254,7 +256,7 @@ pub fn write_key(tag: u8, i: usize, out: &mut [u8]) -> usize
     if out.len() < 16 {
         return 0;
     }
-    if 15 <= tag {
+    if 16 <= tag {
         return 0;
     }
     if 8 <= i {

@@ -122,6 +122,7 @@ tag-some (Wire.MOVE m) e = omega arith
 tag-some (Wire.MISS m price) e = omega arith
 tag-some Wire.FINISH e = omega arith
 tag-some (Wire.SALE pool m price) e = omega arith
+tag-some (Wire.WITHDRAW m n) e = omega arith
 
 -- the line that is written of a call, or of none
 abbrev written : Option Wire.Call → List ℕ

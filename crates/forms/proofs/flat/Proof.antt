@@ -142,11 +142,23 @@ one-wide-requires-12 c κs = search needs
 flat-of-requires-12 : tie.Need-flat-of-requires-12
 flat-of-requires-12 c κs = search needs
 
-enum-told-4 : tie.Need-enum-told-4
-enum-told-4 c = search needs
+enum-known-call-12 : tie.Need-enum-known-call-12
+enum-known-call-12 c = search needs
+
+one-wide-requires-13 : tie.Need-one-wide-requires-13
+one-wide-requires-13 c κs = search needs
+
+two-wide-requires-7 : tie.Need-two-wide-requires-7
+two-wide-requires-7 c κs = search needs
 
 flat-of-requires-13 : tie.Need-flat-of-requires-13
 flat-of-requires-13 c κs = search needs
+
+enum-told-4 : tie.Need-enum-told-4
+enum-told-4 c = search needs
+
+flat-of-requires-14 : tie.Need-flat-of-requires-14
+flat-of-requires-14 c κs = search needs
 
 returns : tie.Need-returns
 unfolding flattened
@@ -206,7 +218,11 @@ returns-14 c = simp (c .before .before .before .before .call11 .given .1, c .fla
 
 returns-15 : tie.Need-returns-15
 unfolding flattened
-returns-15 c = simp (c .before .enum-told4 .given .1, c .flat-of13 .ensures)
+returns-15 c = simp (c .before .before .before .before .call12 .given .1, c .flat-of13 .ensures, c .before .two-wide7 .ensures, c .before .before .one-wide13 .ensures)
+
+returns-16 : tie.Need-returns-16
+unfolding flattened
+returns-16 c = simp (c .before .enum-told4 .given .1, c .flat-of14 .ensures)
 
 pub flat-spec : {M : Type 1} → statement M
 flat-spec =
@@ -258,8 +274,12 @@ flat-spec =
     one-wide-requires-11
     one-wide-requires-12
     flat-of-requires-12
-    enum-told-4
+    enum-known-call-12
+    one-wide-requires-13
+    two-wide-requires-7
     flat-of-requires-13
+    enum-told-4
+    flat-of-requires-14
     returns
     returns-2
     returns-3
@@ -274,4 +294,5 @@ flat-spec =
     returns-12
     returns-13
     returns-14
-    returns-15)
+    returns-15
+    returns-16)

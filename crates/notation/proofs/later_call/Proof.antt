@@ -47,9 +47,15 @@ sale-of-requires c κs = search needs
 returns-9 : tie.Need-returns-9
 returns-9 c = c .sale-of .ensures ∙ sym (call-by _ 0 _ 14 (c .before .if9 .taken))
 
+withdraw-of-requires : tie.Need-withdraw-of-requires
+withdraw-of-requires c κs = search needs
+
 returns-10 : tie.Need-returns-10
+returns-10 c = c .withdraw-of .ensures ∙ sym (call-by _ 0 _ 15 (c .before .if10 .taken))
+
+returns-11 : tie.Need-returns-11
 unfolding callOf
-returns-10 c = let t = c .before .before .before .before .before .before .before .before .before .before .args .tag in rw (ne-eqb t 1 (λ e. omega arith), ne-eqb t 2 (λ e. omega arith), ne-eqb t 3 (λ e. omega arith), ne-eqb t 4 (λ e. omega arith), ne-eqb t 5 (λ e. omega arith), ne-eqb _ 6 (c .before .before .before .before .before .before .before .before .if1 .left), ne-eqb _ 7 (c .before .before .before .before .before .before .before .if2 .left), ne-eqb _ 8 (c .before .before .before .before .before .before .if3 .left), ne-eqb _ 9 (c .before .before .before .before .before .if4 .left), ne-eqb _ 10 (c .before .before .before .before .if5 .left), ne-eqb _ 11 (c .before .before .before .if6 .left), ne-eqb _ 12 (c .before .before .if7 .left), ne-eqb _ 13 (c .before .if8 .left), ne-eqb _ 14 (c .if9 .left))
+returns-11 c = let t = c .before .before .before .before .before .before .before .before .before .before .before .args .tag in rw (ne-eqb t 1 (λ e. omega arith), ne-eqb t 2 (λ e. omega arith), ne-eqb t 3 (λ e. omega arith), ne-eqb t 4 (λ e. omega arith), ne-eqb t 5 (λ e. omega arith), ne-eqb _ 6 (c .before .before .before .before .before .before .before .before .before .if1 .left), ne-eqb _ 7 (c .before .before .before .before .before .before .before .before .if2 .left), ne-eqb _ 8 (c .before .before .before .before .before .before .before .if3 .left), ne-eqb _ 9 (c .before .before .before .before .before .before .if4 .left), ne-eqb _ 10 (c .before .before .before .before .before .if5 .left), ne-eqb _ 11 (c .before .before .before .before .if6 .left), ne-eqb _ 12 (c .before .before .before .if7 .left), ne-eqb _ 13 (c .before .before .if8 .left), ne-eqb _ 14 (c .before .if9 .left), ne-eqb _ 15 (c .if10 .left))
 
 pub later-call-spec : {M : Type 1} → statement M
 later-call-spec =
@@ -68,4 +74,6 @@ later-call-spec =
     returns-8
     sale-of-requires
     returns-9
-    returns-10)
+    withdraw-of-requires
+    returns-10
+    returns-11)

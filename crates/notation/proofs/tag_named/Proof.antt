@@ -47,8 +47,11 @@ decline-if-requires-13 c κs = search needs
 decline-if-requires-14 : tie.Need-decline-if-requires-14
 decline-if-requires-14 c κs = search needs
 
+decline-if-requires-15 : tie.Need-decline-if-requires-15
+decline-if-requires-15 c κs = search needs
+
 returns : tie.Need-returns
-returns c = simp (c .decline-if14 .ensures, c .before .decline-if13 .ensures, c .before .before .decline-if12 .ensures, c .before .before .before .decline-if11 .ensures, c .before .before .before .before .decline-if10 .ensures, c .before .before .before .before .before .decline-if9 .ensures, c .before .before .before .before .before .before .decline-if8 .ensures, c .before .before .before .before .before .before .before .decline-if7 .ensures, c .before .before .before .before .before .before .before .before .decline-if6 .ensures, c .before .before .before .before .before .before .before .before .before .decline-if5 .ensures, c .before .before .before .before .before .before .before .before .before .before .decline-if4 .ensures, c .before .before .before .before .before .before .before .before .before .before .before .decline-if3 .ensures, c .before .before .before .before .before .before .before .before .before .before .before .before .decline-if2 .ensures, c .before .before .before .before .before .before .before .before .before .before .before .before .before .decline-if .ensures) (sym (named-by _))
+returns c = simp (c .decline-if15 .ensures, c .before .decline-if14 .ensures, c .before .before .decline-if13 .ensures, c .before .before .before .decline-if12 .ensures, c .before .before .before .before .decline-if11 .ensures, c .before .before .before .before .before .decline-if10 .ensures, c .before .before .before .before .before .before .decline-if9 .ensures, c .before .before .before .before .before .before .before .decline-if8 .ensures, c .before .before .before .before .before .before .before .before .decline-if7 .ensures, c .before .before .before .before .before .before .before .before .before .decline-if6 .ensures, c .before .before .before .before .before .before .before .before .before .before .decline-if5 .ensures, c .before .before .before .before .before .before .before .before .before .before .before .decline-if4 .ensures, c .before .before .before .before .before .before .before .before .before .before .before .before .decline-if3 .ensures, c .before .before .before .before .before .before .before .before .before .before .before .before .before .decline-if2 .ensures, c .before .before .before .before .before .before .before .before .before .before .before .before .before .before .decline-if .ensures) (sym (named-by _))
 
 pub tag-named-spec : {M : Type 1} → statement M
 tag-named-spec =
@@ -68,4 +71,5 @@ tag-named-spec =
     decline-if-requires-12
     decline-if-requires-13
     decline-if-requires-14
+    decline-if-requires-15
     returns)

@@ -30,8 +30,8 @@ same-length c = search needs
 returns : tie.Need-returns
 returns c =
     let a = c .before .before .before .before .before .before .before .before .before .before .args in
-    let e : getD pieces (120 + c .before .before .before .before .before .before .before .place .result) [] ≡ nameOf (a .tag) =
-    ap (λ (t : ℕ). getD pieces (120 + t) []) (c .before .before .before .before .before .before .before .place .ensures .0) ∙ piece-name (a .tag) (c .before .before .before .before .before .before .before .before .before .before .pre .0) in
+    let e : getD pieces (128 + c .before .before .before .before .before .before .before .place .result) [] ≡ nameOf (a .tag) =
+    ap (λ (t : ℕ). getD pieces (128 + t) []) (c .before .before .before .before .before .before .before .place .ensures .0) ∙ piece-name (a .tag) (c .before .before .before .before .before .before .before .before .before .before .pre .0) in
     put-then (nameOf (a .tag)) (itemsText (a .tag) 0 (take (a .count) (a .numbers))) (put-as 16 (omega arith) e (c .before .before .before .before .before .before .put-piece .ensures)) (c .before .before .put-items .ensures)
 
 pub put-form-spec : {M : Type 1} → statement M

@@ -11,7 +11,7 @@ use Rattle.spelling.proofs.put_items.Statement.{statement}
 use Rattle.spelling.proofs.put_items.Tie as tie
 
 abbrev Inv-loop : tie.InvT-loop
-Inv-loop out₀ at tag count numbers to₀ i₀ out to i = Putting out₀ at (itemsText tag 0 (take count numbers)) (itemsText tag i (drop i (take count numbers))) (i * 708) to out × (i ≤ count) × (count ≤ 8) × (tag < 15) × (at + 5665 ≤ length out₀)
+Inv-loop out₀ at tag count numbers to₀ i₀ out to i = Putting out₀ at (itemsText tag 0 (take count numbers)) (itemsText tag i (drop i (take count numbers))) (i * 708) to out × (i ≤ count) × (count ≤ 8) × (tag < 16) × (at + 5665 ≤ length out₀)
 
 abbrev μ-loop : tie.MeasureT-loop
 μ-loop out₀ at tag count numbers to₀ i₀ out to i = count - i

@@ -14,7 +14,7 @@ use Rattle.spelling.proofs.put_piece.Statement.{statement}
 use Rattle.spelling.proofs.put_piece.Tie as tie
 
 abbrev Inv-loop : tie.InvT-loop
-Inv-loop out₀ at k start n to₀ j₀ out to j = Putting out₀ at (getD pieces k []) (drop j (getD pieces k [])) j to out × (j ≤ n) × (start ≡ getD starts k 0) × (n ≡ getD lengths k 0) × (k < 135) × (at + 16 ≤ length out₀)
+Inv-loop out₀ at k start n to₀ j₀ out to j = Putting out₀ at (getD pieces k []) (drop j (getD pieces k [])) j to out × (j ≤ n) × (start ≡ getD starts k 0) × (n ≡ getD lengths k 0) × (k < 144) × (at + 16 ≤ length out₀)
 
 abbrev μ-loop : tie.MeasureT-loop
 μ-loop out₀ at k start n to₀ j₀ out to j = n - j
