@@ -71,7 +71,8 @@ call-read tag v h right =
     (either Read (eqb tag 10) tt
     (either Read (eqb tag 11) tt
     (either Read (eqb tag 12) tt
-    (either Read (eqb tag 13) tt tt))))))))))))
+    (either Read (eqb tag 13) tt
+    (either Read (eqb tag 14) tt tt)))))))))))))
 
 abbrev pub AllRead : Option Call → Type 0
 AllRead none = Unit {0}
@@ -83,8 +84,8 @@ decoded-read [] h = tt
 decoded-read (tag ∷ []) h = tt
 decoded-read (tag ∷ high ∷ []) h = tt
 decoded-read (tag ∷ high ∷ low ∷ v) h =
-    by-test AllRead (between 1 14 tag && eqb (high * 256 + low) (length v) && rightLength tag (length v)) {x = some (callOf tag v)} {y = none}
-    (λ t. call-read tag v (h .1 .1 .1) (and-right (between 1 14 tag && eqb (high * 256 + low) (length v)) (rightLength tag (length v)) t)) (λ f. tt)
+    by-test AllRead (between 1 15 tag && eqb (high * 256 + low) (length v) && rightLength tag (length v)) {x = some (callOf tag v)} {y = none}
+    (λ t. call-read tag v (h .1 .1 .1) (and-right (between 1 15 tag && eqb (high * 256 + low) (length v)) (rightLength tag (length v)) t)) (λ f. tt)
 
 -- ---- the answers
 

@@ -1,4 +1,4 @@
--- Every answer is one of 01's and 02's numbers, 0 to 17. Assumes nothing.
+-- Every answer is one of 01's and 02's numbers, 0 to 18. Assumes nothing.
 use mathlib.Core.Path.{_≡_, refl}
 use mathlib.Core.Bool.{Bool, true, false, _&&_}
 use mathlib.Core.List.{List, [], _∷_}
@@ -17,18 +17,22 @@ use Rattle.case.specs.declared.Held.{Held}
 use Rattle.case.specs.Cases.{caseAnswer, firstAnswer, caseAnswerTo, firstAnswerTo, answerTo, takeAsked, applied}
 use Rattle.case.specs.Input.{ledgerAnswers}
 
+-- the largest number of a refusal
+abbrev pub largest : ℕ
+largest = 18
+
 -- the first number of a list is within what its numbers are
 abbrev small : List Test → Bool
 small [] = true
-small (t ∷ ts) = leb (t .0) 17 && small ts
+small (t ∷ ts) = leb (t .0) largest && small ts
 
-first-most : (ts : List Test) → small ts ≡ true → firstOf ts ≤ 17
+first-most : (ts : List Test) → small ts ≡ true → firstOf ts ≤ largest
 unfolding firstOf
 first-most [] h = omega arith
 first-most (t ∷ ts) h =
-    either (λ (n : ℕ). n ≤ 17) (t .1) (leb-true (t .0) 17 (and-left (leb (t .0) 17) (small ts) h)) (first-most ts (and-right (leb (t .0) 17) (small ts) h))
+    either (λ (n : ℕ). n ≤ largest) (t .1) (leb-true (t .0) largest (and-left (leb (t .0) largest) (small ts) h)) (first-most ts (and-right (leb (t .0) largest) (small ts) h))
 
-case-most : (c : Case) (call : Wire.Call) → caseAnswer c call ≤ 17
+case-most : (c : Case) (call : Wire.Call) → caseAnswer c call ≤ largest
 unfolding caseAnswer poolAnswer memberAnswer roundAnswer bidAnswer closeAnswer allocateAnswer tearAnswer callAnswer payAnswer moveAnswer missAnswer finishAnswer saleAnswer withdrawAnswer
 case-most c (Wire.HEAD h) = omega arith
 case-most c (Wire.POOL pool units mark) = first-most _ refl
@@ -46,7 +50,7 @@ case-most c Wire.FINISH = first-most _ refl
 case-most c (Wire.SALE pool m price) = first-most _ refl
 case-most c (Wire.WITHDRAW m n) = first-most _ refl
 
-first-call-most : (call : Wire.Call) → firstAnswer call ≤ 17
+first-call-most : (call : Wire.Call) → firstAnswer call ≤ largest
 unfolding firstAnswer headAnswer
 first-call-most (Wire.HEAD h) = first-most _ refl
 first-call-most (Wire.POOL pool units mark) = omega arith
@@ -64,18 +68,18 @@ first-call-most Wire.FINISH = omega arith
 first-call-most (Wire.SALE pool m price) = omega arith
 first-call-most (Wire.WITHDRAW m n) = omega arith
 
-to-most : (present : Bool) (c : Case) (asked : Option Wire.Call) → answerTo present c asked ≤ 17
+to-most : (present : Bool) (c : Case) (asked : Option Wire.Call) → answerTo present c asked ≤ largest
 unfolding answerTo caseAnswerTo firstAnswerTo
 to-most true c none = omega arith
 to-most true c (some call) = case-most c call
 to-most false c none = omega arith
 to-most false c (some call) = first-call-most call
 
-pub answer-most : (h : Held) (bytes : List ℕ) → applied h bytes .answer ≤ 17
+pub answer-most : (h : Held) (bytes : List ℕ) → applied h bytes .answer ≤ largest
 unfolding applied takeAsked
 answer-most h bytes = to-most (h .present) (h .case) (Wire.decode bytes)
 
-pub answers-most : (h : Held) (calls : List (List ℕ)) → Each (λ a. a ≤ 17) (ledgerAnswers h calls)
+pub answers-most : (h : Held) (calls : List (List ℕ)) → Each (λ a. a ≤ largest) (ledgerAnswers h calls)
 unfolding ledgerAnswers
 answers-most h [] = tt
 answers-most h (call ∷ calls) = (answer-most h call, answers-most (applied h call .held) calls)

@@ -30,7 +30,7 @@ decode-cut (tag ∷ high ∷ low ∷ v) w =
     let s : List ℕ = tag ∷ high ∷ low ∷ v in
     let size = size-whole s (omega arith) in
     let more : length s < fieldSize s = leb-false (fieldSize s) (length s) (sym (ap (λ (t : Bool). t && leb (fieldSize s) (length s)) (le-leb 3 (length s) (omega arith))) ∙ w) in
-    rw (ne-eqb (high * 256 + low) (length v) (λ e. omega (arith, size, more, e)), and-false (between 1 14 tag)) refl
+    rw (ne-eqb (high * 256 + low) (length v) (λ e. omega (arith, size, more, e)), and-false (between 1 15 tag)) refl
 
 applied-cut : (h : Held) (s : List ℕ) → wholeFirst s ≡ false → _≡_ {A = Applied} (applied h s) (record { answer = 1; held = h })
 unfolding applied takeAsked answerTo caseAnswerTo firstAnswerTo

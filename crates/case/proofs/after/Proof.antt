@@ -132,6 +132,15 @@ sale-requires c κs = search needs
 case-of-requires-13 : tie.Need-case-of-requires-13
 case-of-requires-13 c κs = search needs
 
+enum-known-call-12 : tie.Need-enum-known-call-12
+enum-known-call-12 c = search needs
+
+withdraw-requires : tie.Need-withdraw-requires
+withdraw-requires c κs = search needs
+
+case-of-requires-14 : tie.Need-case-of-requires-14
+case-of-requires-14 c κs = search needs
+
 enum-told-4 : tie.Need-enum-told-4
 enum-told-4 c = search needs
 
@@ -197,8 +206,12 @@ unfolding asked firstAnswerTo firstAnswer
 returns-14 c = rw (c .before .before .before .call12 .given .1) (λ present e. c .case-of13 .ensures ∙ handed (c .before .before .before .before .before .args .case) _ (λ z. absurd (omega arith)) _ (c .before .sale .ensures) present e)
 
 returns-15 : tie.Need-returns-15
+unfolding asked firstAnswerTo firstAnswer
+returns-15 c = rw (c .before .before .before .call13 .given .1) (λ present e. c .case-of14 .ensures ∙ handed (c .before .before .before .before .before .args .case) _ (λ z. absurd (omega arith)) _ (c .before .withdraw .ensures) present e)
+
+returns-16 : tie.Need-returns-16
 unfolding asked afterAsked
-returns-15 c = λ present e. rw (c .enum-told4 .given .1)
+returns-16 c = λ present e. rw (c .enum-told4 .given .1)
 
 pub after-spec : {M : Type 1} → statement M
 after-spec =
@@ -245,6 +258,9 @@ after-spec =
     enum-known-call-11
     sale-requires
     case-of-requires-13
+    enum-known-call-12
+    withdraw-requires
+    case-of-requires-14
     enum-told-4
     returns
     returns-2
@@ -260,4 +276,5 @@ after-spec =
     returns-12
     returns-13
     returns-14
-    returns-15)
+    returns-15
+    returns-16)

@@ -88,6 +88,12 @@ enum-known-call-10 c = search needs
 sale-answer-requires : tie.Need-sale-answer-requires
 sale-answer-requires c κs = search needs
 
+enum-known-call-11 : tie.Need-enum-known-call-11
+enum-known-call-11 c = search needs
+
+withdraw-answer-requires : tie.Need-withdraw-answer-requires
+withdraw-answer-requires c κs = search needs
+
 enum-told-5 : tie.Need-enum-told-5
 enum-told-5 c = search needs
 
@@ -148,7 +154,11 @@ returns-14 c = simp (c .before .before .call10 .given .1, c .sale-answer .ensure
 
 returns-15 : tie.Need-returns-15
 unfolding asked caseAnswerTo caseAnswer
-returns-15 c = simp (c .enum-told5 .given .1)
+returns-15 c = simp (c .before .before .call11 .given .1, c .withdraw-answer .ensures)
+
+returns-16 : tie.Need-returns-16
+unfolding asked caseAnswerTo caseAnswer
+returns-16 c = simp (c .enum-told5 .given .1)
 
 pub answer-in-spec : {M : Type 1} → statement M
 answer-in-spec =
@@ -181,6 +191,8 @@ answer-in-spec =
     finish-answer-requires
     enum-known-call-10
     sale-answer-requires
+    enum-known-call-11
+    withdraw-answer-requires
     enum-told-5
     returns
     returns-2
@@ -196,4 +208,5 @@ answer-in-spec =
     returns-12
     returns-13
     returns-14
-    returns-15)
+    returns-15
+    returns-16)

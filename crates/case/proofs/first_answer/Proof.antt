@@ -60,6 +60,9 @@ enum-told-12 c = search needs
 enum-told-13 : tie.Need-enum-told-13
 enum-told-13 c = search needs
 
+enum-told-14 : tie.Need-enum-told-14
+enum-told-14 c = search needs
+
 returns : tie.Need-returns
 unfolding asked firstAnswerTo firstAnswer
 returns c = simp (c .before .before .call .given .1, c .head-answer .ensures)
@@ -121,6 +124,10 @@ returns-15 : tie.Need-returns-15
 unfolding asked firstAnswerTo firstAnswer
 returns-15 c = simp (c .enum-told13 .given .1)
 
+returns-16 : tie.Need-returns-16
+unfolding asked firstAnswerTo firstAnswer
+returns-16 c = simp (c .enum-told14 .given .1)
+
 pub first-answer-spec : {M : Type 1} → statement M
 first-answer-spec =
     tie.close
@@ -143,6 +150,7 @@ first-answer-spec =
     enum-told-11
     enum-told-12
     enum-told-13
+    enum-told-14
     returns
     returns-2
     returns-3
@@ -157,4 +165,5 @@ first-answer-spec =
     returns-12
     returns-13
     returns-14
-    returns-15)
+    returns-15
+    returns-16)
