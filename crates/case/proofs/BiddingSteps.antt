@@ -85,7 +85,8 @@ module _ (c : Case) (roll : List Entry) (s : Sound (c .stage) (c .book) roll) (o
   withdraw-shown m n t =
       let b = c .book in
       let x = b .bids in
-      let stands = and-left _ _ (and-left _ _ (not-false _ (t .1 .1 .0))) in
+      let found = getD (viewBids x) n noBid in
+      let stands : found .stands ≡ true = and-left _ _ (and-left _ _ (not-false _ (t .1 .1 .0))) in
       let kept : n < x .kept = omega (arith, Z.length-view x, stands-kept (view c roll) ok n stands) in
       shown-by c roll (Wire.WITHDRAW m n)
       (case-ext _ _ refl refl refl refl refl (Z.view-withdraw x n (s .bids) kept) refl)

@@ -24,7 +24,7 @@ use Rattle.case.specs.declared.Case.{Case}
 use Rattle.case.specs.Cases.{applied, noHeld, caseAnswerTo, answerTo, firstAnswerTo, firstAnswer, afterAsked, caseAfter, takeAsked, headOutcome, outcomeOf}
 use Rattle.case.specs.Readings.{seen}
 use Rattle.case.specs.Input.{ledgerAfter}
-use Rattle.case.specs.Claim.{AnswersFirst, OneOfFive, MethodsAgree, HeadAgrees, KeepsSales, Covers, Finished, Claim}
+use Rattle.case.specs.Claim.{AnswersFirst, OneOfFive, MethodsAgree, HeadAgrees, KeepsSales, KeepsBids, Covers, Finished, Claim}
 use Rattle.case.proofs.Claim.{Holds, taken, takes, none-tied, seen-observed, agrees, ledger-tied, ledger-shows}
 use Rattle.case.proofs.Finishes.{after-finish}
 
@@ -105,6 +105,13 @@ keeps-sales calls each c is pool l =
       entries = U.agreed-entries u _ _ kept pool l;
     }
 
+-- ---- the bids kept
+
+keeps-bids : KeepsBids
+keeps-bids calls each c is =
+    let t : Holds (ledgerAfter noHeld calls) c = rw is at (ledger-tied calls each) in
+    ap (λ (x : M.Case). x .bids) (t .shows)
+
 -- ---- a finished case
 
 -- a layer that is spent is charged its limit
@@ -147,6 +154,7 @@ claim =
       methods = methods-agree;
       head = head-agrees;
       sales = keeps-sales;
+      bids = keeps-bids;
       finishes = after-finish;
       finished = finished;
     }

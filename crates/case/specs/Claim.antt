@@ -29,6 +29,7 @@ use Rattle.wire.specs.declared.Head.{Head}
 use Rattle.wire.specs.Asked.{headOf}
 use Rattle.units.specs.declared.Units.{Units}
 use Rattle.units.specs.Shown.{agreedOf, buyerOf, salePriceOf}
+use Rattle.accounts.specs.Bids.{viewBids}
 use Rattle.book.specs.declared.Book.{Book}
 use Rattle.book.specs.Results.{limitsIn, resultIn}
 use Rattle.case.specs.declared.Case.{Case}
@@ -122,6 +123,14 @@ KeepsSales =
     (calls : List (List ℕ)) → Each Bytes calls → (c : M.Case) → runFrom none calls ≡ some c → (pool : ℕ) → pool < 4
     → KeepsSale (ledgerAfter noHeld calls .case .book .units) (c .roll) pool
 
+-- ---- document 02, C-14: "A bid record in the case now says whether it stands"
+
+-- the bids that the case keeps are the machine's, each at its number, with its round, what it won and whether it stands, after every list of calls
+abbrev pub KeepsBids : Type 0
+KeepsBids =
+    (calls : List (List ℕ)) → Each Bytes calls → (c : M.Case) → runFrom none calls ≡ some c
+    → viewBids (ledgerAfter noHeld calls .case .book .bids) ≡ c .bids
+
 -- ---- after an accepted FINISH
 
 -- what a layer is charged, and its limit; the layers are counted from 0
@@ -196,5 +205,6 @@ pub record Claim : Type 0 where
   pub methods : MethodsAgree
   pub head : HeadAgrees
   pub sales : KeepsSales
+  pub bids : KeepsBids
   pub finishes : Finishes
   pub finished : Finished
