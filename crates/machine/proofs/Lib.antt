@@ -23,6 +23,7 @@ pub mod WholePools
 pub mod Bounds
 pub mod RollSteps
 pub mod AgreedStay
+pub mod AsThoughNotSent
 pub mod Later
 pub mod Bytes
 pub mod Prices

@@ -1,0 +1,315 @@
+-- Document 02, C-14: "CLOSE allots as though a withdrawn bid had not been sent". Assumes nothing.
+use mathlib.Core.Path.{_≡_, refl, sym, ap, _∙_, fun-ext}
+use mathlib.Core.Bool.{Bool, true, false, _&&_, not, false≢true}
+use mathlib.Core.List.{List, [], _∷_, map}
+use Prim.Native.Nat.{ℕ, zero, suc, _+_, _<_}
+use native.Mathlib.Nat.{zero-add}
+use native.Mathlib.Omega.{arith}
+use lib.Dec.{eqb}
+use lib.ListN.{length, getD, drop, List·getD-map}
+use mathlib.Core.Option.{Option, none, some}
+use Rattle.lists.specs.Lists.{if_then_else_, count, keep, putBack, among, mapFrom, tab}
+use Rattle.lists.proofs.Bools.{and-left}
+use Rattle.lists.proofs.Among.{place, placeIf, at-place}
+use Rattle.lists.proofs.Places.{tab-ext}
+use Rattle.lists.proofs.Counts.{map-changeFirst, count-of-map, count-ext}
+use Rattle.lists.proofs.Each.{each-always}
+use Rattle.auction.specs.Auction.{allot}
+use Rattle.machine.specs.Roll.{UnitState, Open, Sold, Allocated, Moved, Torn, Agreed, Entry, Bid, noBid, withState, kind, isOpen, openIn, giveLowest, openUnits, priceOf, heldBy, prices}
+use Rattle.machine.specs.State.{Stage, After, Case, roundOf, letter, letterOf}
+use Rattle.machine.specs.Run.{fiveCounts, holding, sumOfPrices, Result, resultOf, observed}
+use Rattle.auction.specs.Price.{sumCents}
+use Rattle.machine.specs.Wire.{Head}
+use Rattle.machine.specs.Calls.{reserve, inRound, inAuction, wonIn, wonGiven, bidsAfter, sell, afterClose}
+use Rattle.machine.proofs.Closing.{given-same}
+
+-- ---- the case without the withdrawn bids
+
+abbrev pub standing : List Bid → List Bid
+standing bids = keep (λ b. b .stands) bids
+
+-- the number that the j-th of the standing bids has among all bids
+abbrev pub numberOf : List Bid → ℕ → ℕ
+numberOf bids j = place (λ b. b .stands) bids j
+
+-- an entry with its bid's number changed
+abbrev renumberedState : (ℕ → ℕ) → UnitState → UnitState
+renumberedState f Open = Open
+renumberedState f (Sold j) = Sold (f j)
+renumberedState f (Allocated m price) = Allocated m price
+renumberedState f (Moved m) = Moved m
+renumberedState f (Torn price) = Torn price
+renumberedState f (Agreed m price) = Agreed m price
+
+abbrev pub renumbered : (ℕ → ℕ) → Entry → Entry
+renumbered f e = withState e (renumberedState f (e .state))
+
+-- d is c without its withdrawn bids: the others are numbered from 0 again, and all else is alike
+pub record Without (c d : Case) : Type 0 where
+  pub stage : d .stage ≡ c .stage
+  pub head : d .head ≡ c .head
+  pub pools : d .pools ≡ c .pools
+  pub members : d .members ≡ c .members
+  pub rounds : d .rounds ≡ c .rounds
+  pub bids : d .bids ≡ standing (c .bids)
+  pub roll : c .roll ≡ map (renumbered (numberOf (c .bids))) (d .roll)
+
+-- ---- entries
+
+module _ (f : ℕ → ℕ) where
+  same-kind : (s : UnitState) → kind (renumberedState f s) ≡ kind s
+  unfolding kind
+  same-kind Open = refl
+  same-kind (Sold j) = refl
+  same-kind (Allocated m price) = refl
+  same-kind (Moved m) = refl
+  same-kind (Torn price) = refl
+  same-kind (Agreed m price) = refl
+
+  same-open : (pool : ℕ) (e : Entry) → openIn pool (renumbered f e) ≡ openIn pool e
+  unfolding openIn isOpen
+  same-open pool e = rw (same-kind (e .state))
+
+  open-alike : (pool : ℕ) (roll : List Entry) → openUnits (map (renumbered f) roll) pool ≡ openUnits roll pool
+  unfolding openUnits
+  open-alike pool roll =
+      count-of-map (openIn pool) (renumbered f) roll ∙ count-ext (λ e. openIn pool (renumbered f e)) (openIn pool) roll (each-always _ (same-open pool) roll)
+
+  give-alike : (pool i j n : ℕ) → f j ≡ i → (roll : List Entry)
+      → giveLowest pool (Sold i) n (map (renumbered f) roll) ≡ map (renumbered f) (giveLowest pool (Sold j) n roll)
+  unfolding giveLowest
+  give-alike pool i j n e roll =
+      sym (map-changeFirst (renumbered f) (openIn pool) (λ x. withState x (Sold j)) (openIn pool) (λ x. withState x (Sold i)) (same-open pool) (λ x o. rw e) n roll)
+
+  -- what CLOSE sells, where f gives the number in the longer list to each number in the shorter
+  sell-alike : (round i j : ℕ) (bs : List Bid) → ((k : ℕ) → f (j + k) ≡ i + numberOf bs k) → (roll : List Entry)
+      → sell round i bs (map (renumbered f) roll) ≡ map (renumbered f) (sell round j (standing bs) roll)
+  unfolding sell keep inRound
+  sell-alike round i j [] h roll = refl
+  sell-alike round i j (b ∷ bs) h roll = go (b .stands) refl h (λ j h roll. sell-alike round (suc i) j bs h roll)
+    where
+      given : (t : Bool) → f j ≡ i
+          → (if t then giveLowest (b .pool) (Sold i) (b .won) (map (renumbered f) roll) else map (renumbered f) roll)
+          ≡ map (renumbered f) (if t then giveLowest (b .pool) (Sold j) (b .won) roll else roll)
+      given true e = give-alike (b .pool) i j (b .won) e roll
+      given false e = refl
+
+      go : (t : Bool) → b .stands ≡ t → ((k : ℕ) → f (j + k) ≡ i + placeIf t (numberOf bs) k)
+          → ((j : ℕ) → ((k : ℕ) → f (j + k) ≡ suc i + numberOf bs k) → (roll : List Entry)
+            → sell round (suc i) bs (map (renumbered f) roll) ≡ map (renumbered f) (sell round j (standing bs) roll))
+          → sell round (suc i) bs (if inRound round b then giveLowest (b .pool) (Sold i) (b .won) (map (renumbered f) roll) else map (renumbered f) roll)
+          ≡ map (renumbered f) (sell round j (if t then b ∷ standing bs else standing bs) roll)
+      go true e h rest =
+          ap (sell round (suc i) bs) (given (inRound round b) (ap f (omega arith) ∙ h 0 ∙ omega arith))
+          ∙ rest (suc j) (λ k. ap f (omega arith) ∙ h (suc k) ∙ omega arith) (if inRound round b then giveLowest (b .pool) (Sold j) (b .won) roll else roll)
+      go false e h rest = rw e (rest j (λ k. h k ∙ omega arith) roll)
+
+-- ---- the units won
+
+module _ (p q : Bid → Bool) (within : (b : Bid) → q b ≡ true → p b ≡ true) where
+  -- a test that passes only where another does keeps the same of those that the other keeps
+  kept-alike : (bs : List Bid) → keep q (keep p bs) ≡ keep q bs
+  unfolding keep
+  kept-alike [] = refl
+  kept-alike (b ∷ bs) = go (p b) (q b) refl refl (kept-alike bs)
+    where
+      go : (t u : Bool) → p b ≡ t → q b ≡ u → keep q (keep p bs) ≡ keep q bs
+          → keep q (if t then b ∷ keep p bs else keep p bs) ≡ (if u then b ∷ keep q bs else keep q bs)
+      go true true e f rest = rw f (ap (λ l. b ∷ l) rest)
+      go true false e f rest = rw f rest
+      go false true e f rest = absurd (false≢true (sym e ∙ within b f))
+      go false false e f rest = rest
+
+  -- and what is put back at the places of those is what is put back among all
+  put-alike : (bs : List Bid) (ys : List ℕ) (k : ℕ) → getD (putBack q bs ys) (place p bs k) 0 ≡ getD (putBack q (keep p bs) ys) k 0
+  unfolding keep putBack
+  put-alike [] ys k = refl
+  put-alike (b ∷ bs) ys k = go (p b) refl k (put-alike bs)
+    where
+      go : (t : Bool) → p b ≡ t → (k : ℕ) → ((ys : List ℕ) (k : ℕ) → getD (putBack q bs ys) (place p bs k) 0 ≡ getD (putBack q (keep p bs) ys) k 0)
+          → getD ((if q b then getD ys 0 0 else 0) ∷ putBack q bs (if q b then drop 1 ys else ys)) (placeIf t (place p bs) k) 0
+          ≡ getD (putBack q (if t then b ∷ keep p bs else keep p bs) ys) k 0
+      go true e zero rest = refl
+      go true e (suc k) rest = rest (if q b then drop 1 ys else ys) k
+      go false e k rest = rw (out (q b) refl) (rest ys k)
+        where
+          out : (u : Bool) → q b ≡ u → q b ≡ false
+          out true f = absurd (false≢true (sym e ∙ within b f))
+          out false f = f
+
+-- a table of lists, one for each pool
+table-alike : (n : ℕ) (f g : ℕ → List ℕ) (i j : ℕ) → ((pool : ℕ) → getD (f pool) i 0 ≡ getD (g pool) j 0)
+    → (pool : ℕ) → getD (getD (tab n f) pool []) i 0 ≡ getD (getD (tab n g) pool []) j 0
+unfolding tab
+table-alike zero f g i j h pool = refl
+table-alike (suc n) f g i j h zero = h 0
+table-alike (suc n) f g i j h (suc pool) = table-alike n (λ k. f (suc k)) (λ k. g (suc k)) i j (λ k. h (suc k)) pool
+
+module _ (round : ℕ) (wins : List (List ℕ)) where
+  same-stands : (i : ℕ) (b : Bid) → wonGiven round wins i b .stands ≡ b .stands
+  same-stands = given-same round wins (λ b. b .stands) (λ b v. refl)
+
+  -- the numbers of the standing bids stay
+  same-numbers : (i : ℕ) (bs : List Bid) (k : ℕ) → numberOf (mapFrom i (wonGiven round wins) bs) k ≡ numberOf bs k
+  unfolding mapFrom
+  same-numbers i [] k = refl
+  same-numbers i (b ∷ bs) k = rw (same-stands i b) (go (b .stands) k (same-numbers (suc i) bs))
+    where
+      go : (t : Bool) (k : ℕ) → ((k : ℕ) → numberOf (mapFrom (suc i) (wonGiven round wins) bs) k ≡ numberOf bs k)
+          → placeIf t (numberOf (mapFrom (suc i) (wonGiven round wins) bs)) k ≡ placeIf t (numberOf bs) k
+      go true zero rest = refl
+      go true (suc k) rest = ap suc (rest k)
+      go false k rest = ap suc (rest k)
+
+  -- the bids given what two tables say, where the second says of the standing bids what the first says of them
+  given-alike : (without : List (List ℕ)) (i j : ℕ) (bs : List Bid) → ((pool k : ℕ) → getD (getD wins pool []) (i + numberOf bs k) 0 ≡ getD (getD without pool []) (j + k) 0)
+      → standing (mapFrom i (wonGiven round wins) bs) ≡ mapFrom j (wonGiven round without) (standing bs)
+  unfolding mapFrom keep wonGiven
+  given-alike without i j [] h = refl
+  given-alike without i j (b ∷ bs) h = rw (same-stands i b) (go (b .stands) h (λ j h. given-alike without (suc i) j bs h))
+    where
+      at : (table : List (List ℕ)) (pool : ℕ) {m n : ℕ} → m ≡ n → getD (getD table pool []) m 0 ≡ getD (getD table pool []) n 0
+      at table pool e = ap (λ (k : ℕ). getD (getD table pool []) k 0) e
+
+      won : getD (getD wins (b .pool) []) i 0 ≡ getD (getD without (b .pool) []) j 0 → wonGiven round wins i b ≡ wonGiven round without j b
+      won e = rw e
+
+      go : (t : Bool) → ((pool k : ℕ) → getD (getD wins pool []) (i + placeIf t (numberOf bs) k) 0 ≡ getD (getD without pool []) (j + k) 0)
+          → ((j : ℕ) → ((pool k : ℕ) → getD (getD wins pool []) (suc i + numberOf bs k) 0 ≡ getD (getD without pool []) (j + k) 0)
+            → standing (mapFrom (suc i) (wonGiven round wins) bs) ≡ mapFrom j (wonGiven round without) (standing bs))
+          → (if t then wonGiven round wins i b ∷ standing (mapFrom (suc i) (wonGiven round wins) bs) else standing (mapFrom (suc i) (wonGiven round wins) bs))
+          ≡ mapFrom j (wonGiven round without) (if t then b ∷ standing bs else standing bs)
+      go true h rest =
+          cc (
+            won (at wins (b .pool) (omega arith) ∙ h (b .pool) 0 ∙ at without (b .pool) (omega arith)),
+            rest (suc j) (λ pool k. at wins pool (omega arith) ∙ h pool (suc k) ∙ at without pool (omega arith)),
+          )
+      go false h rest = rest j (λ pool k. at wins pool (omega arith) ∙ h pool k)
+
+-- ---- CLOSE
+
+in-stands : (round pool : ℕ) (b : Bid) → inAuction round pool b ≡ true → b .stands ≡ true
+unfolding inAuction inRound
+in-stands round pool b e = and-left _ _ (and-left _ _ e)
+
+module _ (c d : Case) (w : Without c d) where
+  -- the units won in a pool, at the places of the bids that stand
+  won-alike : (round pool k : ℕ) → getD (wonIn c round pool) (numberOf (c .bids) k) 0 ≡ getD (wonIn d round pool) k 0
+  unfolding wonIn among
+  won-alike round pool k =
+      let p : Bid → Bool = λ b. b .stands in
+      let q = inAuction round pool in
+      rw (w .bids, w .rounds, w .roll, open-alike (numberOf (c .bids)) pool (d .roll), kept-alike p q (in-stands round pool) (c .bids))
+      (put-alike p q (in-stands round pool) (c .bids) _ k)
+
+  bids-alike : (round : ℕ) → standing (bidsAfter c round) ≡ bidsAfter d round
+  unfolding bidsAfter
+  bids-alike round =
+      let n = c .head .pools in
+      given-alike round (tab n (wonIn c round)) (tab n (wonIn d round)) 0 0 (c .bids)
+      (λ pool k. rw (zero-add (numberOf (c .bids) k), zero-add k)
+      (table-alike n (wonIn c round) (wonIn d round) (numberOf (c .bids) k) k (λ q. won-alike round q k) pool))
+      ∙ ap (λ (bs : List Bid). mapFrom 0 (wonGiven round (tab n (wonIn d round))) bs) (sym (w .bids))
+      ∙ ap (λ (h : Head). mapFrom 0 (wonGiven round (tab (h .pools) (wonIn d round))) (d .bids)) (sym (w .head))
+
+  -- "CLOSE allots as though a withdrawn bid had not been sent"
+  pub close-without : Without (afterClose c) (afterClose d)
+  unfolding afterClose bidsAfter
+  close-without =
+      let round = roundOf (c .stage) in
+      let bids = bidsAfter c round in
+      let after : bidsAfter d (roundOf (d .stage)) ≡ standing bids = ap (λ (s : Stage). bidsAfter d (roundOf s)) (w .stage) ∙ sym (bids-alike round) in
+      let numbers : numberOf bids ≡ numberOf (c .bids) = fun-ext (same-numbers round (tab (c .head .pools) (wonIn c round)) 0 (c .bids)) in
+      record {
+        stage = ap (λ (s : Stage). After (roundOf s)) (w .stage);
+        head = w .head;
+        pools = w .pools;
+        members = w .members;
+        rounds = w .rounds;
+        bids = after;
+        roll =
+            ap (sell round 0 bids) (w .roll)
+            ∙ ap (λ (f : ℕ → ℕ). sell round 0 bids (map (renumbered f) (d .roll))) (sym numbers)
+            ∙ sell-alike (numberOf bids) round 0 0 bids (λ k. ap (numberOf bids) (zero-add k) ∙ sym (zero-add (numberOf bids k))) (d .roll)
+            ∙ ap (λ (bs : List Bid). map (renumbered (numberOf bids)) (sell round 0 bs (d .roll))) (sym after)
+            ∙ ap (λ (s : Stage). map (renumbered (numberOf bids)) (sell (roundOf s) 0 (bidsAfter d (roundOf (d .stage))) (d .roll))) (sym (w .stage));
+      }
+
+-- ---- what is observed
+
+module _ (bids : List Bid) where
+  abbrev f : ℕ → ℕ
+  f = numberOf bids
+
+  -- a number means the same bid
+  bid-alike : (j : ℕ) → getD bids (f j) noBid ≡ getD (standing bids) j noBid
+  bid-alike j =
+      let own : Bid → Bid = λ b. b in
+      sym (List·getD-map own bids (f j) noBid) ∙ at-place (λ b. b .stands) noBid own own (λ b e. refl) bids j ∙ List·getD-map own (standing bids) j noBid
+
+  price-alike : (s : UnitState) → priceOf bids (renumberedState f s) ≡ priceOf (standing bids) s
+  unfolding priceOf
+  price-alike Open = refl
+  price-alike (Sold j) = ap (λ (b : Bid). b .price) (bid-alike j)
+  price-alike (Allocated m price) = refl
+  price-alike (Moved m) = refl
+  price-alike (Torn price) = refl
+  price-alike (Agreed m price) = refl
+
+  held-alike : (m : ℕ) (s : UnitState) → heldBy bids m (renumberedState f s) ≡ heldBy (standing bids) m s
+  unfolding heldBy
+  held-alike m Open = refl
+  held-alike m (Sold j) = ap (λ (b : Bid). eqb (b .member) m) (bid-alike j)
+  held-alike m (Allocated a price) = refl
+  held-alike m (Moved a) = refl
+  held-alike m (Torn price) = refl
+  held-alike m (Agreed a price) = refl
+
+  module _ (roll : List Entry) where
+    count-alike : (p q : Entry → Bool) → ((e : Entry) → p (renumbered f e) ≡ q e) → count p (map (renumbered f) roll) ≡ count q roll
+    count-alike p q h = count-of-map p (renumbered f) roll ∙ count-ext (λ e. p (renumbered f e)) q roll (each-always _ h roll)
+
+    counts-alike : (pool : ℕ) → fiveCounts (map (renumbered f) roll) pool ≡ fiveCounts roll pool
+    unfolding fiveCounts
+    counts-alike pool = tab-ext 5 _ _ (λ k l. count-alike _ _ (λ e. rw (same-kind f (e .state))))
+
+    holdings-alike : (m pool price : ℕ) → holding bids (map (renumbered f) roll) m pool price ≡ holding (standing bids) roll m pool price
+    unfolding holding
+    holdings-alike m pool price = count-alike _ _ (λ e. rw (held-alike m (e .state), price-alike (e .state)))
+
+  prices-alike : (roll : List Entry) → prices bids (map (renumbered f) roll) ≡ prices (standing bids) roll
+  unfolding prices keep isOpen
+  prices-alike [] = refl
+  prices-alike (e ∷ es) = rw (same-kind f (e .state)) (go (not (eqb (kind (e .state)) 0)) (prices-alike es))
+    where
+      go : (t : Bool) → prices bids (map (renumbered f) es) ≡ prices (standing bids) es
+          → map (λ x. priceOf bids (x .state)) (if t then renumbered f e ∷ keep (λ x. not (isOpen x)) (map (renumbered f) es) else keep (λ x. not (isOpen x)) (map (renumbered f) es))
+          ≡ map (λ x. priceOf (standing bids) (x .state)) (if t then e ∷ keep (λ x. not (isOpen x)) es else keep (λ x. not (isOpen x)) es)
+      go true rest = cc (price-alike (e .state))
+      go false rest = rest
+
+-- a case in any stage but F, and the same without its withdrawn bids
+pub without-observed : (c d : Case) → Without c d → eqb (letter (c .stage)) 5 ≡ false → (n : ℕ) → observed n (some c) ≡ observed n (some d)
+unfolding observed letterOf sumOfPrices
+without-observed c d w unfinished n =
+    let bids = c .bids in
+    let counts : fiveCounts (c .roll) ≡ fiveCounts (d .roll) = fun-ext (λ pool. ap (λ (r : List Entry). fiveCounts r pool) (w .roll) ∙ counts-alike bids (d .roll) pool) in
+    let holdings : holding bids (c .roll) ≡ holding (d .bids) (d .roll) =
+        fun-ext (λ m. fun-ext (λ pool. fun-ext (λ price.
+        ap (λ (r : List Entry). holding bids r m pool price) (w .roll)
+        ∙ holdings-alike bids (d .roll) m pool price
+        ∙ ap (λ (bs : List Bid). holding bs (d .roll) m pool price) (sym (w .bids))))) in
+    let held : prices bids (c .roll) ≡ prices (d .bids) (d .roll) =
+        ap (prices bids) (w .roll) ∙ prices-alike bids (d .roll) ∙ ap (λ (bs : List Bid). prices bs (d .roll)) (sym (w .bids)) in
+    λ i. record {
+      answer = n;
+      counts = tab (length (sym (w .pools) i)) (counts i);
+      holdings = holdings i;
+      prices = sumCents (held i);
+      result = (ap (λ (b : Bool). if b then some (resultOf c) else none) unfinished ∙ ap (λ (b : Bool). if b then some (resultOf d) else none) (sym (ap (λ (s : Stage). eqb (letter s) 5) (w .stage) ∙ unfinished))) i;
+    }
+
+-- so that after CLOSE the counts, the holdings and the sum of prices are those of the case without the withdrawn bids
+pub close-observed : (c d : Case) → Without c d → (n : ℕ) → observed n (some (afterClose c)) ≡ observed n (some (afterClose d))
+unfolding letter afterClose
+close-observed c d w = without-observed (afterClose c) (afterClose d) (close-without c d w) refl
