@@ -1,26 +1,29 @@
 -- Document 02, C-14: "CLOSE allots as though a withdrawn bid had not been sent". Assumes nothing.
 use mathlib.Core.Path.{_≡_, refl, sym, ap, _∙_, fun-ext}
-use mathlib.Core.Bool.{Bool, true, false, _&&_, not, false≢true}
+use mathlib.Core.Bool.{Bool, true, false, not, false≢true}
 use mathlib.Core.List.{List, [], _∷_, map}
-use Prim.Native.Nat.{ℕ, zero, suc, _+_, _<_}
+use Prim.Native.Nat.{ℕ, zero, suc, _+_, _≤_, _<_}
 use native.Mathlib.Nat.{zero-add}
+use native.Mathlib.Numerals.{one-add}
 use native.Mathlib.Omega.{arith}
 use lib.Dec.{eqb}
-use lib.ListN.{length, getD, drop, List·getD-map}
-use mathlib.Core.Option.{Option, none, some}
-use Rattle.lists.specs.Lists.{if_then_else_, count, keep, putBack, among, mapFrom, tab}
-use Rattle.lists.proofs.Bools.{and-left}
+use lib.ListN.{length, getD, take, drop, List·getD-map}
+use mathlib.Core.Option.{none, some}
+use borrow.Author.Tests.{eq-eqb}
+use Rattle.lists.specs.Lists.{if_then_else_, oneIf, count, keep, putBack, among, mapFrom, tab}
+use Rattle.lists.proofs.Bools.{cases, and-left}
 use Rattle.lists.proofs.Among.{place, placeIf, at-place}
 use Rattle.lists.proofs.Places.{tab-ext}
 use Rattle.lists.proofs.Counts.{map-changeFirst, count-of-map, count-ext}
-use Rattle.lists.proofs.Each.{each-always}
-use Rattle.auction.specs.Auction.{allot}
+use Rattle.lists.proofs.Each.{Each, each-always, each-at}
 use Rattle.machine.specs.Roll.{UnitState, Open, Sold, Allocated, Moved, Torn, Agreed, Entry, Bid, noBid, withState, kind, isOpen, openIn, giveLowest, openUnits, priceOf, heldBy, prices}
-use Rattle.machine.specs.State.{Stage, After, Case, roundOf, letter, letterOf}
-use Rattle.machine.specs.Run.{fiveCounts, holding, sumOfPrices, Result, resultOf, observed}
+use Rattle.machine.specs.State.{Stage, After, Case, roundOf, letter, letterOf, withBids, withRoll}
+use Rattle.machine.specs.Run.{fiveCounts, holding, sumOfPrices, resultOf, observed}
 use Rattle.auction.specs.Price.{sumCents}
 use Rattle.machine.specs.Wire.{Head}
-use Rattle.machine.specs.Calls.{reserve, inRound, inAuction, wonIn, wonGiven, bidsAfter, sell, afterClose}
+use Rattle.machine.specs.Calls.{inRound, inAuction, wonIn, wonGiven, bidsAfter, sell, afterClose}
+use Rattle.machine.proofs.RollChanges.{soldIs, soldTo}
+use Rattle.machine.proofs.Invariant.{EntryOk, CaseOk}
 use Rattle.machine.proofs.Closing.{given-same}
 
 -- ---- the case without the withdrawn bids
@@ -96,7 +99,7 @@ module _ (f : ℕ → ℕ) where
 
       go : (t : Bool) → b .stands ≡ t → ((k : ℕ) → f (j + k) ≡ i + placeIf t (numberOf bs) k)
           → ((j : ℕ) → ((k : ℕ) → f (j + k) ≡ suc i + numberOf bs k) → (roll : List Entry)
-            → sell round (suc i) bs (map (renumbered f) roll) ≡ map (renumbered f) (sell round j (standing bs) roll))
+          → sell round (suc i) bs (map (renumbered f) roll) ≡ map (renumbered f) (sell round j (standing bs) roll))
           → sell round (suc i) bs (if inRound round b then giveLowest (b .pool) (Sold i) (b .won) (map (renumbered f) roll) else map (renumbered f) roll)
           ≡ map (renumbered f) (sell round j (if t then b ∷ standing bs else standing bs) roll)
       go true e h rest =
@@ -176,7 +179,7 @@ module _ (round : ℕ) (wins : List (List ℕ)) where
 
       go : (t : Bool) → ((pool k : ℕ) → getD (getD wins pool []) (i + placeIf t (numberOf bs) k) 0 ≡ getD (getD without pool []) (j + k) 0)
           → ((j : ℕ) → ((pool k : ℕ) → getD (getD wins pool []) (suc i + numberOf bs k) 0 ≡ getD (getD without pool []) (j + k) 0)
-            → standing (mapFrom (suc i) (wonGiven round wins) bs) ≡ mapFrom j (wonGiven round without) (standing bs))
+          → standing (mapFrom (suc i) (wonGiven round wins) bs) ≡ mapFrom j (wonGiven round without) (standing bs))
           → (if t then wonGiven round wins i b ∷ standing (mapFrom (suc i) (wonGiven round wins) bs) else standing (mapFrom (suc i) (wonGiven round wins) bs))
           ≡ mapFrom j (wonGiven round without) (if t then b ∷ standing bs else standing bs)
       go true h rest =
@@ -295,12 +298,12 @@ without-observed c d w unfinished n =
     let bids = c .bids in
     let counts : fiveCounts (c .roll) ≡ fiveCounts (d .roll) = fun-ext (λ pool. ap (λ (r : List Entry). fiveCounts r pool) (w .roll) ∙ counts-alike bids (d .roll) pool) in
     let holdings : holding bids (c .roll) ≡ holding (d .bids) (d .roll) =
-        fun-ext (λ m. fun-ext (λ pool. fun-ext (λ price.
-        ap (λ (r : List Entry). holding bids r m pool price) (w .roll)
-        ∙ holdings-alike bids (d .roll) m pool price
-        ∙ ap (λ (bs : List Bid). holding bs (d .roll) m pool price) (sym (w .bids))))) in
+    fun-ext (λ m. fun-ext (λ pool. fun-ext (λ price.
+    ap (λ (r : List Entry). holding bids r m pool price) (w .roll)
+    ∙ holdings-alike bids (d .roll) m pool price
+    ∙ ap (λ (bs : List Bid). holding bs (d .roll) m pool price) (sym (w .bids))))) in
     let held : prices bids (c .roll) ≡ prices (d .bids) (d .roll) =
-        ap (prices bids) (w .roll) ∙ prices-alike bids (d .roll) ∙ ap (λ (bs : List Bid). prices bs (d .roll)) (sym (w .bids)) in
+    ap (prices bids) (w .roll) ∙ prices-alike bids (d .roll) ∙ ap (λ (bs : List Bid). prices bs (d .roll)) (sym (w .bids)) in
     λ i. record {
       answer = n;
       counts = tab (length (sym (w .pools) i)) (counts i);
@@ -313,3 +316,64 @@ without-observed c d w unfinished n =
 pub close-observed : (c d : Case) → Without c d → (n : ℕ) → observed n (some (afterClose c)) ≡ observed n (some (afterClose d))
 unfolding letter afterClose
 close-observed c d w = without-observed (afterClose c) (afterClose d) (close-without c d w) refl
+
+-- ---- every case reached has one without its withdrawn bids
+
+-- how many bids before number n stand: its number among those that stand
+abbrev pub numberAmongStanding : List Bid → ℕ → ℕ
+numberAmongStanding bids n = count (λ b. b .stands) (take n bids)
+
+abbrev pub without : Case → Case
+without c = withRoll (withBids c (standing (c .bids))) (map (renumbered (numberAmongStanding (c .bids))) (c .roll))
+
+number-back : (bids : List Bid) (n : ℕ) → n < length bids → getD bids n noBid .stands ≡ true → numberOf bids (numberAmongStanding bids n) ≡ n
+unfolding count oneIf
+number-back [] n l e = absurd (omega arith)
+number-back (b ∷ bs) zero l e = rw e
+number-back (b ∷ bs) (suc n) l e = go (b .stands) (number-back bs n (omega arith) e)
+  where
+    go : (t : Bool) → numberOf bs (numberAmongStanding bs n) ≡ n → placeIf t (numberOf bs) (oneIf t + numberAmongStanding bs n) ≡ suc n
+    go true rest = rw (one-add (numberAmongStanding bs n)) (ap suc rest)
+    go false rest = rw (zero-add (numberAmongStanding bs n)) (ap suc rest)
+
+state-back : (f g : ℕ → ℕ) (s : UnitState) → ((b : ℕ) → s ≡ Sold b → f (g b) ≡ b) → renumberedState f (renumberedState g s) ≡ s
+state-back f g Open h = refl
+state-back f g (Sold b) h = ap (λ (k : ℕ). Sold k) (h b refl)
+state-back f g (Allocated m price) h = refl
+state-back f g (Moved m) h = refl
+state-back f g (Torn price) h = refl
+state-back f g (Agreed m price) h = refl
+
+module _ (c : Case) (ok : CaseOk c) where
+  -- a bid that has an entry won it, and so it stands
+  entry-back : (b : ℕ) → b < length (c .bids) → 1 ≤ getD (c .bids) b noBid .won → numberOf (c .bids) (numberAmongStanding (c .bids) b) ≡ b
+  entry-back b l won =
+      number-back (c .bids) b l
+      (cases (getD (c .bids) b noBid .stands) _ (λ e. e) (λ e. absurd (omega (arith, each-at _ (c .bids) b noBid l (ok .won .withdrawn) e))))
+
+  roll-back : (roll : List Entry) → ((b : ℕ) → count (soldTo b) roll ≤ getD (c .bids) b noBid .won)
+      → Each (λ e. EntryOk (c .head) (c .bids) (e .pool) (e .state)) roll
+      → roll ≡ map (renumbered (numberOf (c .bids))) (map (renumbered (numberAmongStanding (c .bids))) roll)
+  unfolding count oneIf soldIs
+  roll-back [] sold fit = refl
+  roll-back (e ∷ es) sold fit =
+      ap (λ (x : UnitState). withState e x ∷ es) (sym (state-back (numberOf (c .bids)) (numberAmongStanding (c .bids)) (e .state) back))
+      ∙ ap (λ l. renumbered (numberOf (c .bids)) (renumbered (numberAmongStanding (c .bids)) e) ∷ l) (roll-back es (λ b. omega (arith, sold b)) (fit .1))
+    where
+      one : (b : ℕ) → e .state ≡ Sold b → oneIf (soldTo b e) ≡ 1
+      one b is = rw (is, eq-eqb b b refl)
+
+      back : (b : ℕ) → e .state ≡ Sold b → numberOf (c .bids) (numberAmongStanding (c .bids) b) ≡ b
+      back b is = entry-back b ((rw is at (fit .0)) .0) (omega (arith, sold b, one b is))
+
+  pub without-there : Without c (without c)
+  without-there =
+      record {
+        stage = refl;
+        head = refl;
+        pools = refl;
+        members = refl;
+        rounds = refl;
+        bids = refl;
+        roll = roll-back (c .roll) (ok .won .sold) (ok .roll .each);
+      }

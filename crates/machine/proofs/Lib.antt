@@ -24,6 +24,7 @@ pub mod Bounds
 pub mod RollSteps
 pub mod AgreedStay
 pub mod AsThoughNotSent
+pub mod Withdrawing
 pub mod Later
 pub mod Bytes
 pub mod Prices
