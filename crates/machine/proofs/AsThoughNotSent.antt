@@ -195,33 +195,47 @@ in-stands : (round pool : ℕ) (b : Bid) → inAuction round pool b ≡ true →
 unfolding inAuction inRound
 in-stands round pool b e = and-left _ _ (and-left _ _ e)
 
+module _
+    (c d : Case)
+    (head : d .head ≡ c .head)
+    (rounds : d .rounds ≡ c .rounds)
+    (bids : d .bids ≡ standing (c .bids))
+    (units : (pool : ℕ) → openUnits (c .roll) pool ≡ openUnits (d .roll) pool)
+    (round : ℕ)
+  where
+    -- the units won in a pool, at the places of the bids that stand
+    won-alike : (pool k : ℕ) → getD (wonIn c round pool) (numberOf (c .bids) k) 0 ≡ getD (wonIn d round pool) k 0
+    unfolding wonIn among
+    won-alike pool k =
+        let p : Bid → Bool = λ b. b .stands in
+        let q = inAuction round pool in
+        rw (bids, rounds, units pool, kept-alike p q (in-stands round pool) (c .bids)) (put-alike p q (in-stands round pool) (c .bids) _ k)
+
+    bids-alike : standing (bidsAfter c round) ≡ bidsAfter d round
+    unfolding bidsAfter
+    bids-alike =
+        let n = c .head .pools in
+        given-alike round (tab n (wonIn c round)) (tab n (wonIn d round)) 0 0 (c .bids)
+        (λ pool k. rw (zero-add (numberOf (c .bids) k), zero-add k)
+        (table-alike n (wonIn c round) (wonIn d round) (numberOf (c .bids) k) k (λ q. won-alike q k) pool))
+        ∙ ap (λ (bs : List Bid). mapFrom 0 (wonGiven round (tab n (wonIn d round))) bs) (sym bids)
+        ∙ ap (λ (h : Head). mapFrom 0 (wonGiven round (tab (h .pools) (wonIn d round))) (d .bids)) (sym head)
+
+-- the bids that stand are given what they are given where the others are not there
+pub standing-win : (c : Case) (round : ℕ) → standing (bidsAfter c round) ≡ bidsAfter (withBids c (standing (c .bids))) round
+standing-win c round = bids-alike c (withBids c (standing (c .bids))) refl refl refl (λ pool. refl) round
+
 module _ (c d : Case) (w : Without c d) where
-  -- the units won in a pool, at the places of the bids that stand
-  won-alike : (round pool k : ℕ) → getD (wonIn c round pool) (numberOf (c .bids) k) 0 ≡ getD (wonIn d round pool) k 0
-  unfolding wonIn among
-  won-alike round pool k =
-      let p : Bid → Bool = λ b. b .stands in
-      let q = inAuction round pool in
-      rw (w .bids, w .rounds, w .roll, open-alike (numberOf (c .bids)) pool (d .roll), kept-alike p q (in-stands round pool) (c .bids))
-      (put-alike p q (in-stands round pool) (c .bids) _ k)
-
-  bids-alike : (round : ℕ) → standing (bidsAfter c round) ≡ bidsAfter d round
-  unfolding bidsAfter
-  bids-alike round =
-      let n = c .head .pools in
-      given-alike round (tab n (wonIn c round)) (tab n (wonIn d round)) 0 0 (c .bids)
-      (λ pool k. rw (zero-add (numberOf (c .bids) k), zero-add k)
-      (table-alike n (wonIn c round) (wonIn d round) (numberOf (c .bids) k) k (λ q. won-alike round q k) pool))
-      ∙ ap (λ (bs : List Bid). mapFrom 0 (wonGiven round (tab n (wonIn d round))) bs) (sym (w .bids))
-      ∙ ap (λ (h : Head). mapFrom 0 (wonGiven round (tab (h .pools) (wonIn d round))) (d .bids)) (sym (w .head))
-
   -- "CLOSE allots as though a withdrawn bid had not been sent"
   pub close-without : Without (afterClose c) (afterClose d)
   unfolding afterClose bidsAfter
   close-without =
       let round = roundOf (c .stage) in
       let bids = bidsAfter c round in
-      let after : bidsAfter d (roundOf (d .stage)) ≡ standing bids = ap (λ (s : Stage). bidsAfter d (roundOf s)) (w .stage) ∙ sym (bids-alike round) in
+      let same =
+      bids-alike c d (w .head) (w .rounds) (w .bids)
+      (λ pool. ap (λ (r : List Entry). openUnits r pool) (w .roll) ∙ open-alike (numberOf (c .bids)) pool (d .roll)) round in
+      let after : bidsAfter d (roundOf (d .stage)) ≡ standing bids = ap (λ (s : Stage). bidsAfter d (roundOf s)) (w .stage) ∙ sym same in
       let numbers : numberOf bids ≡ numberOf (c .bids) = fun-ext (same-numbers round (tab (c .head .pools) (wonIn c round)) 0 (c .bids)) in
       record {
         stage = ap (λ (s : Stage). After (roundOf s)) (w .stage);
