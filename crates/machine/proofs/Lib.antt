@@ -6,6 +6,7 @@ pub mod WorkedRanks
 pub mod WorkedStages
 pub mod WorkedRanges
 pub mod WorkedSales
+pub mod WorkedWithdrawals
 pub mod Answers
 pub mod Tables
 pub mod RollChanges
