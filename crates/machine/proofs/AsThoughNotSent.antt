@@ -28,10 +28,10 @@ use Rattle.machine.proofs.Closing.{given-same}
 
 -- ---- the case without the withdrawn bids
 
-abbrev pub standing : List Bid → List Bid
-standing bids = keep (λ b. b .stands) bids
+abbrev pub standingBids : List Bid → List Bid
+standingBids bids = keep (λ b. b .stands) bids
 
--- the number that the j-th of the standing bids has among all bids
+-- the number that the j-th of the standingBids bids has among all bids
 abbrev pub numberOf : List Bid → ℕ → ℕ
 numberOf bids j = place (λ b. b .stands) bids j
 
@@ -54,7 +54,7 @@ pub record Without (c d : Case) : Type 0 where
   pub pools : d .pools ≡ c .pools
   pub members : d .members ≡ c .members
   pub rounds : d .rounds ≡ c .rounds
-  pub bids : d .bids ≡ standing (c .bids)
+  pub bids : d .bids ≡ standingBids (c .bids)
   pub roll : c .roll ≡ map (renumbered (numberOf (c .bids))) (d .roll)
 
 -- ---- entries
@@ -86,7 +86,7 @@ module _ (f : ℕ → ℕ) where
 
   -- what CLOSE sells, where f gives the number in the longer list to each number in the shorter
   sell-alike : (round i j : ℕ) (bs : List Bid) → ((k : ℕ) → f (j + k) ≡ i + numberOf bs k) → (roll : List Entry)
-      → sell round i bs (map (renumbered f) roll) ≡ map (renumbered f) (sell round j (standing bs) roll)
+      → sell round i bs (map (renumbered f) roll) ≡ map (renumbered f) (sell round j (standingBids bs) roll)
   unfolding sell keep inRound
   sell-alike round i j [] h roll = refl
   sell-alike round i j (b ∷ bs) h roll = go (b .stands) refl h (λ j h roll. sell-alike round (suc i) j bs h roll)
@@ -99,9 +99,9 @@ module _ (f : ℕ → ℕ) where
 
       go : (t : Bool) → b .stands ≡ t → ((k : ℕ) → f (j + k) ≡ i + placeIf t (numberOf bs) k)
           → ((j : ℕ) → ((k : ℕ) → f (j + k) ≡ suc i + numberOf bs k) → (roll : List Entry)
-          → sell round (suc i) bs (map (renumbered f) roll) ≡ map (renumbered f) (sell round j (standing bs) roll))
+          → sell round (suc i) bs (map (renumbered f) roll) ≡ map (renumbered f) (sell round j (standingBids bs) roll))
           → sell round (suc i) bs (if inRound round b then giveLowest (b .pool) (Sold i) (b .won) (map (renumbered f) roll) else map (renumbered f) roll)
-          ≡ map (renumbered f) (sell round j (if t then b ∷ standing bs else standing bs) roll)
+          ≡ map (renumbered f) (sell round j (if t then b ∷ standingBids bs else standingBids bs) roll)
       go true e h rest =
           ap (sell round (suc i) bs) (given (inRound round b) (ap f (omega arith) ∙ h 0 ∙ omega arith))
           ∙ rest (suc j) (λ k. ap f (omega arith) ∙ h (suc k) ∙ omega arith) (if inRound round b then giveLowest (b .pool) (Sold j) (b .won) roll else roll)
@@ -152,7 +152,7 @@ module _ (round : ℕ) (wins : List (List ℕ)) where
   same-stands : (i : ℕ) (b : Bid) → wonGiven round wins i b .stands ≡ b .stands
   same-stands = given-same round wins (λ b. b .stands) (λ b v. refl)
 
-  -- the numbers of the standing bids stay
+  -- the numbers of the standingBids bids stay
   same-numbers : (i : ℕ) (bs : List Bid) (k : ℕ) → numberOf (mapFrom i (wonGiven round wins) bs) k ≡ numberOf bs k
   unfolding mapFrom
   same-numbers i [] k = refl
@@ -164,9 +164,9 @@ module _ (round : ℕ) (wins : List (List ℕ)) where
       go true (suc k) rest = ap suc (rest k)
       go false k rest = ap suc (rest k)
 
-  -- the bids given what two tables say, where the second says of the standing bids what the first says of them
+  -- the bids given what two tables say, where the second says of the standingBids bids what the first says of them
   given-alike : (without : List (List ℕ)) (i j : ℕ) (bs : List Bid) → ((pool k : ℕ) → getD (getD wins pool []) (i + numberOf bs k) 0 ≡ getD (getD without pool []) (j + k) 0)
-      → standing (mapFrom i (wonGiven round wins) bs) ≡ mapFrom j (wonGiven round without) (standing bs)
+      → standingBids (mapFrom i (wonGiven round wins) bs) ≡ mapFrom j (wonGiven round without) (standingBids bs)
   unfolding mapFrom keep wonGiven
   given-alike without i j [] h = refl
   given-alike without i j (b ∷ bs) h = rw (same-stands i b) (go (b .stands) h (λ j h. given-alike without (suc i) j bs h))
@@ -179,9 +179,9 @@ module _ (round : ℕ) (wins : List (List ℕ)) where
 
       go : (t : Bool) → ((pool k : ℕ) → getD (getD wins pool []) (i + placeIf t (numberOf bs) k) 0 ≡ getD (getD without pool []) (j + k) 0)
           → ((j : ℕ) → ((pool k : ℕ) → getD (getD wins pool []) (suc i + numberOf bs k) 0 ≡ getD (getD without pool []) (j + k) 0)
-          → standing (mapFrom (suc i) (wonGiven round wins) bs) ≡ mapFrom j (wonGiven round without) (standing bs))
-          → (if t then wonGiven round wins i b ∷ standing (mapFrom (suc i) (wonGiven round wins) bs) else standing (mapFrom (suc i) (wonGiven round wins) bs))
-          ≡ mapFrom j (wonGiven round without) (if t then b ∷ standing bs else standing bs)
+          → standingBids (mapFrom (suc i) (wonGiven round wins) bs) ≡ mapFrom j (wonGiven round without) (standingBids bs))
+          → (if t then wonGiven round wins i b ∷ standingBids (mapFrom (suc i) (wonGiven round wins) bs) else standingBids (mapFrom (suc i) (wonGiven round wins) bs))
+          ≡ mapFrom j (wonGiven round without) (if t then b ∷ standingBids bs else standingBids bs)
       go true h rest =
           cc (
             won (at wins (b .pool) (omega arith) ∙ h (b .pool) 0 ∙ at without (b .pool) (omega arith)),
@@ -199,7 +199,7 @@ module _
     (c d : Case)
     (head : d .head ≡ c .head)
     (rounds : d .rounds ≡ c .rounds)
-    (bids : d .bids ≡ standing (c .bids))
+    (bids : d .bids ≡ standingBids (c .bids))
     (units : (pool : ℕ) → openUnits (c .roll) pool ≡ openUnits (d .roll) pool)
     (round : ℕ)
   where
@@ -211,7 +211,7 @@ module _
         let q = inAuction round pool in
         rw (bids, rounds, units pool, kept-alike p q (in-stands round pool) (c .bids)) (put-alike p q (in-stands round pool) (c .bids) _ k)
 
-    bids-alike : standing (bidsAfter c round) ≡ bidsAfter d round
+    bids-alike : standingBids (bidsAfter c round) ≡ bidsAfter d round
     unfolding bidsAfter
     bids-alike =
         let n = c .head .pools in
@@ -222,8 +222,8 @@ module _
         ∙ ap (λ (h : Head). mapFrom 0 (wonGiven round (tab (h .pools) (wonIn d round))) (d .bids)) (sym head)
 
 -- the bids that stand are given what they are given where the others are not there
-pub standing-win : (c : Case) (round : ℕ) → standing (bidsAfter c round) ≡ bidsAfter (withBids c (standing (c .bids))) round
-standing-win c round = bids-alike c (withBids c (standing (c .bids))) refl refl refl (λ pool. refl) round
+pub standing-win : (c : Case) (round : ℕ) → standingBids (bidsAfter c round) ≡ bidsAfter (withBids c (standingBids (c .bids))) round
+standing-win c round = bids-alike c (withBids c (standingBids (c .bids))) refl refl refl (λ pool. refl) round
 
 module _ (c d : Case) (w : Without c d) where
   -- "CLOSE allots as though a withdrawn bid had not been sent"
@@ -235,7 +235,7 @@ module _ (c d : Case) (w : Without c d) where
       let same =
       bids-alike c d (w .head) (w .rounds) (w .bids)
       (λ pool. ap (λ (r : List Entry). openUnits r pool) (w .roll) ∙ open-alike (numberOf (c .bids)) pool (d .roll)) round in
-      let after : bidsAfter d (roundOf (d .stage)) ≡ standing bids = ap (λ (s : Stage). bidsAfter d (roundOf s)) (w .stage) ∙ sym same in
+      let after : bidsAfter d (roundOf (d .stage)) ≡ standingBids bids = ap (λ (s : Stage). bidsAfter d (roundOf s)) (w .stage) ∙ sym same in
       let numbers : numberOf bids ≡ numberOf (c .bids) = fun-ext (same-numbers round (tab (c .head .pools) (wonIn c round)) 0 (c .bids)) in
       record {
         stage = ap (λ (s : Stage). After (roundOf s)) (w .stage);
@@ -259,12 +259,12 @@ module _ (bids : List Bid) where
   f = numberOf bids
 
   -- a number means the same bid
-  bid-alike : (j : ℕ) → getD bids (f j) noBid ≡ getD (standing bids) j noBid
+  bid-alike : (j : ℕ) → getD bids (f j) noBid ≡ getD (standingBids bids) j noBid
   bid-alike j =
       let own : Bid → Bid = λ b. b in
-      sym (List·getD-map own bids (f j) noBid) ∙ at-place (λ b. b .stands) noBid own own (λ b e. refl) bids j ∙ List·getD-map own (standing bids) j noBid
+      sym (List·getD-map own bids (f j) noBid) ∙ at-place (λ b. b .stands) noBid own own (λ b e. refl) bids j ∙ List·getD-map own (standingBids bids) j noBid
 
-  price-alike : (s : UnitState) → priceOf bids (renumberedState f s) ≡ priceOf (standing bids) s
+  price-alike : (s : UnitState) → priceOf bids (renumberedState f s) ≡ priceOf (standingBids bids) s
   unfolding priceOf
   price-alike Open = refl
   price-alike (Sold j) = ap (λ (b : Bid). b .price) (bid-alike j)
@@ -273,7 +273,7 @@ module _ (bids : List Bid) where
   price-alike (Torn price) = refl
   price-alike (Agreed m price) = refl
 
-  held-alike : (m : ℕ) (s : UnitState) → heldBy bids m (renumberedState f s) ≡ heldBy (standing bids) m s
+  held-alike : (m : ℕ) (s : UnitState) → heldBy bids m (renumberedState f s) ≡ heldBy (standingBids bids) m s
   unfolding heldBy
   held-alike m Open = refl
   held-alike m (Sold j) = ap (λ (b : Bid). eqb (b .member) m) (bid-alike j)
@@ -290,18 +290,18 @@ module _ (bids : List Bid) where
     unfolding fiveCounts
     counts-alike pool = tab-ext 5 _ _ (λ k l. count-alike _ _ (λ e. rw (same-kind f (e .state))))
 
-    holdings-alike : (m pool price : ℕ) → holding bids (map (renumbered f) roll) m pool price ≡ holding (standing bids) roll m pool price
+    holdings-alike : (m pool price : ℕ) → holding bids (map (renumbered f) roll) m pool price ≡ holding (standingBids bids) roll m pool price
     unfolding holding
     holdings-alike m pool price = count-alike _ _ (λ e. rw (held-alike m (e .state), price-alike (e .state)))
 
-  prices-alike : (roll : List Entry) → prices bids (map (renumbered f) roll) ≡ prices (standing bids) roll
+  prices-alike : (roll : List Entry) → prices bids (map (renumbered f) roll) ≡ prices (standingBids bids) roll
   unfolding prices keep isOpen
   prices-alike [] = refl
   prices-alike (e ∷ es) = rw (same-kind f (e .state)) (go (not (eqb (kind (e .state)) 0)) (prices-alike es))
     where
-      go : (t : Bool) → prices bids (map (renumbered f) es) ≡ prices (standing bids) es
+      go : (t : Bool) → prices bids (map (renumbered f) es) ≡ prices (standingBids bids) es
           → map (λ x. priceOf bids (x .state)) (if t then renumbered f e ∷ keep (λ x. not (isOpen x)) (map (renumbered f) es) else keep (λ x. not (isOpen x)) (map (renumbered f) es))
-          ≡ map (λ x. priceOf (standing bids) (x .state)) (if t then e ∷ keep (λ x. not (isOpen x)) es else keep (λ x. not (isOpen x)) es)
+          ≡ map (λ x. priceOf (standingBids bids) (x .state)) (if t then e ∷ keep (λ x. not (isOpen x)) es else keep (λ x. not (isOpen x)) es)
       go true rest = cc (price-alike (e .state))
       go false rest = rest
 
@@ -338,7 +338,7 @@ abbrev pub numberAmongStanding : List Bid → ℕ → ℕ
 numberAmongStanding bids n = count (λ b. b .stands) (take n bids)
 
 abbrev pub without : Case → Case
-without c = withRoll (withBids c (standing (c .bids))) (map (renumbered (numberAmongStanding (c .bids))) (c .roll))
+without c = withRoll (withBids c (standingBids (c .bids))) (map (renumbered (numberAmongStanding (c .bids))) (c .roll))
 
 number-back : (bids : List Bid) (n : ℕ) → n < length bids → getD bids n noBid .stands ≡ true → numberOf bids (numberAmongStanding bids n) ≡ n
 unfolding count oneIf

@@ -104,7 +104,11 @@ module _ (s : State) (bytes : List ℕ) where
       → keep (λ e. isAgreed (e .state)) (S.rollOf (step s bytes .state)) ≡ keep (λ e. isAgreed (e .state)) (S.rollOf s)
   agreed-kept = G.agreed-kept s bytes
 
-  -- document 02, C-14: a bid that does not stand stays as it is, at its number
+  -- document 02, C-14: every bid stays at its number, with the fields that were sent
+  pub numbers-kept : (n : ℕ) → n < length (D.bidsOf s) → (n < length (D.bidsOf (step s bytes .state))) × (D.sent (D.bidAt (step s bytes .state) n) ≡ D.sent (D.bidAt s n))
+  numbers-kept = D.numbers-kept s bytes
+
+  -- and one that does not stand stays as it is
   pub withdrawn-stay : (n : ℕ) → n < length (D.bidsOf s) → D.bidAt s n .stands ≡ false → D.bidAt (step s bytes .state) n ≡ D.bidAt s n
   withdrawn-stay = D.withdrawn-stay s bytes
 
@@ -127,7 +131,7 @@ module _ (s : State) (bytes : List ℕ) (m n : ℕ) (is : decode bytes ≡ some 
   withdraw-counts = D.withdraw-counts s bytes m n is taken
 
   -- the bids that stand are those of the list without this one
-  pub withdraw-drops : N.standing (D.bidsOf (step s bytes .state)) ≡ N.standing (take n (D.bidsOf s) ++ drop (suc n) (D.bidsOf s))
+  pub withdraw-drops : N.standingBids (D.bidsOf (step s bytes .state)) ≡ N.standingBids (take n (D.bidsOf s) ++ drop (suc n) (D.bidsOf s))
   withdraw-drops = D.withdraw-drops s bytes m n is taken
 
   -- a bid sent again stands behind all others, with a number of its own, which is how many bids there were
@@ -154,7 +158,7 @@ module _ (s : State) (bytes : List ℕ) (m n : ℕ) (is : decode bytes ≡ some 
 -- ---- C-14: "CLOSE allots as though a withdrawn bid had not been sent", of any case
 
 -- the bids that stand win what they win where the others are not in the list
-pub standing-win : (c : Case) (round : ℕ) → N.standing (bidsAfter c round) ≡ bidsAfter (withBids c (N.standing (c .bids))) round
+pub standing-win : (c : Case) (round : ℕ) → N.standingBids (bidsAfter c round) ≡ bidsAfter (withBids c (N.standingBids (c .bids))) round
 standing-win = N.standing-win
 
 -- d is c without its withdrawn bids, the others numbered from 0 again: then it is so after CLOSE, each entry sold to the same bid

@@ -11,11 +11,11 @@ use lib.ListN.{length, getD, set, take, drop, length-set, length-append, List·g
 use lib.Seq.{getD-set-same, getD-set-other, getD-at}
 use borrow.Author.Tests.{not-false, eqb-true}
 use Rattle.lists.specs.Lists.{if_then_else_, keep, tab}
-use Rattle.lists.proofs.Bools.{and-left, and-right, lt-or-le}
+use Rattle.lists.proofs.Bools.{by-test, and-left, and-right, lt-or-le}
 use Rattle.lists.proofs.Each.{set-cases, getD-mapFrom, length-mapFrom}
 use Rattle.lists.specs.Tests.{firstOf, Passed}
 use Rattle.machine.specs.Wire.{Call, HEAD, POOL, MEMBER, ROUND, BID, CLOSE, ALLOCATE, TEAR, CALL, PAY, MOVE, MISS, FINISH, SALE, WITHDRAW, decode}
-use Rattle.machine.specs.Roll.{Bid, noBid, withdrawn}
+use Rattle.machine.specs.Roll.{Bid, noBid, withWon, withdrawn}
 use Rattle.machine.specs.State.{State, theCase, letterOf, isB, inSet, roundOf, withBids}
 use Rattle.machine.specs.Calls.{newBid, inRound, wonIn, wonGiven, bidsAfter, accepted}
 use Rattle.machine.specs.Calls.{afterPool, afterMember, afterRound, afterBid, afterClose, afterAllocate, afterTear, afterCall, afterPay, afterMove, afterMiss, afterSale, afterWithdraw}
@@ -24,7 +24,7 @@ use Rattle.machine.specs.Machine.{step}
 use Rattle.machine.specs.Run.{runFrom}
 use Rattle.machine.proofs.Answers.{accepted-passed, call-answer, call-accepted, step-cases}
 use Rattle.machine.proofs.Stages.{letter-some}
-use Rattle.machine.proofs.AsThoughNotSent.{standing}
+use Rattle.machine.proofs.AsThoughNotSent.{standingBids}
 
 abbrev pub bidsOf : State → List Bid
 bidsOf s = theCase s .bids
@@ -36,7 +36,7 @@ bidAt s n = getD (bidsOf s) n noBid
 -- ---- one WITHDRAW
 
 -- the bids that stand, where one is marked
-drops : (bids : List Bid) (n : ℕ) → standing (set bids n (withdrawn (getD bids n noBid))) ≡ standing (take n bids ++ drop (suc n) bids)
+drops : (bids : List Bid) (n : ℕ) → standingBids (set bids n (withdrawn (getD bids n noBid))) ≡ standingBids (take n bids ++ drop (suc n) bids)
 unfolding keep
 drops [] zero = refl
 drops [] (suc n) = refl
@@ -106,65 +106,82 @@ module _ (s : State) (bytes : List ℕ) (m n : ℕ) (is : decode bytes ≡ some 
       (length-set (bidsOf s) n (withdrawn (bidAt s n))))
 
   -- the bids that stand are those that stood, but for this one
-  pub withdraw-drops : standing (bidsOf (step s bytes .state)) ≡ standing (take n (bidsOf s) ++ drop (suc n) (bidsOf s))
+  pub withdraw-drops : standingBids (bidsOf (step s bytes .state)) ≡ standingBids (take n (bidsOf s) ++ drop (suc n) (bidsOf s))
   withdraw-drops = rw after (drops (bidsOf s) n)
 
 -- ---- any calls
 
--- a bid that does not stand, marked again
-mark-again : (b : Bid) → b .stands ≡ false → withdrawn b ≡ b
-mark-again b out =
-    ap (λ (x : Bool). record { round = b .round; pool = b .pool; member = b .member; units = b .units; price = b .price; won = b .won; stands = x }) (sym out)
+-- what every change of a bid keeps: CLOSE gives units to a bid that stands, WITHDRAW marks one
+module _
+    (P : Bid → Bid → Type 0)
+    (same : (b : Bid) → P b b)
+    (won : (round v : ℕ) (b : Bid) → inRound round b ≡ true → P b (withWon b v))
+    (marked : (b : Bid) → P b (withdrawn b))
+  where
+    -- bid n is there and has become one that P allows
+    abbrev Kept : State → ℕ → List Bid → Type 0
+    Kept s n bids = (n < length bids) × P (bidAt s n) (getD bids n noBid)
 
--- bid n of the list is there and is b
-abbrev Here : List Bid → ℕ → Bid → Type 0
-Here bids n b = (n < length bids) × (getD bids n noBid ≡ b)
+    kept-call : (s : State) (call : Call) → Passed (tests s (theCase s) call) → (n : ℕ) → n < length (bidsOf s) → Kept s n (accepted (theCase s) call .bids)
+    unfolding accepted afterPool afterMember afterRound afterBid afterClose bidsAfter wonGiven afterAllocate afterTear afterCall afterPay afterMove afterMiss afterSale afterWithdraw tests letterOf
+    kept-call none (HEAD h) t n l = absurd (omega arith)
+    kept-call (some c) (HEAD h) t n l = absurd (false≢true (sym (letter-some (c .stage)) ∙ not-false _ (t .0)))
+    kept-call s (POOL pool units mark) t n l = (l, same (bidAt s n))
+    kept-call s (MEMBER m contribution expected) t n l = (l, same (bidAt s n))
+    kept-call s (ROUND reserves) t n l = (l, same (bidAt s n))
+    kept-call s (BID pool m units price) t n l =
+        let more = newBid (roundOf (theCase s .stage)) pool m units price ∷ [] in
+        (omega (arith, length-append (bidsOf s) more), rw (List·getD-append (bidsOf s) more noBid n l) (same (bidAt s n)))
+    kept-call s CLOSE t n l =
+        let c = theCase s in
+        let round = roundOf (c .stage) in
+        let given = wonGiven round (tab (c .head .pools) (wonIn c round)) in (
+          omega (arith, length-mapFrom given 0 (c .bids)),
+          rw (getD-mapFrom given 0 (c .bids) n noBid l) (by-test (P (bidAt s n)) (inRound round (bidAt s n)) (won round _ (bidAt s n)) (λ out. same (bidAt s n))),
+        )
+    kept-call s (ALLOCATE pool price) t n l = (l, same (bidAt s n))
+    kept-call s (TEAR pool price) t n l = (l, same (bidAt s n))
+    kept-call s CALL t n l = (l, same (bidAt s n))
+    kept-call s (PAY m amount) t n l = (l, same (bidAt s n))
+    kept-call s (MOVE m) t n l = (l, same (bidAt s n))
+    kept-call s (MISS m price) t n l = (l, same (bidAt s n))
+    kept-call s FINISH t n l = (l, same (bidAt s n))
+    kept-call s (SALE pool m price) t n l = (l, same (bidAt s n))
+    kept-call s (WITHDRAW m k) t n l =
+        let b = withdrawn (bidAt s k) in (
+          omega (arith, length-set (bidsOf s) k b),
+          set-cases (P (bidAt s n)) (bidsOf s) k b noBid n (λ e. rw (sym e) (marked (bidAt s n))) (same (bidAt s n)),
+        )
 
--- an accepted call leaves a bid that does not stand as it is
-stay-call : (s : State) (call : Call) → Passed (tests s (theCase s) call) → (n : ℕ) → n < length (bidsOf s) → bidAt s n .stands ≡ false
-    → Here (accepted (theCase s) call .bids) n (bidAt s n)
-unfolding accepted afterPool afterMember afterRound afterBid afterClose bidsAfter wonGiven inRound afterAllocate afterTear afterCall afterPay afterMove afterMiss afterSale afterWithdraw tests letterOf
-stay-call none (HEAD h) t n l out = (l, refl)
-stay-call (some c) (HEAD h) t n l out = absurd (false≢true (sym (letter-some (c .stage)) ∙ not-false _ (t .0)))
-stay-call s (POOL pool units mark) t n l out = (l, refl)
-stay-call s (MEMBER m contribution expected) t n l out = (l, refl)
-stay-call s (ROUND reserves) t n l out = (l, refl)
-stay-call s (BID pool m units price) t n l out =
-    let more = newBid (roundOf (theCase s .stage)) pool m units price ∷ [] in
-    (omega (arith, length-append (bidsOf s) more), List·getD-append (bidsOf s) more noBid n l)
-stay-call s CLOSE t n l out =
-    let c = theCase s in
-    let round = roundOf (c .stage) in
-    let given = wonGiven round (tab (c .head .pools) (wonIn c round)) in
-    (omega (arith, length-mapFrom given 0 (c .bids)), getD-mapFrom given 0 (c .bids) n noBid l ∙ rw out)
-stay-call s (ALLOCATE pool price) t n l out = (l, refl)
-stay-call s (TEAR pool price) t n l out = (l, refl)
-stay-call s CALL t n l out = (l, refl)
-stay-call s (PAY m amount) t n l out = (l, refl)
-stay-call s (MOVE m) t n l out = (l, refl)
-stay-call s (MISS m price) t n l out = (l, refl)
-stay-call s FINISH t n l out = (l, refl)
-stay-call s (SALE pool m price) t n l out = (l, refl)
-stay-call s (WITHDRAW m k) t n l out =
-    let b = withdrawn (bidAt s k) in (
-      omega (arith, length-set (bidsOf s) k b),
-      set-cases (λ x. x ≡ bidAt s n) (bidsOf s) k b noBid n (λ e. ap (λ (j : ℕ). withdrawn (bidAt s j)) (sym e) ∙ mark-again (bidAt s n) out) refl,
-    )
+    -- any bytes, in any state
+    kept-step : (s : State) (bytes : List ℕ) (n : ℕ) → n < length (bidsOf s) → Kept s n (bidsOf (step s bytes .state))
+    kept-step s bytes n l = step-cases (λ k next. Kept s n (bidsOf next)) s bytes (λ k h. (l, same (bidAt s n))) (λ call e t. kept-call s call t n l)
 
--- any bytes, in any state
-stay-step : (s : State) (bytes : List ℕ) (n : ℕ) → n < length (bidsOf s) → bidAt s n .stands ≡ false → Here (bidsOf (step s bytes .state)) n (bidAt s n)
-stay-step s bytes n l out =
-    step-cases (λ k next. Here (bidsOf next) n (bidAt s n)) s bytes (λ k h. (l, refl)) (λ call e t. stay-call s call t n l out)
+-- the fields of a BID, and its round
+abbrev pub sent : Bid → List ℕ
+sent b = b .round ∷ b .pool ∷ b .member ∷ b .units ∷ b .price ∷ []
 
+-- every bid stays at its number, with these fields
+pub numbers-kept : (s : State) (bytes : List ℕ) (n : ℕ) → n < length (bidsOf s)
+    → (n < length (bidsOf (step s bytes .state))) × (sent (bidAt (step s bytes .state) n) ≡ sent (bidAt s n))
+numbers-kept = kept-step (λ b new. sent new ≡ sent b) (λ b. refl) (λ round v b e. refl) (λ b. refl)
+
+-- and one that does not stand stays as it is
 pub withdrawn-stay : (s : State) (bytes : List ℕ) (n : ℕ) → n < length (bidsOf s) → bidAt s n .stands ≡ false → bidAt (step s bytes .state) n ≡ bidAt s n
-withdrawn-stay s bytes n l out = stay-step s bytes n l out .1
+unfolding inRound
+withdrawn-stay s bytes n l =
+    kept-step (λ b new. b .stands ≡ false → new ≡ b) (λ b out. refl) (λ round v b e out. absurd (false≢true (sym out ∙ and-left _ _ e))) mark-again s bytes n l .1
+  where
+    mark-again : (b : Bid) → b .stands ≡ false → withdrawn b ≡ b
+    mark-again b out =
+        ap (λ (x : Bool). record { round = b .round; pool = b .pool; member = b .member; units = b .units; price = b .price; won = b .won; stands = x }) (sym out)
 
 stay-run : (s : State) (calls : List (List ℕ)) (n : ℕ) → n < length (bidsOf s) → bidAt s n .stands ≡ false → bidAt (runFrom s calls) n ≡ bidAt s n
 unfolding runFrom
 stay-run s [] n l out = refl
 stay-run s (bytes ∷ calls) n l out =
-    let next = stay-step s bytes n l out in
-    stay-run (step s bytes .state) calls n (next .0) (ap (λ (b : Bid). b .stands) (next .1) ∙ out) ∙ next .1
+    let same = withdrawn-stay s bytes n l out in
+    stay-run (step s bytes .state) calls n (numbers-kept s bytes n l .0) (ap (λ (b : Bid). b .stands) same ∙ out) ∙ same
 
 -- the answer to a WITHDRAW of a bid that does not stand
 out-answer : (s : State) (m n : ℕ) → bidAt s n .stands ≡ false → refusal s (WITHDRAW m n) ≡ (if isB s then (if inSet (theCase s .head) m then 18 else 4) else 2)
