@@ -1,27 +1,28 @@
 -- Document 02, C-14: "CLOSE allots as though a withdrawn bid had not been sent". Assumes nothing.
 use mathlib.Core.Path.{_≡_, refl, sym, ap, _∙_, fun-ext}
-use mathlib.Core.Bool.{Bool, true, false, not, false≢true}
+use mathlib.Core.Bool.{Bool, true, false, _&&_, not, false≢true}
 use mathlib.Core.List.{List, [], _∷_, map}
+use mathlib.Core.Option.{none, some}
 use Prim.Native.Nat.{ℕ, zero, suc, _+_, _≤_, _<_}
 use native.Mathlib.Nat.{zero-add}
 use native.Mathlib.Numerals.{one-add}
 use native.Mathlib.Omega.{arith}
 use lib.Dec.{eqb}
 use lib.ListN.{length, getD, take, drop, List·getD-map}
-use mathlib.Core.Option.{none, some}
 use borrow.Author.Tests.{eq-eqb}
 use Rattle.lists.specs.Lists.{if_then_else_, oneIf, count, keep, putBack, among, mapFrom, tab}
 use Rattle.lists.proofs.Bools.{cases, and-left}
+use Rattle.lists.proofs.Keep.{keep-and, keep-ext}
 use Rattle.lists.proofs.Among.{place, placeIf, at-place}
 use Rattle.lists.proofs.Places.{tab-ext}
 use Rattle.lists.proofs.Counts.{map-changeFirst, count-of-map, count-ext}
 use Rattle.lists.proofs.Each.{Each, each-always, each-at}
-use Rattle.machine.specs.Roll.{UnitState, Open, Sold, Allocated, Moved, Torn, Agreed, Entry, Bid, noBid, withState, kind, isOpen, openIn, giveLowest, openUnits, priceOf, heldBy, prices}
-use Rattle.machine.specs.State.{Stage, After, Case, roundOf, letter, letterOf, withBids, withRoll}
-use Rattle.machine.specs.Run.{fiveCounts, holding, sumOfPrices, resultOf, observed}
 use Rattle.auction.specs.Price.{sumCents}
 use Rattle.machine.specs.Wire.{Head}
+use Rattle.machine.specs.Roll.{UnitState, Open, Sold, Allocated, Moved, Torn, Agreed, Entry, Bid, noBid, withState, kind, isOpen, openIn, giveLowest, openUnits, priceOf, heldBy, prices}
+use Rattle.machine.specs.State.{Stage, After, Case, roundOf, letter, letterOf, withBids, withRoll}
 use Rattle.machine.specs.Calls.{inRound, inAuction, wonIn, wonGiven, bidsAfter, sell, afterClose}
+use Rattle.machine.specs.Run.{fiveCounts, holding, sumOfPrices, resultOf, observed}
 use Rattle.machine.proofs.RollChanges.{soldIs, soldTo}
 use Rattle.machine.proofs.Invariant.{EntryOk, CaseOk}
 use Rattle.machine.proofs.Closing.{given-same}
@@ -31,7 +32,7 @@ use Rattle.machine.proofs.Closing.{given-same}
 abbrev pub standingBids : List Bid → List Bid
 standingBids bids = keep (λ b. b .stands) bids
 
--- the number that the j-th of the standingBids bids has among all bids
+-- the number that the j-th of the bids that stand has among all bids
 abbrev pub numberOf : List Bid → ℕ → ℕ
 numberOf bids j = place (λ b. b .stands) bids j
 
@@ -73,10 +74,12 @@ module _ (f : ℕ → ℕ) where
   unfolding openIn isOpen
   same-open pool e = rw (same-kind (e .state))
 
+  count-alike : (p q : Entry → Bool) → ((e : Entry) → p (renumbered f e) ≡ q e) → (roll : List Entry) → count p (map (renumbered f) roll) ≡ count q roll
+  count-alike p q h roll = count-of-map p (renumbered f) roll ∙ count-ext (λ e. p (renumbered f e)) q roll (each-always _ h roll)
+
   open-alike : (pool : ℕ) (roll : List Entry) → openUnits (map (renumbered f) roll) pool ≡ openUnits roll pool
   unfolding openUnits
-  open-alike pool roll =
-      count-of-map (openIn pool) (renumbered f) roll ∙ count-ext (λ e. openIn pool (renumbered f e)) (openIn pool) roll (each-always _ (same-open pool) roll)
+  open-alike pool roll = count-alike (openIn pool) (openIn pool) (same-open pool) roll
 
   give-alike : (pool i j n : ℕ) → f j ≡ i → (roll : List Entry)
       → giveLowest pool (Sold i) n (map (renumbered f) roll) ≡ map (renumbered f) (giveLowest pool (Sold j) n roll)
@@ -112,16 +115,12 @@ module _ (f : ℕ → ℕ) where
 module _ (p q : Bid → Bool) (within : (b : Bid) → q b ≡ true → p b ≡ true) where
   -- a test that passes only where another does keeps the same of those that the other keeps
   kept-alike : (bs : List Bid) → keep q (keep p bs) ≡ keep q bs
-  unfolding keep
-  kept-alike [] = refl
-  kept-alike (b ∷ bs) = go (p b) (q b) refl refl (kept-alike bs)
+  kept-alike bs = sym (keep-and p q bs) ∙ keep-ext (λ b. p b && q b) q bs (λ b. both (p b) (q b) (within b))
     where
-      go : (t u : Bool) → p b ≡ t → q b ≡ u → keep q (keep p bs) ≡ keep q bs
-          → keep q (if t then b ∷ keep p bs else keep p bs) ≡ (if u then b ∷ keep q bs else keep q bs)
-      go true true e f rest = rw f (ap (λ l. b ∷ l) rest)
-      go true false e f rest = rw f rest
-      go false true e f rest = absurd (false≢true (sym e ∙ within b f))
-      go false false e f rest = rest
+      both : (t u : Bool) → (u ≡ true → t ≡ true) → (t && u) ≡ u
+      both true u h = refl
+      both false true h = absurd (false≢true (h refl))
+      both false false h = refl
 
   -- and what is put back at the places of those is what is put back among all
   put-alike : (bs : List Bid) (ys : List ℕ) (k : ℕ) → getD (putBack q bs ys) (place p bs k) 0 ≡ getD (putBack q (keep p bs) ys) k 0
@@ -152,7 +151,7 @@ module _ (round : ℕ) (wins : List (List ℕ)) where
   same-stands : (i : ℕ) (b : Bid) → wonGiven round wins i b .stands ≡ b .stands
   same-stands = given-same round wins (λ b. b .stands) (λ b v. refl)
 
-  -- the numbers of the standingBids bids stay
+  -- the numbers of the bids that stand are as before
   same-numbers : (i : ℕ) (bs : List Bid) (k : ℕ) → numberOf (mapFrom i (wonGiven round wins) bs) k ≡ numberOf bs k
   unfolding mapFrom
   same-numbers i [] k = refl
@@ -164,7 +163,7 @@ module _ (round : ℕ) (wins : List (List ℕ)) where
       go true (suc k) rest = ap suc (rest k)
       go false k rest = ap suc (rest k)
 
-  -- the bids given what two tables say, where the second says of the standingBids bids what the first says of them
+  -- the bids given what two tables say, where both say the same of the bids that stand
   given-alike : (without : List (List ℕ)) (i j : ℕ) (bs : List Bid) → ((pool k : ℕ) → getD (getD wins pool []) (i + numberOf bs k) 0 ≡ getD (getD without pool []) (j + k) 0)
       → standingBids (mapFrom i (wonGiven round wins) bs) ≡ mapFrom j (wonGiven round without) (standingBids bs)
   unfolding mapFrom keep wonGiven
@@ -282,17 +281,13 @@ module _ (bids : List Bid) where
   held-alike m (Torn price) = refl
   held-alike m (Agreed a price) = refl
 
-  module _ (roll : List Entry) where
-    count-alike : (p q : Entry → Bool) → ((e : Entry) → p (renumbered f e) ≡ q e) → count p (map (renumbered f) roll) ≡ count q roll
-    count-alike p q h = count-of-map p (renumbered f) roll ∙ count-ext (λ e. p (renumbered f e)) q roll (each-always _ h roll)
+  counts-alike : (roll : List Entry) (pool : ℕ) → fiveCounts (map (renumbered f) roll) pool ≡ fiveCounts roll pool
+  unfolding fiveCounts
+  counts-alike roll pool = tab-ext 5 _ _ (λ k l. count-alike f _ _ (λ e. rw (same-kind f (e .state))) roll)
 
-    counts-alike : (pool : ℕ) → fiveCounts (map (renumbered f) roll) pool ≡ fiveCounts roll pool
-    unfolding fiveCounts
-    counts-alike pool = tab-ext 5 _ _ (λ k l. count-alike _ _ (λ e. rw (same-kind f (e .state))))
-
-    holdings-alike : (m pool price : ℕ) → holding bids (map (renumbered f) roll) m pool price ≡ holding (standingBids bids) roll m pool price
-    unfolding holding
-    holdings-alike m pool price = count-alike _ _ (λ e. rw (held-alike m (e .state), price-alike (e .state)))
+  holdings-alike : (roll : List Entry) (m pool price : ℕ) → holding bids (map (renumbered f) roll) m pool price ≡ holding (standingBids bids) roll m pool price
+  unfolding holding
+  holdings-alike roll m pool price = count-alike f _ _ (λ e. rw (held-alike m (e .state), price-alike (e .state))) roll
 
   prices-alike : (roll : List Entry) → prices bids (map (renumbered f) roll) ≡ prices (standingBids bids) roll
   unfolding prices keep isOpen
