@@ -1,14 +1,15 @@
 -- Document 02, C-14: "CLOSE allots as though a withdrawn bid had not been sent". Assumes nothing.
 use mathlib.Core.Path.{_≡_, refl, sym, ap, _∙_, fun-ext}
 use mathlib.Core.Bool.{Bool, true, false, _&&_, not, false≢true}
-use mathlib.Core.List.{List, [], _∷_, map}
+use mathlib.Core.List.{List, [], _∷_, _++_, map}
 use mathlib.Core.Option.{none, some}
 use Prim.Native.Nat.{ℕ, zero, suc, _+_, _≤_, _<_}
 use native.Mathlib.Nat.{zero-add}
 use native.Mathlib.Numerals.{one-add}
 use native.Mathlib.Omega.{arith}
 use lib.Dec.{eqb}
-use lib.ListN.{length, getD, take, drop, List·getD-map}
+use lib.ListN.{length, getD, take, drop, length-append, List·getD-append, List·getD-map}
+use lib.Seq.{take-append-le}
 use borrow.Author.Tests.{eq-eqb}
 use Rattle.lists.specs.Lists.{if_then_else_, oneIf, count, keep, putBack, among, mapFrom, tab}
 use Rattle.lists.proofs.Bools.{cases, and-left}
@@ -19,7 +20,7 @@ use Rattle.lists.proofs.Counts.{map-changeFirst, count-of-map, count-ext}
 use Rattle.lists.proofs.Each.{Each, each-always, each-at}
 use Rattle.auction.specs.Price.{sumCents}
 use Rattle.machine.specs.Wire.{Head}
-use Rattle.machine.specs.Roll.{UnitState, Open, Sold, Allocated, Moved, Torn, Agreed, Entry, Bid, noBid, withState, kind, isOpen, openIn, giveLowest, openUnits, priceOf, heldBy, prices}
+use Rattle.machine.specs.Roll.{UnitState, Open, Sold, Allocated, Moved, Torn, Agreed, Entry, Bid, noBid, withdrawn, withState, kind, isOpen, openIn, giveLowest, openUnits, priceOf, heldBy, prices}
 use Rattle.machine.specs.State.{Stage, After, Case, roundOf, letter, letterOf, withBids, withRoll}
 use Rattle.machine.specs.Calls.{inRound, inAuction, wonIn, wonGiven, bidsAfter, sell, afterClose}
 use Rattle.machine.specs.Run.{fiveCounts, holding, sumOfPrices, resultOf, observed}
@@ -355,25 +356,27 @@ state-back f g (Agreed m price) h = refl
 
 module _ (c : Case) (ok : CaseOk c) where
   -- a bid that has an entry won it, and so it stands
-  entry-back : (b : ℕ) → b < length (c .bids) → 1 ≤ getD (c .bids) b noBid .won → numberOf (c .bids) (numberAmongStanding (c .bids) b) ≡ b
-  entry-back b l won =
-      number-back (c .bids) b l
-      (cases (getD (c .bids) b noBid .stands) _ (λ e. e) (λ e. absurd (omega (arith, each-at _ (c .bids) b noBid l (ok .won .withdrawn) e))))
+  won-stands : (b : ℕ) → b < length (c .bids) → 1 ≤ getD (c .bids) b noBid .won → getD (c .bids) b noBid .stands ≡ true
+  won-stands b l won = cases (getD (c .bids) b noBid .stands) _ (λ e. e) (λ e. absurd (omega (arith, each-at _ (c .bids) b noBid l (ok .won .withdrawn) e)))
 
-  roll-back : (roll : List Entry) → ((b : ℕ) → count (soldTo b) roll ≤ getD (c .bids) b noBid .won)
-      → Each (λ e. EntryOk (c .head) (c .bids) (e .pool) (e .state)) roll
-      → roll ≡ map (renumbered (numberOf (c .bids))) (map (renumbered (numberAmongStanding (c .bids))) roll)
-  unfolding count oneIf soldIs
-  roll-back [] sold fit = refl
-  roll-back (e ∷ es) sold fit =
-      ap (λ (x : UnitState). withState e x ∷ es) (sym (state-back (numberOf (c .bids)) (numberAmongStanding (c .bids)) (e .state) back))
-      ∙ ap (λ l. renumbered (numberOf (c .bids)) (renumbered (numberAmongStanding (c .bids)) e) ∷ l) (roll-back es (λ b. omega (arith, sold b)) (fit .1))
-    where
-      one : (b : ℕ) → e .state ≡ Sold b → oneIf (soldTo b e) ≡ 1
-      one b is = rw (is, eq-eqb b b refl)
+  -- the roll, its bids' numbers changed by g and back by f
+  module _ (f g : ℕ → ℕ) (back : (b : ℕ) → b < length (c .bids) → getD (c .bids) b noBid .stands ≡ true → f (g b) ≡ b) where
+    entries-back : (roll : List Entry) → ((b : ℕ) → count (soldTo b) roll ≤ getD (c .bids) b noBid .won)
+        → Each (λ e. EntryOk (c .head) (c .bids) (e .pool) (e .state)) roll → roll ≡ map (renumbered f) (map (renumbered g) roll)
+    unfolding count oneIf soldIs
+    entries-back [] sold fit = refl
+    entries-back (e ∷ es) sold fit =
+        ap (λ (x : UnitState). withState e x ∷ es) (sym (state-back f g (e .state) here))
+        ∙ ap (λ l. renumbered f (renumbered g e) ∷ l) (entries-back es (λ b. omega (arith, sold b)) (fit .1))
+      where
+        one : (b : ℕ) → e .state ≡ Sold b → oneIf (soldTo b e) ≡ 1
+        one b is = rw (is, eq-eqb b b refl)
 
-      back : (b : ℕ) → e .state ≡ Sold b → numberOf (c .bids) (numberAmongStanding (c .bids) b) ≡ b
-      back b is = entry-back b ((rw is at (fit .0)) .0) (omega (arith, sold b, one b is))
+        here : (b : ℕ) → e .state ≡ Sold b → f (g b) ≡ b
+        here b is = let l = (rw is at (fit .0)) .0 in back b l (won-stands b l (omega (arith, sold b, one b is)))
+
+    roll-back : c .roll ≡ map (renumbered f) (map (renumbered g) (c .roll))
+    roll-back = entries-back (c .roll) (ok .won .sold) (ok .roll .each)
 
   pub without-there : Without c (without c)
   without-there =
@@ -384,5 +387,39 @@ module _ (c : Case) (ok : CaseOk c) where
         members = refl;
         rounds = refl;
         bids = refl;
-        roll = roll-back (c .roll) (ok .won .sold) (ok .roll .each);
+        roll = roll-back (numberOf (c .bids)) (numberAmongStanding (c .bids)) (number-back (c .bids));
       }
+
+  -- ---- more bids are sent
+
+  -- the case with the bids that stand among all that were sent
+  abbrev sentWithout : List Bid → Case
+  sentWithout more = withRoll (withBids c (standingBids (c .bids ++ more))) (map (renumbered (numberAmongStanding (c .bids))) (c .roll))
+
+  sent-without : (more : List Bid) → Without (withBids c (c .bids ++ more)) (sentWithout more)
+  sent-without more =
+      record {
+        stage = refl;
+        head = refl;
+        pools = refl;
+        members = refl;
+        rounds = refl;
+        bids = refl;
+        roll =
+            roll-back (numberOf (c .bids ++ more)) (numberAmongStanding (c .bids))
+            (λ b l e. ap (λ (bs : List Bid). numberOf (c .bids ++ more) (count (λ x. x .stands) bs)) (sym (take-append-le b (c .bids) more (omega arith)))
+            ∙ number-back (c .bids ++ more) b (omega (arith, length-append (c .bids) more)) (rw (List·getD-append (c .bids) more noBid b l) e));
+      }
+
+  -- a withdrawn bid among them, and those after it
+  pub close-not-sent : (b : Bid) (bs : List Bid) (n : ℕ)
+      → observed n (some (afterClose (withBids c (c .bids ++ (withdrawn b ∷ bs))))) ≡ observed n (some (afterClose (withBids c (c .bids ++ bs))))
+  unfolding keep
+  close-not-sent b bs n =
+      close-observed _ _ (sent-without (withdrawn b ∷ bs)) n
+      ∙ ap (λ (bids : List Bid). observed n (some (afterClose (withRoll (withBids c bids) (map (renumbered (numberAmongStanding (c .bids))) (c .roll)))))) (dropped (c .bids))
+      ∙ sym (close-observed _ _ (sent-without bs) n)
+    where
+      dropped : (first : List Bid) → standingBids (first ++ (withdrawn b ∷ bs)) ≡ standingBids (first ++ bs)
+      dropped [] = refl
+      dropped (x ∷ xs) = ap (λ (l : List Bid). if x .stands then x ∷ l else l) (dropped xs)

@@ -13,7 +13,7 @@ use Rattle.lists.proofs.Each.{Each, each-at}
 use Rattle.lists.specs.Tests.{Passed, First}
 use Rattle.auction.specs.Price.{priceLimit, priceOk, cents, atLeast0}
 use Rattle.machine.specs.Wire.{Call, ROUND, BID, ALLOCATE, CALL, FINISH, SALE, WITHDRAW, number, price, signed, decode}
-use Rattle.machine.specs.Roll.{Entry, Sold, Allocated, Moved, Agreed, noBid, withdrawn, withState, isAgreed, openUnits, priceOf, prices, agreedPrices}
+use Rattle.machine.specs.Roll.{Entry, Sold, Allocated, Moved, Agreed, Bid, noBid, withdrawn, withState, isAgreed, openUnits, priceOf, prices, agreedPrices}
 use Rattle.machine.specs.State.{Finished, Case, State, theCase, letter, letterOf, isB, roundOf, withStage, withBids, noPool, noMember, noRound, inSet, memberList, memberAt}
 use Rattle.machine.specs.Requirement.{requirement, contributions, prefunded}
 use Rattle.machine.specs.Calls.{newBid, reserve, inAuction, bidsAfter, wonByMember, shortfall, totalShortfall, allocation, calls, afterClose, afterAllocate, afterSale, accepted}
@@ -272,7 +272,13 @@ module _ (calls : List (List ℕ)) (c : Case) (here : runFrom none calls ≡ som
   pub withdrawn-won-none : (b : ℕ) → b < length (c .bids) → getD (c .bids) b noBid .stands ≡ false → getD (c .bids) b noBid .won ≡ 0
   withdrawn-won-none b l = each-at _ (c .bids) b noBid l (in-order .won .withdrawn)
 
-  -- every case reached has one without its withdrawn bids
+  -- C-14: "CLOSE allots as though a withdrawn bid had not been sent": where bid b is sent and withdrawn, and bids bs are sent after it, CLOSE leaves the counts,
+  -- the holdings and the sum of prices that it leaves where bs alone are sent
+  pub close-not-sent : (b : Bid) (bs : List Bid) (n : ℕ)
+      → observed n (some (afterClose (withBids c (c .bids ++ (withdrawn b ∷ bs))))) ≡ observed n (some (afterClose (withBids c (c .bids ++ bs))))
+  close-not-sent = N.close-not-sent c in-order
+
+  -- every case reached has one without its withdrawn bids, to which `close-without` applies
   pub without-there : N.Without c (N.without c)
   without-there = N.without-there c in-order
 
