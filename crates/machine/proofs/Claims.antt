@@ -1,22 +1,22 @@
 -- What is proved of document 01's machine, in one place: over every state, every list of calls, any bytes. Each claim cites its proof. Assumes nothing.
 use mathlib.Core.Path.{_≡_, refl, sym, ap, _∙_}
 use mathlib.Core.Bool.{true, false, _&&_}
-use mathlib.Core.List.{List, _++_, map, map-map}
+use mathlib.Core.List.{List, [], _∷_, _++_, map, map-map}
 use mathlib.Core.Option.{none, some}
-use Prim.Native.Nat.{ℕ, _+_, _-_, _≤_, _<_, min}
+use Prim.Native.Nat.{ℕ, suc, _+_, _-_, _≤_, _<_, min}
 use lib.Dec.{eqb, ltb}
 use lib.IntN.{pos, negsuc, _-ℤ_}
-use lib.ListN.{length, getD}
+use lib.ListN.{length, getD, set, take, drop}
 use lib.Signed.{leZ}
 use Rattle.lists.specs.Lists.{if_then_else_, sum, count, all, keep}
 use Rattle.lists.proofs.Each.{Each, each-at}
 use Rattle.lists.specs.Tests.{Passed, First}
 use Rattle.auction.specs.Price.{priceLimit, priceOk, cents, atLeast0}
-use Rattle.machine.specs.Wire.{Call, ROUND, ALLOCATE, CALL, FINISH, SALE, number, price, signed, decode}
-use Rattle.machine.specs.Roll.{Entry, Sold, Allocated, Moved, Agreed, noBid, withState, isAgreed, openUnits, priceOf, prices, agreedPrices}
-use Rattle.machine.specs.State.{Finished, Case, State, theCase, letter, letterOf, roundOf, withStage, noPool, noMember, noRound, inSet, memberList, memberAt}
+use Rattle.machine.specs.Wire.{Call, ROUND, BID, ALLOCATE, CALL, FINISH, SALE, WITHDRAW, number, price, signed, decode}
+use Rattle.machine.specs.Roll.{Entry, Sold, Allocated, Moved, Agreed, Bid, noBid, withdrawn, withState, isAgreed, openUnits, priceOf, prices, agreedPrices}
+use Rattle.machine.specs.State.{Finished, Case, State, theCase, letter, letterOf, isB, roundOf, withStage, withBids, noPool, noMember, noRound, inSet, memberList, memberAt}
 use Rattle.machine.specs.Requirement.{requirement, contributions, prefunded}
-use Rattle.machine.specs.Calls.{reserve, inAuction, bidsAfter, wonByMember, shortfall, totalShortfall, allocation, calls, afterClose, afterAllocate, afterSale, accepted}
+use Rattle.machine.specs.Calls.{newBid, reserve, inAuction, bidsAfter, wonByMember, shortfall, totalShortfall, allocation, calls, afterClose, afterAllocate, afterSale, accepted}
 use Rattle.machine.specs.Refusals.{saleTooDear, tests}
 use Rattle.machine.specs.Machine.{step}
 use Rattle.machine.specs.Table.{ByTable}
@@ -31,6 +31,8 @@ use Rattle.machine.proofs.Shares as H
 use Rattle.machine.proofs.Reached as R
 use Rattle.machine.proofs.RollSteps as S
 use Rattle.machine.proofs.AgreedStay as G
+use Rattle.machine.proofs.AsThoughNotSent as N
+use Rattle.machine.proofs.Withdrawing as D
 use Rattle.machine.proofs.Selling as E
 use Rattle.machine.proofs.SoldOut as O
 use Rattle.machine.proofs.WholePools as W
@@ -101,6 +103,72 @@ module _ (s : State) (bytes : List ℕ) where
   pub agreed-kept : ((pool m price : ℕ) → decode bytes ≡ some (SALE pool m price) → ⊥)
       → keep (λ e. isAgreed (e .state)) (S.rollOf (step s bytes .state)) ≡ keep (λ e. isAgreed (e .state)) (S.rollOf s)
   agreed-kept = G.agreed-kept s bytes
+
+  -- document 02, C-14: every bid stays at its number, with the fields that were sent
+  pub numbers-kept : (n : ℕ) → n < length (D.bidsOf s) → (n < length (D.bidsOf (step s bytes .state))) × (D.sent (D.bidAt (step s bytes .state) n) ≡ D.sent (D.bidAt s n))
+  numbers-kept = D.numbers-kept s bytes
+
+  -- and one that does not stand stays as it is
+  pub withdrawn-stay : (n : ℕ) → n < length (D.bidsOf s) → D.bidAt s n .stands ≡ false → D.bidAt (step s bytes .state) n ≡ D.bidAt s n
+  withdrawn-stay = D.withdrawn-stay s bytes
+
+-- ---- document 02, C-14: an accepted WITHDRAW of bid n, in any state
+
+module _ (s : State) (bytes : List ℕ) (m n : ℕ) (is : decode bytes ≡ some (WITHDRAW m n)) (taken : step s bytes .answer ≡ 0) where
+  -- it was a "standing bid of that member in the open round"
+  pub withdraw-own : (D.bidAt s n .stands ≡ true) × (D.bidAt s n .round ≡ roundOf (theCase s .stage)) × (D.bidAt s n .member ≡ m)
+  withdraw-own = D.withdraw-own s bytes m n is taken
+
+  -- nothing changes but its mark
+  pub withdraw-only : step s bytes .state ≡ some (withBids (theCase s) (set (D.bidsOf s) n (withdrawn (D.bidAt s n))))
+  withdraw-only = D.withdraw-only s bytes m n is taken
+
+  -- "the bid keeps its number and still counts towards 256": each other bid is at its number as it was, and there are as many
+  pub withdraw-others : (k : ℕ) → (k ≡ n → ⊥) → D.bidAt (step s bytes .state) k ≡ D.bidAt s k
+  withdraw-others = D.withdraw-others s bytes m n is taken
+
+  pub withdraw-counts : length (D.bidsOf (step s bytes .state)) ≡ length (D.bidsOf s)
+  withdraw-counts = D.withdraw-counts s bytes m n is taken
+
+  -- the bids that stand are those of the list without this one
+  pub withdraw-drops : N.standingBids (D.bidsOf (step s bytes .state)) ≡ N.standingBids (take n (D.bidsOf s) ++ drop (suc n) (D.bidsOf s))
+  withdraw-drops = D.withdraw-drops s bytes m n is taken
+
+  -- a bid sent again stands behind all others, with a number of its own, which is how many bids there were
+  module _ (more : List ℕ) (pool units price : ℕ) (bid : decode more ≡ some (BID pool m units price)) (also : step (step s bytes .state) more .answer ≡ 0) where
+    pub sent-again : D.bidsOf (step (step s bytes .state) more .state)
+        ≡ set (D.bidsOf s) n (withdrawn (D.bidAt s n)) ++ (newBid (roundOf (theCase s .stage)) pool m units price ∷ [])
+    sent-again = D.sent-again s bytes m n is taken more pool units price bid also
+
+    pub again-last : D.bidAt (step (step s bytes .state) more .state) (length (D.bidsOf s)) ≡ newBid (roundOf (theCase s .stage)) pool m units price
+    again-last = D.again-last s bytes m n is taken more pool units price bid also
+
+  -- after any calls the bid is what it was, but for the mark, and another WITHDRAW of it is declined by 18, after 2 and 4
+  module _ (calls : List (List ℕ)) where
+    abbrev later : State
+    later = runFrom (step s bytes .state) calls
+
+    pub withdrawn-for-good : D.bidAt later n ≡ withdrawn (D.bidAt s n)
+    withdrawn-for-good = D.withdrawn-for-good s bytes m n is taken calls
+
+    pub withdrawn-again : (more : List ℕ) (k : ℕ) → decode more ≡ some (WITHDRAW k n)
+        → step later more .answer ≡ (if isB later then (if inSet (theCase later .head) k then 18 else 4) else 2)
+    withdrawn-again = D.withdrawn-again s bytes m n is taken calls
+
+-- ---- C-14: "CLOSE allots as though a withdrawn bid had not been sent", of any case
+
+-- the bids that stand win what they win where the others are not in the list
+pub standing-win : (c : Case) (round : ℕ) → N.standingBids (bidsAfter c round) ≡ bidsAfter (withBids c (N.standingBids (c .bids))) round
+standing-win = N.standing-win
+
+-- d is c without its withdrawn bids, the others numbered from 0 again: then it is so after CLOSE, each entry sold to the same bid
+module _ (c d : Case) (w : N.Without c d) where
+  pub close-without : N.Without (afterClose c) (afterClose d)
+  close-without = N.close-without c d w
+
+  -- and counts, holdings and prices are alike
+  pub close-observed : (n : ℕ) → observed n (some (afterClose c)) ≡ observed n (some (afterClose d))
+  close-observed = N.close-observed c d w
 
 -- "ALLOCATE is accepted at most once in a pool": after one, no later one is
 pub allocate-once : (calls more : List (List ℕ)) (one two : List ℕ) (pool price later : ℕ)
@@ -203,6 +271,16 @@ module _ (calls : List (List ℕ)) (c : Case) (here : runFrom none calls ≡ som
   -- document 02, C-14: a bid that was taken back has won nothing
   pub withdrawn-won-none : (b : ℕ) → b < length (c .bids) → getD (c .bids) b noBid .stands ≡ false → getD (c .bids) b noBid .won ≡ 0
   withdrawn-won-none b l = each-at _ (c .bids) b noBid l (in-order .won .withdrawn)
+
+  -- C-14: "CLOSE allots as though a withdrawn bid had not been sent": where bid b is sent and withdrawn, and bids bs are sent after it, CLOSE leaves the counts,
+  -- the holdings and the sum of prices that it leaves where bs alone are sent
+  pub close-not-sent : (b : Bid) (bs : List Bid) (n : ℕ)
+      → observed n (some (afterClose (withBids c (c .bids ++ (withdrawn b ∷ bs))))) ≡ observed n (some (afterClose (withBids c (c .bids ++ bs))))
+  close-not-sent = N.close-not-sent c in-order
+
+  -- every case reached has one without its withdrawn bids, to which `close-without` applies
+  pub without-there : N.Without c (N.without c)
+  without-there = N.without-there c in-order
 
   -- the units won in a pool and those open are at most its units, and a bid has at most as many entries as it won
   pub won-in-pool : (pool : ℕ) → sum (map (λ b. b .won) (keep (λ b. eqb (b .pool) pool) (c .bids))) + openUnits (c .roll) pool ≤ getD (c .pools) pool noPool .units

@@ -6,6 +6,7 @@ pub mod WorkedRanks
 pub mod WorkedStages
 pub mod WorkedRanges
 pub mod WorkedSales
+pub mod WorkedWithdrawals
 pub mod Answers
 pub mod Tables
 pub mod RollChanges
@@ -23,6 +24,8 @@ pub mod WholePools
 pub mod Bounds
 pub mod RollSteps
 pub mod AgreedStay
+pub mod AsThoughNotSent
+pub mod Withdrawing
 pub mod Later
 pub mod Bytes
 pub mod Prices
