@@ -10,7 +10,7 @@ both-requires-2 : tie.Need-both-requires-2
 both-requires-2 c κs = search needs
 
 returns : tie.Need-returns
-returns c = cc
+returns c = simp (c .both2 .ensures, c .before .both .ensures)
 
 pub in-round-spec : {M : Type 1} → statement M
 in-round-spec = tie.close (tie.spec both-requires both-requires-2 returns)
