@@ -26,7 +26,7 @@
 extern "C" {
 #endif
 
-enum { LEDGER_POOLS = 4, LEDGER_KINDS = 5, LEDGER_MEMBERS = 32, LEDGER_LAYERS = 6 };
+enum { LEDGER_POOLS = 4, LEDGER_KINDS = 5, LEDGER_MEMBERS = 32, LEDGER_LAYERS = 6, LEDGER_BIDS = 256 };
 
 /* The stages: S setup, B bidding, A after a round, C calls out, F finished. */
 enum { LEDGER_NO_CASE = 0, LEDGER_S = 1, LEDGER_B = 2, LEDGER_A = 3, LEDGER_C = 4, LEDGER_F = 5 };
@@ -38,6 +38,8 @@ struct ledger_shown {
     uint8_t stage;                          /* one of the stages above */
     uint8_t round;                          /* 1 or 2 in stages B and A (1 in the A that a SALE made without a round), else 0 */
     uint8_t pools;                          /* how many POOLs were accepted */
+    size_t bids;                            /* how many BIDs were accepted; they are numbered from 0, so the next one gets this number */
+    bool stands[LEDGER_BIDS];               /* whether the bid with the number stands; false once it is withdrawn, and where there is none */
     uint64_t counts[LEDGER_POOLS * LEDGER_KINDS]; /* open, sold (by bid or by agreement), allocated, moved, torn of pool 0, then of pools 1 to 3 */
     int64_t prices;                         /* the sum of the prices of the units not open, in cents */
     uint64_t requirement;

@@ -13,7 +13,7 @@ use Rattle.lists.proofs.Each.{set-cases}
 use Rattle.lists.specs.Lists.{if_then_else_, tab}
 use Rattle.lists.specs.Adding.{most16}
 use Rattle.lists.proofs.Bools.{by-test, lt-or-le}
-use Rattle.lists.proofs.Places.{tab-more, getD-tab, getD-tab-past, length-tab, getD-same, tab-set}
+use Rattle.lists.proofs.Places.{tab-more, getD-tab, getD-tab-past, length-tab, getD-same, tab-set, tab-of}
 use Rattle.auction.specs.Price.{priceLimit}
 use Rattle.auction.specs.Limits.{unitLimit}
 use Rattle.machine.specs.Roll as M
@@ -36,6 +36,8 @@ pub record BidsLong (x : Bids) : Type 0 where
   pub price-limit : (k : ℕ) → getD (x .price) k 0 ≤ priceLimit
   -- the places behind the bids have won nothing
   pub unused : (k : ℕ) → x .kept ≤ k → getD (x .won) k 0 ≡ 0
+  -- and none of them stands
+  pub none-stands : (k : ℕ) → x .kept ≤ k → getD (x .stands) k false ≡ false
 
 pub new-long : BidsLong noBids
 unfolding noBids
@@ -51,6 +53,7 @@ new-long = record {
   unit-limit = λ k. rw (getD-same {A = ℕ} 256 k 0) (omega arith);
   price-limit = λ k. rw (getD-same {A = ℕ} 256 k 0) (omega arith);
   unused = λ k l. getD-same 256 k 0;
+  none-stands = λ k l. getD-same 256 k false;
 }
 
 pub put-long : (x : Bids) (round pool m units price : ℕ) → BidsLong x → units ≤ unitLimit → price ≤ priceLimit → BidsLong (putBid x round pool m units price)
@@ -70,6 +73,7 @@ put-long x round pool m units price w few low =
       unit-limit = λ k. set-cases (λ (v : ℕ). v ≤ unitLimit) (x .units) (x .kept) units 0 k (λ e. few) (w .unit-limit k);
       price-limit = λ k. set-cases (λ (v : ℕ). v ≤ priceLimit) (x .price) (x .kept) price 0 k (λ e. low) (w .price-limit k);
       unused = λ k l. getD-set-other (x .won) (x .kept) k 0 0 (omega arith) ∙ w .unused k (omega arith);
+      none-stands = λ k l. getD-set-other (x .stands) (x .kept) k true false (omega arith) ∙ w .none-stands k (omega arith);
     })
     (λ t. w)
 
@@ -91,6 +95,7 @@ take-long x round wins w = record {
       (λ l. getD-tab 256 new k 0 l ∙ rw (le-ltb k (x .kept) h) (w .unused k h))
       (λ g. getD-tab-past 256 new k g)
       (lt-or-le k 256);
+  none-stands = w .none-stands;
 }
   where
     new : ℕ → ℕ
@@ -152,6 +157,7 @@ withdraw-long x n w = record {
   unit-limit = w .unit-limit;
   price-limit = w .price-limit;
   unused = w .unused;
+  none-stands = λ k h. set-cases (λ (s : Bool). s ≡ false) (x .stands) n false false k (λ e. refl) (w .none-stands k h);
 }
 
 pub view-withdraw : (x : Bids) (n : ℕ) → BidsLong x → n < x .kept
@@ -174,6 +180,16 @@ view-withdraw x n w l =
     -- a bid with another mark
     stood : M.Bid → Bool → M.Bid
     stood b s = record { round = b .round; pool = b .pool; member = b .member; units = b .units; price = b .price; won = b .won; stands = s }
+
+-- whether each bid stands, by its place and as the machine has it
+pub marks-shown : (x : Bids) → BidsLong x → x .stands ≡ tab 256 (λ n. getD (viewBids x) n M.noBid .stands)
+marks-shown x w =
+    tab-of 256 _ false (x .stands) (w .stands)
+    (λ n l.
+    ⊎-elim
+    (λ h. sym (ap (λ (b : M.Bid). b .stands) (getD-tab (x .kept) (bidAt x) n M.noBid h)))
+    (λ h. w .none-stands n h ∙ sym (ap (λ (b : M.Bid). b .stands) (List·getD-eq-default (viewBids x) M.noBid {n = n} (omega (arith, length-view x)))))
+    (lt-or-le n (x .kept)))
 
 -- whether a bid that stands has the number, by its place and as the machine has it
 pub stands-shown : (x : Bids) (round m n : ℕ) → standsFor x round m n ≡ (inRound round (getD (viewBids x) n M.noBid) && eqb (getD (viewBids x) n M.noBid .member) m)

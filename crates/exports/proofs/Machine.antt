@@ -18,6 +18,7 @@ use Rattle.machine.specs.Run.{Observed, fiveCounts, runFrom, observed}
 use Rattle.machine.proofs.Invariant.{CaseOk}
 use Rattle.units.specs.Shown.{countOf}
 use Rattle.accounts.proofs.ViewPools as P
+use Rattle.accounts.proofs.ViewBids as B
 use Rattle.book.specs.declared.Result.{Result}
 use Rattle.book.proofs.Sound.{Sound}
 use Rattle.book.proofs.Shown.{requirement-shown, prefunded-shown, debt-shown}
@@ -70,6 +71,8 @@ module _ (c : Case) (roll : List Entry) (sound : Sound (c .stage) (c .book) roll
         stage = M.letter (view c roll .stage);
         round = M.roundOf (view c roll .stage);
         pools = sym (P.length-view (c .book .pools)) i;
+        bids = sym (B.length-view (c .book .bids)) i;
+        stands = B.marks-shown (c .book .bids) (sound .bids) i;
         counts = counts-all i;
         prices = prices-shown c roll sound ok i;
         requirement = requirement-shown (c .stage) (c .book) roll sound ok i;

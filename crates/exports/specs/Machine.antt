@@ -5,6 +5,7 @@ use Prim.Native.Nat.{_/_, _%_}
 use lib.Dec.{eqb}
 use lib.ListN.{length, getD}
 use Rattle.lists.specs.Lists.{if_then_else_, tab}
+use Rattle.machine.specs.Roll.{noBid}
 use Rattle.machine.specs.State.{Case, State, letter, roundOf}
 use Rattle.machine.specs.Requirement.{requirement, prefunded, owes}
 use Rattle.machine.specs.Result.{rank, sixCharges, uncoveredRest, onContribution, onPayments}
@@ -25,7 +26,7 @@ finalOf c =
       payments = tab 32 (onPayments c);
     }
 
--- "per pool the five counts" and "the sum of prices of the units not open", the requirement, what is prefunded and what each member owes
+-- how many bids there are and which of them stand, "per pool the five counts" and "the sum of prices of the units not open", the requirement, what is prefunded and what each member owes
 unfoldable pub shownIn : Case → Shown
 shownIn c =
     let r = if eqb (letter (c .stage)) 5 then finalOf c else noResult in
@@ -34,6 +35,8 @@ shownIn c =
       stage = letter (c .stage);
       round = roundOf (c .stage);
       pools = length (c .pools);
+      bids = length (c .bids);
+      stands = tab 256 (λ n. getD (c .bids) n noBid .stands);
       counts = tab 20 (λ k. getD (fiveCounts (c .roll) (k / 5)) (k % 5) 0);
       prices = sumOfPrices c;
       requirement = requirement c;

@@ -15,14 +15,16 @@ use book::Result;
 use case::Case;
 use case::Held;
 
-// What is shown of a case. Where none is held every number is 0; so is the result before an accepted FINISH. The counts are open, sold,
-// allocated, moved and torn of pool 0, then of pools 1 to 3. Money and prices are in cents.
+// What is shown of a case. Where none is held every number is 0; so is the result before an accepted FINISH. Bids are numbered from 0 as accepted, so the next
+// one gets the number `bids`. The counts are open, sold, allocated, moved and torn of pool 0, then of pools 1 to 3. Money and prices are in cents.
 #[repr(C)]
 pub struct Shown {
     pub present: bool,
     pub stage: u8,
     pub round: u8,
     pub pools: u8,
+    pub bids: usize,
+    pub stands: [bool; 256],
     pub counts: [u64; 20],
     pub prices: i64,
     pub requirement: u64,
@@ -109,6 +111,8 @@ fn show_none() -> Shown
         stage: 0,
         round: 0,
         pools: 0,
+        bids: 0,
+        stands: [false; 256],
         counts: [0u64; 20],
         prices: 0,
         requirement: 0,
@@ -130,6 +134,8 @@ fn show_case(case: Case) -> Shown
     let stage = case.stage;
     let book = case.book;
     let pools = book.pools;
+    let bids = book.bids;
+    let stands = bids.stands;
     let counts = counts(case);
     let owes = owes(book);
     let given = result(case);
@@ -142,6 +148,8 @@ fn show_case(case: Case) -> Shown
         stage: book::letter(stage),
         round: book::round_of(stage),
         pools: pools.given,
+        bids: bids.kept,
+        stands,
         counts,
         prices: case.sum_of_prices(),
         requirement: book.requirement(),
