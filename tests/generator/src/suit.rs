@@ -69,6 +69,31 @@ impl Plan {
         self.prices = vec![-1_000_000, -999_999, rng.pick(&[-500_000, 1_000_000])];
     }
 
+    /// A list with WITHDRAWs: some in each round, while bids come in and before CLOSE; now and then no bid of a pool is left.
+    pub fn suit_withdrawals(&mut self, rng: &mut Rng, profile: Profile) {
+        self.has_withdrawals = true;
+        self.withdrawals = rng.pick(&[1, 3, 6, 12]);
+        self.withdraw = rng.pick(&[10, 25, 50]);
+        self.send_again = rng.pick(&[0, 50, 90]);
+        if profile == Profile::ManyBids {
+            // Most of them come when 256 are kept.
+            (self.withdrawals, self.withdraw) = (rng.pick(&[6, 12, 24]), 3);
+        } else if rng.chance(25) {
+            let one = 1 << rng.below(self.head.pools.clamp(1, 4).into());
+            self.emptied = if rng.chance(40) { 0b1111 } else { one };
+        }
+        if profile != Profile::Edges && rng.chance(60) {
+            self.suit_bids_to_take_back(rng);
+        }
+    }
+
+    /// A round without a bid has nothing to take back.
+    fn suit_bids_to_take_back(&mut self, rng: &mut Rng) {
+        for demand in self.demand.iter_mut().flatten().filter(|demand| **demand == Demand::Nothing) {
+            *demand = rng.pick(&[Demand::Part, Demand::Over]);
+        }
+    }
+
     fn suit_ties(&mut self, rng: &mut Rng) {
         self.demand[0] = [Demand::Over; 4];
         self.demand[1] = demand_among(rng, &[Demand::Over, Demand::FarOver]);
