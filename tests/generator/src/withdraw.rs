@@ -87,8 +87,8 @@ impl Writer {
         // The bid that has the number's last byte, so that a number read in one byte would find it.
         let owner = self.model.bids().get(usize::from(number % 256)).map(|bid| bid.member);
         let member = match self.rng.below(10) {
-            0 | 1 => self.any_member(),
-            2 | 3 => self.odd_member(),
+            0..=2 => self.any_member(),
+            3 | 4 => self.odd_member(),
             _ => owner.unwrap_or_else(|| self.any_member()),
         };
         write::withdraw(member, number)

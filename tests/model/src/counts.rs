@@ -330,8 +330,8 @@ impl Counts {
         if self.pool[pool].open == 0 {
             return 8;
         }
-        self.to_allot.push(self.bids.len());
         self.bids.push(Bid { pool, member, units, price, won: 0, sold: 0 });
+        self.to_allot.push(self.bids.len() - 1);
         0
     }
 
