@@ -79,6 +79,8 @@ pub struct Plan {
     pub send_again: u64,
     /// The pools in which every bid is withdrawn before CLOSE, as a set.
     pub emptied: u8,
+    /// The first round in which they are.
+    pub emptied_from: usize,
     /// The list ends with this many calls at the latest.
     pub limit: usize,
     /// Calls written after FINISH.
@@ -124,6 +126,7 @@ impl Plan {
             withdraw: 0,
             send_again: 0,
             emptied: 0,
+            emptied_from: 1,
             limit: 600,
             tail: if rng.chance(20) { rng.between(1, 15) as usize } else { 0 },
             cut: rng.chance(15),

@@ -79,12 +79,39 @@ impl Plan {
             // Most of them come when 256 are kept.
             (self.withdrawals, self.withdraw) = (rng.pick(&[6, 12, 24]), 3);
         } else if rng.chance(25) {
-            let one = 1 << rng.below(self.head.pools.clamp(1, 4).into());
-            self.emptied = if rng.chance(40) { 0b1111 } else { one };
+            self.suit_emptied_pools(rng);
         }
         if profile != Profile::Edges && rng.chance(60) {
             self.suit_bids_to_take_back(rng);
         }
+        if !matches!(profile, Profile::Edges | Profile::ManyBids) && rng.chance(25) {
+            self.suit_bids_sent_again(rng);
+        }
+    }
+
+    /// Pools in which no bid is left: in each round, or in a second one with a lower reserve after a first that sold some units.
+    fn suit_emptied_pools(&mut self, rng: &mut Rng) {
+        let one = 1 << rng.below(self.head.pools.clamp(1, 4).into());
+        self.emptied = if rng.chance(40) { 0b1111 } else { one };
+        if rng.chance(50) {
+            self.emptied_from = 2;
+            self.second_round = true;
+            self.demand = [[Demand::Part; 4], [Demand::Over; 4]];
+            let lower = |reserve: i32, less: i64| (reserve - less as i32).max(-1_000_000);
+            self.reserves[1] = self.reserves[0].map(|reserve| lower(reserve, rng.between(0, 10)));
+        }
+    }
+
+    /// Bids for as many units at one price, and more than are open, so that the odd unit goes by the order in which they stand.
+    fn suit_bids_sent_again(&mut self, rng: &mut Rng) {
+        let units = rng.pick(&[2, 3, 3, 4]);
+        (self.head.least_bid, self.bid_units) = (units, units);
+        self.prices.truncate(1);
+        self.reserves = draw_reserves(rng, &self.prices);
+        self.demand[0] = [Demand::Over; 4];
+        self.withdrawals = rng.pick(&[1, 2, 4]);
+        self.send_again = 95;
+        self.emptied = 0;
     }
 
     /// A round without a bid has nothing to take back.

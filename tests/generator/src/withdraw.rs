@@ -37,12 +37,21 @@ impl Writer {
             self.put(odd);
             return;
         }
-        let number = self.rng.pick(&standing);
+        let number = self.pick_to_withdraw(&standing);
         let bid = self.model.bids()[number].clone();
         self.put(write::withdraw(bid.member, number as u16));
         if self.rng.chance(self.plan.send_again) {
             self.send_again(&bid);
         }
+    }
+
+    /// Mostly one with a later bid for as many units at its price, so that, sent again, it stands behind that where remainders tie.
+    fn pick_to_withdraw(&mut self, standing: &[usize]) -> usize {
+        let bids = self.model.bids();
+        let at = |number: usize| (bids[number].pool, bids[number].price, bids[number].units);
+        let is_tied = |number: usize| standing.iter().any(|&later| later > number && at(later) == at(number));
+        let tied: Vec<usize> = standing.iter().copied().filter(|&number| is_tied(number)).collect();
+        if tied.is_empty() || self.rng.chance(30) { self.rng.pick(standing) } else { self.rng.pick(&tied) }
     }
 
     /// The numbers of the open round's standing bids.
@@ -70,6 +79,9 @@ impl Writer {
 
     /// Takes back one more bid in a pool that is to have none at CLOSE; false where none stands there.
     fn empty_a_pool(&mut self) -> bool {
+        if self.rounds < self.plan.emptied_from {
+            return false;
+        }
         let mut standing = self.standing();
         standing.retain(|&number| self.plan.emptied >> self.model.bids()[number].pool & 1 == 1);
         if standing.is_empty() {
