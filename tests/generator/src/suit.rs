@@ -75,25 +75,31 @@ impl Plan {
         self.withdrawals = rng.pick(&[1, 3, 6, 12]);
         self.withdraw = rng.pick(&[10, 25, 50]);
         self.send_again = rng.pick(&[0, 50, 90]);
+        // These profiles want units that no bid takes, so that there are some to allocate, move and miss.
+        let wants_open_units = matches!(profile, Profile::Allocations | Profile::Moves | Profile::Misses);
+        if wants_open_units {
+            // A withdrawn bid leaves fewer units that MOVE could take, so more of the debts are to end by one.
+            self.moves = self.moves.max(80);
+        }
         if profile == Profile::ManyBids {
             // Most of them come when 256 are kept.
             (self.withdrawals, self.withdraw) = (rng.pick(&[6, 12, 24]), 3);
         } else if rng.chance(25) {
-            self.suit_emptied_pools(rng);
+            self.suit_emptied_pools(rng, !wants_open_units);
         }
-        if profile != Profile::Edges && rng.chance(60) {
+        if profile != Profile::Edges && rng.chance(if wants_open_units { 30 } else { 60 }) {
             self.suit_bids_to_take_back(rng);
         }
-        if !matches!(profile, Profile::Edges | Profile::ManyBids) && rng.chance(25) {
+        if !wants_open_units && !matches!(profile, Profile::Edges | Profile::ManyBids) && rng.chance(25) {
             self.suit_bids_sent_again(rng);
         }
     }
 
-    /// Pools in which no bid is left: in each round, or in a second one with a lower reserve after a first that sold some units.
-    fn suit_emptied_pools(&mut self, rng: &mut Rng) {
+    /// Pools in which no bid is left: in each round, or also in a second one alone, with a lower reserve, after a first that sold some units.
+    fn suit_emptied_pools(&mut self, rng: &mut Rng, also_second_alone: bool) {
         let one = 1 << rng.below(self.head.pools.clamp(1, 4).into());
         self.emptied = if rng.chance(40) { 0b1111 } else { one };
-        if rng.chance(50) {
+        if also_second_alone && rng.chance(50) {
             self.emptied_from = 2;
             self.second_round = true;
             self.demand = [[Demand::Part; 4], [Demand::Over; 4]];
