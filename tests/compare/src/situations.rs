@@ -14,6 +14,7 @@ pub const SECOND_ROUND: &str = "CLOSE of a second round with a withdrawn bid";
 pub const AGAIN_BEHIND: &str = "CLOSE where a bid sent again is split behind another at its price";
 pub const PLACE_TAKEN: &str = "BID 7 with a withdrawn bid among the 256";
 pub const WITH_256: &str = "WITHDRAW 0 with 256 bids kept";
+pub const LAST_NUMBER: &str = "WITHDRAW 0 of bid 255";
 pub const NOT_GIVEN: &str = "WITHDRAW 18 of a number not given yet, below 256";
 pub const PAST_255: &str = "WITHDRAW 18 of a number past 255";
 pub const ONE_BYTE: &str = "WITHDRAW 18 of a number past 255 whose last byte is a standing bid of the member";
@@ -22,7 +23,7 @@ pub const TWICE: &str = "WITHDRAW 18 of a bid withdrawn before";
 pub const OLD_ROUND: &str = "WITHDRAW 18 of the member's standing bid of the first round";
 
 /// All that has to occur.
-pub const ALL: [&str; 15] = [
+pub const ALL: [&str; 16] = [
     CLOSE_WITHOUT,
     WOULD_HAVE_WON,
     OTHERS_WIN_OTHERWISE,
@@ -32,6 +33,7 @@ pub const ALL: [&str; 15] = [
     AGAIN_BEHIND,
     PLACE_TAKEN,
     WITH_256,
+    LAST_NUMBER,
     NOT_GIVEN,
     PAST_255,
     ONE_BYTE,
@@ -62,6 +64,7 @@ pub fn of(calls: &[Vec<u8>]) -> Situations {
         let names = match (bytes.first(), answer) {
             (Some(&write::CLOSE), 0) => at_close(&roll, round, opened, &calls[..=call]),
             (Some(&write::BID), 7) if roll.bids().iter().any(|bid| !bid.stands) => vec![PLACE_TAKEN],
+            (Some(&write::WITHDRAW), 0) if u16_at(bytes, 4) == 255 => vec![WITH_256, LAST_NUMBER],
             (Some(&write::WITHDRAW), 0) if roll.bids().len() == 256 => vec![WITH_256],
             (Some(&write::WITHDRAW), 18) => declined(&roll, round, bytes[3], u16_at(bytes, 4)),
             _ => Vec::new(),

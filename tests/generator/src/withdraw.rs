@@ -47,6 +47,10 @@ impl Writer {
 
     /// Mostly one with a later bid for as many units at its price, so that, sent again, it stands behind that where remainders tie.
     fn pick_to_withdraw(&mut self, standing: &[usize]) -> usize {
+        // The last number that a bid can have.
+        if standing.last() == Some(&255) && self.rng.chance(20) {
+            return 255;
+        }
         let bids = self.model.bids();
         let at = |number: usize| (bids[number].pool, bids[number].price, bids[number].units);
         let is_tied = |number: usize| standing.iter().any(|&later| later > number && at(later) == at(number));
