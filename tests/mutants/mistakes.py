@@ -1,10 +1,26 @@
-"""Deliberate mistakes in the counts model and in the model's ranking: name, file, the text that is there once, and what stands there instead."""
+"""Deliberate mistakes in the counts model, a few in the roll, and in the model's ranking: name, file, the text that is there once, and what stands there instead."""
 
 COUNTS = "model/src/counts.rs"
+ROLL = "model/src/roll.rs"
 SPLIT = "model/src/split.rs"
 AUCTION = "model/src/auction.rs"
 TEXT = "model/src/text.rs"
 FIELD = "model/src/field.rs"
+
+# The number of the first bid of the round, for the mistakes that go by it.
+ROUND_BEGINS = (
+    "    to_allot: Vec<usize>,\n", "    to_allot: Vec<usize>,\n    round_begins: usize,\n",
+    "        self.stage = Some(Stage::Bidding(round));\n", "        self.round_begins = self.bids.len();\n        self.stage = Some(Stage::Bidding(round));\n")
+# The numbers of the bids withdrawn in any round, for the mistakes that go by them.
+WITHDRAWN = ("    to_allot: Vec<usize>,\n", "    to_allot: Vec<usize>,\n    withdrawn: Vec<usize>,\n")
+TAKEN_BACK = "        self.to_allot.remove(place);\n"
+NOTED = (*WITHDRAWN, TAKEN_BACK, TAKEN_BACK + "        self.withdrawn.push(number);\n")
+# A withdrawal is noted and the bid stays among those to allot.
+NOTED_ALONE = (*WITHDRAWN, TAKEN_BACK, "        let _ = place;\n        if self.withdrawn.contains(&number) {\n            return 18;\n        }\n        self.withdrawn.push(number);\n")
+NOT_FOUND = "binary_search(&number) else {\n            return 18;\n"
+NUMBER = "let (member, number) = (usize::from(value[0]), usize::from(u16_at(value, 1)));\n"
+MEMBER_OF_WITHDRAW = "        if !self.has_member(member) {\n            return 4;\n        }\n        let Ok(place)"
+KEPT = "        self.bids.push(Bid { pool, member, units, price, won: 0, sold: 0 });\n        self.to_allot.push(self.bids.len() - 1);\n"
 
 # Each of these shows in the program's text.
 IN_TEXT = [
@@ -25,8 +41,8 @@ IN_TEXT = [
      "let total: u64 = units.iter().sum();\n            let all = left;\n            for (&i, share) in level.iter().zip(units.iter().map(|u| all * u / total)) {\n                left -= share;",
      "            break;\n", ""),
     ("losing bids of round 1 live on in round 2", COUNTS,
-     "(self.round_begins..self.bids.len()).filter(|&number| self.bids[number].pool == pool).collect();",
-     "(0..self.bids.len()).filter(|&n| self.bids[n].pool == pool && self.bids[n].won == 0).collect();"),
+     "let to_allot = std::mem::take(&mut self.to_allot);", "let to_allot = self.to_allot.clone();",
+     "        self.stage = Some(Stage::After(round));\n", "        self.to_allot.retain(|&number| self.bids[number].won == 0);\n        self.stage = Some(Stage::After(round));\n"),
     ("the last bid wins the odd unit", AUCTION,
      "for (&i, share) in level.iter().zip(split(left, &units)) {",
      "let mut shares = split(left, &units);\n            if let Some(last) = shares.len().checked_sub(1) { if shares[0] > 0 && units[0] == units[last] && shares[0] > shares[last] { shares.swap(0, last); } }\n            for (&i, share) in level.iter().zip(shares) {"),
@@ -102,7 +118,7 @@ IN_TEXT = [
     ("ROUND with no case: 1 always", COUNTS, "matches!(length, 4 | 8 | 12 | 16)", "false"),
     ("257 bids kept", COUNTS, "const BIDS_LIMIT: usize = 256;", "const BIDS_LIMIT: usize = 257;"),
     ("255 bids kept", COUNTS, "const BIDS_LIMIT: usize = 256;", "const BIDS_LIMIT: usize = 255;"),
-    ("256 bids kept in each round", COUNTS, "self.bids.len() >= BIDS_LIMIT", "self.bids.len() - self.round_begins >= BIDS_LIMIT"),
+    ("256 bids kept in each round", COUNTS, *ROUND_BEGINS, "self.bids.len() >= BIDS_LIMIT", "self.bids.len() - self.round_begins >= BIDS_LIMIT"),
     ("the least bid waived where less is open", COUNTS,
      "if units < self.least_bid {", "if units < self.least_bid.min(self.pool[pool].open.max(1)) {"),
     ("a bid at the least declined", COUNTS, "if units < self.least_bid {", "if units <= self.least_bid && units > 1 {"),
@@ -140,7 +156,7 @@ IN_TEXT = [
     ("the better reserve counts", COUNTS, "pool.worst_reserve.min(pool.reserve)", "pool.worst_reserve.max(pool.reserve)"),
     ("the worst reserve decides who is valid", COUNTS,
      "allot(self.pool[pool].open, self.pool[pool].reserve, &offers)", "allot(self.pool[pool].open, self.pool[pool].worst_reserve, &offers)"),
-    ("the second reserve counts only where the round sells", COUNTS,
+    ("the second reserve counts only where the round sells", COUNTS, *ROUND_BEGINS,
      "        self.stage = Some(Stage::After(round));\n        0",
      "        if round == 2 {\n            for p in 0..self.pools {\n                if !self.bids[self.round_begins..].iter().any(|b| b.pool == p && b.won > 0) {\n                    self.pool[p].worst_reserve = self.pool[p].first_reserve;\n                }\n            }\n        }\n        self.stage = Some(Stage::After(round));\n        0",
      "                pool.worst_reserve = pool.reserve;\n", "                pool.worst_reserve = pool.reserve;\n                pool.first_reserve = pool.reserve;\n",
@@ -196,7 +212,7 @@ IN_TEXT = [
      "                let units = units_to_move(self.member[holder].allocated[pool], price, needed);", "                if holder == to {\n                    continue;\n                }\n                let units = units_to_move(self.member[holder].allocated[pool], price, needed);"),
     ("MOVE: its own sold units stay", COUNTS, "filter(|&b| self.bids[b].sold > 0 && self.bids[b].price < 0)", "filter(|&b| self.bids[b].sold > 0 && self.bids[b].price < 0 && self.bids[b].member != to)"),
     ("MOVE: sold units of mark 1 stay", COUNTS, "filter(|&b| self.bids[b].sold > 0 && self.bids[b].price < 0)", "filter(|&b| self.bids[b].sold > 0 && self.bids[b].price < 0 && !self.pool[self.bids[b].pool].positive_mark)"),
-    ("MOVE: only the last round's units", COUNTS,
+    ("MOVE: only the last round's units", COUNTS, *ROUND_BEGINS,
      "            (0..self.bids.len()).filter(|&b| self.bids[b].sold > 0", "            (self.round_begins..self.bids.len()).filter(|&b| self.bids[b].sold > 0"),
     ("MOVE: stops before it saves too much", COUNTS, "needed.div_ceil(price.unsigned_abs())", "(needed / price.unsigned_abs())"),
     ("MOVE: one unit more where it saves exactly", COUNTS, "needed.div_ceil(price.unsigned_abs())", "(if needed == 0 { 0 } else { needed / price.unsigned_abs() + 1 })"),
@@ -342,7 +358,89 @@ IN_TEXT = [
     ("SALE: all but the buyer's expected units fall away", COUNTS, "filter(|&p| self.pool[p].agreed.is_none());", "filter(|&p| self.pool[p].agreed.is_none_or(|a| a.member == member));"),
     ("SALE: units so sold count as won", COUNTS, "        pool.agreed = Some(Agreed { member, price, units });\n", "        pool.agreed = Some(Agreed { member, price, units });\n        self.member[member].won[number] = units;\n"),
     ("SALE: of any length from 6 on", COUNTS, "14 => length == 6,", "14 => length >= 6,"),
-    ("tag 15 is a SALE", COUNTS, "14 => length == 6,", "14 | 15 => length == 6,"),
+    ("tag 15 is a SALE", COUNTS, "15 => length == 3,", "15 => length == 6,", "14 => self.sell_by_agreement(value),", "14 | 15 => self.sell_by_agreement(value),"),
+    ("tag 16 is a SALE", COUNTS, "14 => length == 6,", "14 | 16 => length == 6,", "14 => self.sell_by_agreement(value),", "14 | 16 => self.sell_by_agreement(value),"),
+    # Taking back a bid
+    ("WITHDRAW: accepted and changes nothing", COUNTS, TAKEN_BACK, "        let _ = place;\n"),
+    ("WITHDRAW: the bid is still allotted", COUNTS, *NOTED_ALONE),
+    ("WITHDRAW: the bid counts among the valid units alone", COUNTS, *NOTED_ALONE,
+     "                self.sell(number, units);\n", "                if !self.withdrawn.contains(&number) {\n                    self.sell(number, units);\n                }\n"),
+    ("WITHDRAW: what the bid would have won goes to the bid after it", COUNTS, *NOTED_ALONE,
+     "                self.sell(number, units);\n", "                let next = numbers.iter().copied().find(|n| *n >= number && !self.withdrawn.contains(n));\n                if let Some(n) = next {\n                    let before = self.bids[n].won;\n                    self.sell(n, units);\n                    self.bids[n].won += before;\n                    self.bids[n].sold += before;\n                }\n"),
+    ("WITHDRAW: the place comes free", COUNTS, *NOTED, "if self.bids.len() >= BIDS_LIMIT {", "if self.bids.len() - self.withdrawn.len() >= BIDS_LIMIT {"),
+    ("WITHDRAW: the place comes free in the second round", COUNTS, *NOTED,
+     "if self.bids.len() >= BIDS_LIMIT {", "if self.bids.len() - if self.stage == Some(Stage::Bidding(2)) { self.withdrawn.len() } else { 0 } >= BIDS_LIMIT {"),
+    ("WITHDRAW: the numbers of later bids move down", COUNTS, *NOTED,
+     "if self.bids.len() >= BIDS_LIMIT {", "if self.bids.len() + self.withdrawn.len() >= BIDS_LIMIT {",
+     "        self.withdrawn.push(number);\n", "        self.withdrawn.push(number);\n        self.bids.remove(number);\n        self.to_allot.iter_mut().filter(|n| **n > number).for_each(|n| *n -= 1);\n"),
+    ("WITHDRAW: the number is given again", COUNTS, *NOTED,
+     KEPT, "        if let Some(number) = self.withdrawn.pop() {\n            self.bids[number] = Bid { pool, member, units, price, won: 0, sold: 0 };\n            let place = self.to_allot.partition_point(|n| *n < number);\n            self.to_allot.insert(place, number);\n            return 0;\n        }\n" + KEPT),
+    ("WITHDRAW: the number is given again where the last bid is withdrawn", COUNTS, TAKEN_BACK, TAKEN_BACK + "        if number + 1 == self.bids.len() {\n            self.bids.pop();\n        }\n"),
+    ("WITHDRAW: a bid sent again has its old place among those at its price", COUNTS, *NOTED,
+     "            let numbers: Vec<usize> =\n", "            let mut numbers: Vec<usize> =\n",
+     "            let offers: Vec<(u64, i64)> =\n", "            let like = |a: &Bid, b: &Bid| (a.pool, a.member, a.units, a.price) == (b.pool, b.member, b.units, b.price);\n            numbers.sort_by_key(|&n| self.withdrawn.iter().copied().filter(|&o| o < n && like(&self.bids[o], &self.bids[n])).min().unwrap_or(n));\n            let offers: Vec<(u64, i64)> =\n"),
+    ("WITHDRAW: the last bid takes the place of the one withdrawn", COUNTS, TAKEN_BACK, "        self.to_allot.swap_remove(place);\n"),
+    ("WITHDRAW: a bid of the first round in the second", COUNTS, *ROUND_BEGINS,
+     NOT_FOUND, "binary_search(&number) else {\n            return if number < self.round_begins && self.bids[number].member == member { 0 } else { 18 };\n"),
+    ("WITHDRAW: a bid of the first round that won nothing in the second", COUNTS, *ROUND_BEGINS,
+     NOT_FOUND, "binary_search(&number) else {\n            return if number < self.round_begins && self.bids[number].member == member && self.bids[number].won == 0 { 0 } else { 18 };\n"),
+    ("WITHDRAW: another member's bid", COUNTS, "        if self.bids[number].member != member {\n            return 18;\n        }\n", ""),
+    ("WITHDRAW: another member's bid is 4", COUNTS, "        if self.bids[number].member != member {\n            return 18;\n", "        if self.bids[number].member != member {\n            return 4;\n"),
+    ("WITHDRAW: a second one accepted", COUNTS, *NOTED, "let to_allot = std::mem::take(&mut self.to_allot);", "self.withdrawn.clear();\n        let to_allot = std::mem::take(&mut self.to_allot);",
+     NOT_FOUND, "binary_search(&number) else {\n            return if self.withdrawn.contains(&number) && self.bids[number].member == member { 0 } else { 18 };\n"),
+    ("WITHDRAW: a second one brings the bid back", COUNTS, *NOTED, "let to_allot = std::mem::take(&mut self.to_allot);", "self.withdrawn.clear();\n        let to_allot = std::mem::take(&mut self.to_allot);",
+     NOT_FOUND, "binary_search(&number) else {\n            if self.withdrawn.contains(&number) && self.bids[number].member == member {\n                self.withdrawn.retain(|n| *n != number);\n                let place = self.to_allot.partition_point(|n| *n < number);\n                self.to_allot.insert(place, number);\n                return 0;\n            }\n            return 18;\n"),
+    ("WITHDRAW: the bid comes back in the second round", COUNTS, *NOTED,
+     "        self.stage = Some(Stage::After(round));\n", "        self.to_allot = std::mem::take(&mut self.withdrawn);\n        self.stage = Some(Stage::After(round));\n"),
+    ("WITHDRAW: a number that no bid has before 4", COUNTS,
+     MEMBER_OF_WITHDRAW, "        let Ok(place)",
+     "        if self.bids[number].member != member {\n            return 18;\n        }\n", "        if !self.has_member(member) {\n            return 4;\n        }\n        if self.bids[number].member != member {\n            return 18;\n        }\n"),
+    ("WITHDRAW: the member is not checked", COUNTS, MEMBER_OF_WITHDRAW, "        let Ok(place)"),
+    ("WITHDRAW: a member past 31 taken modulo 32", COUNTS, NUMBER, NUMBER.replace("usize::from(value[0])", "usize::from(value[0] % 32)")),
+    ("WITHDRAW: a number past 255 before 4", COUNTS, MEMBER_OF_WITHDRAW, "        if number > 255 {\n            return 18;\n        }\n" + MEMBER_OF_WITHDRAW),
+    ("WITHDRAW: a number past 255 is 5", COUNTS, "        let Ok(place)", "        if number > 255 {\n            return 5;\n        }\n        let Ok(place)"),
+    ("WITHDRAW: a number past 255 is 7", COUNTS, "        let Ok(place)", "        if number > 255 {\n            return 7;\n        }\n        let Ok(place)"),
+    ("WITHDRAW: a number past 255 is 1", COUNTS, "15 => length == 3,", "15 => length == 3 && !self.number_is_far,", "    to_allot: Vec<usize>,\n", "    to_allot: Vec<usize>,\n    number_is_far: bool,\n",
+     "        if !self.length_fits(tag, value.len()) {\n", "        self.number_is_far = tag == 15 && value.len() == 3 && value[1] > 0;\n        if !self.length_fits(tag, value.len()) {\n"),
+    ("WITHDRAW: the number by its last byte", COUNTS, NUMBER, NUMBER.replace("u16_at(value, 1)", "value[2]")),
+    ("WITHDRAW: the number by its first byte", COUNTS, NUMBER, NUMBER.replace("u16_at(value, 1)", "value[1]")),
+    ("WITHDRAW: the number's bytes exchanged", COUNTS, NUMBER, NUMBER.replace("u16_at(value, 1)", "u16_at(value, 1).swap_bytes()")),
+    ("WITHDRAW: the number before the member", COUNTS, NUMBER, "let (member, number) = (usize::from(value[2]), usize::from(u16_at(value, 0)));\n"),
+    ("WITHDRAW: numbers from 1", COUNTS, "binary_search(&number) else {", "binary_search(&number.wrapping_sub(1)) else {", "if self.bids[number].member != member {", "if self.bids[number - 1].member != member {"),
+    ("WITHDRAW: numbers from the round's first bid", COUNTS, *ROUND_BEGINS, NUMBER, NUMBER + "        let number = number + self.round_begins;\n"),
+    ("WITHDRAW: numbers among the bids of the pool", COUNTS, NUMBER, NUMBER + "        let number = (0..self.bids.len()).filter(|&n| self.bids[n].pool == 0).nth(number).unwrap_or(number);\n"),
+    ("WITHDRAW: numbers among the member's bids", COUNTS, NUMBER, NUMBER + "        let number = (0..self.bids.len()).filter(|&n| self.bids[n].member == member).nth(number).unwrap_or(999);\n"),
+    ("WITHDRAW: 2 before 1", COUNTS, "15 => length == 3,", "15 => length == 3 || !self.is_bidding(),"),
+    ("WITHDRAW: 4 before 2", COUNTS, "    fn withdraw(&mut self, value: &[u8]) -> u8 {\n", "    fn withdraw(&mut self, value: &[u8]) -> u8 {\n        if self.stage.is_some() && !self.has_member(value[0].into()) {\n            return 4;\n        }\n"),
+    ("WITHDRAW: 18 after the cut-off", COUNTS, "    fn withdraw(&mut self, value: &[u8]) -> u8 {\n        if !self.is_bidding() {", "    fn withdraw(&mut self, value: &[u8]) -> u8 {\n        if !self.is_bidding() && !self.is_after() {"),
+    ("WITHDRAW: 18 before the round", COUNTS, "    fn withdraw(&mut self, value: &[u8]) -> u8 {\n        if !self.is_bidding() {", "    fn withdraw(&mut self, value: &[u8]) -> u8 {\n        if !self.is_bidding() && self.stage != Some(Stage::Setup) {"),
+    ("WITHDRAW: in the first round alone", COUNTS, "    fn withdraw(&mut self, value: &[u8]) -> u8 {\n        if !self.is_bidding() {", "    fn withdraw(&mut self, value: &[u8]) -> u8 {\n        if self.stage != Some(Stage::Bidding(1)) {"),
+    ("WITHDRAW: in the second round alone", COUNTS, "    fn withdraw(&mut self, value: &[u8]) -> u8 {\n        if !self.is_bidding() {", "    fn withdraw(&mut self, value: &[u8]) -> u8 {\n        if self.stage != Some(Stage::Bidding(2)) {"),
+    ("WITHDRAW: with 256 kept it is 7", COUNTS, "        let Ok(place)", "        if self.bids.len() >= BIDS_LIMIT {\n            return 7;\n        }\n        let Ok(place)"),
+    ("WITHDRAW: bid 255 is 18", COUNTS, "        let Ok(place)", "        if number >= 255 {\n            return 18;\n        }\n        let Ok(place)"),
+    ("WITHDRAW: once in a round", COUNTS, *WITHDRAWN, TAKEN_BACK, "        if !self.withdrawn.is_empty() {\n            return 18;\n        }\n        self.withdrawn.push(number);\n" + TAKEN_BACK,
+     "let to_allot = std::mem::take(&mut self.to_allot);", "self.withdrawn.clear();\n        let to_allot = std::mem::take(&mut self.to_allot);"),
+    ("WITHDRAW: the last bid alone", COUNTS, TAKEN_BACK, "        if number + 1 != self.bids.len() {\n            return 18;\n        }\n" + TAKEN_BACK),
+    ("WITHDRAW: the round's only standing bid is 18", COUNTS, TAKEN_BACK, "        if self.to_allot.len() == 1 {\n            return 18;\n        }\n" + TAKEN_BACK),
+    ("WITHDRAW: a bid below the reserve is 18", COUNTS, TAKEN_BACK, "        if self.bids[number].price < self.pool[self.bids[number].pool].reserve {\n            return 18;\n        }\n" + TAKEN_BACK),
+    ("WITHDRAW: all bids of the member", COUNTS, TAKEN_BACK, TAKEN_BACK + "        self.to_allot.retain(|&n| self.bids[n].member != member);\n"),
+    ("WITHDRAW: all bids of the member in the pool", COUNTS, TAKEN_BACK, TAKEN_BACK + "        let pool = self.bids[number].pool;\n        self.to_allot.retain(|&n| (self.bids[n].member, self.bids[n].pool) != (member, pool));\n"),
+    ("WITHDRAW: all bids like it", COUNTS, TAKEN_BACK, TAKEN_BACK + "        let bid = self.bids[number];\n        self.to_allot.retain(|&n| self.bids[n] != bid);\n"),
+    ("WITHDRAW: later bids too", COUNTS, TAKEN_BACK, "        self.to_allot.truncate(place);\n"),
+    ("WITHDRAW: the units count as won", COUNTS, TAKEN_BACK, TAKEN_BACK + "        let Bid { pool, units, .. } = self.bids[number];\n        self.member[member].won[pool] += units;\n"),
+    ("WITHDRAW: the premium counts", COUNTS, TAKEN_BACK, TAKEN_BACK + "        self.bids[number].won = self.bids[number].units;\n"),
+    ("WITHDRAW: the units are no longer expected", COUNTS, TAKEN_BACK, TAKEN_BACK + "        let Bid { pool, units, .. } = self.bids[number];\n        let expected = &mut self.member[member].expected[pool];\n        *expected = expected.saturating_sub(units);\n"),
+    ("WITHDRAW: the prices are in the sum", COUNTS, TAKEN_BACK, TAKEN_BACK + "        self.prices += self.bids[number].units as i64 * self.bids[number].price;\n"),
+    ("WITHDRAW: the round is closed with its last bid", COUNTS, TAKEN_BACK, TAKEN_BACK + "        if self.to_allot.is_empty() {\n            return self.close();\n        }\n"),
+    ("WITHDRAW: a pool whose bids are gone has no reserve in the round", COUNTS, *NOTED,
+     "        self.stage = Some(Stage::After(round));\n        0",
+     "        if round == 2 {\n            for p in 0..self.pools {\n                let gone = self.withdrawn.iter().any(|&n| self.bids[n].pool == p);\n                if gone && !to_allot.iter().any(|&n| self.bids[n].pool == p) {\n                    self.pool[p].worst_reserve = self.pool[p].first_reserve;\n                }\n            }\n        }\n        self.withdrawn.clear();\n        self.stage = Some(Stage::After(round));\n        0",
+     "                pool.worst_reserve = pool.reserve;\n", "                pool.worst_reserve = pool.reserve;\n                pool.first_reserve = pool.reserve;\n",
+     "    reserve: i64,\n", "    reserve: i64,\n    first_reserve: i64,\n"),
+    ("WITHDRAW: of any length from 3 on", COUNTS, "15 => length == 3,", "15 => length >= 3,"),
+    ("WITHDRAW: a number of one byte", COUNTS, "15 => length == 3,", "15 => length == 2,", NUMBER, NUMBER.replace("u16_at(value, 1)", "value[1]")),
+    ("tag 16 is a WITHDRAW", COUNTS, "15 => length == 3,", "15 | 16 => length == 3,"),
+    ("tag 15 is no call", COUNTS, "            15 => length == 3,\n", ""),
     # Widths
     ("asked units in 16 bits", AUCTION, "level.iter().map(|&i| u128::from(bids[i].0)).sum();", "level.iter().map(|&i| u128::from(bids[i].0)).sum::<u128>() % 65_536;"),
     ("premium in 32 bits", COUNTS, "premium: own.map(premium).sum(),", "premium: own.map(premium).sum::<u64>() % (1 << 32),"),
@@ -368,8 +466,17 @@ IN_TEXT = [
     ("FINISH twice", COUNTS, "Some(Stage::After(_) | Stage::CallsOut) => {}", "Some(Stage::After(_) | Stage::CallsOut | Stage::Finished) => {}"),
 ]
 
-# These show only in what the models can be asked.
+# These show only in what the models can be asked, or are mistakes in the roll, which the texts are held to.
 IN_HOLDINGS = [
+    ("WITHDRAW: a declined one leaves a trace", COUNTS, NOT_FOUND, "binary_search(&number) else {\n            self.least_bid = 1;\n            return 18;\n"),
+    ("WITHDRAW: the roll allots the bid", ROLL, "        bid.stands && usize::from(bid.round)", "        usize::from(bid.round)"),
+    ("WITHDRAW: the roll counts the bid among the valid units", ROLL, "        bid.stands && usize::from(bid.round)", "        usize::from(bid.round)", "        if !self.is_valid(bid) {", "        if !bid.stands || !self.is_valid(bid) {"),
+    ("WITHDRAW: the roll's place comes free", ROLL, "self.bids.len() == 256,", "self.bids.iter().filter(|bid| bid.stands).count() == 256,"),
+    ("WITHDRAW: the roll's later numbers move down", ROLL, "=> self.bids[usize::from(number)].stands = false,", "=> drop(self.bids.remove(usize::from(number))),"),
+    ("WITHDRAW: the roll takes an old round's bid", ROLL, "bid.stands && bid.member == member && bid.round == open_round", "bid.stands && bid.member == member && bid.round <= open_round"),
+    ("WITHDRAW: the roll takes another member's bid", ROLL, "bid.stands && bid.member == member && bid.round == open_round", "bid.stands && bid.round == open_round"),
+    ("WITHDRAW: the roll takes a bid twice", ROLL, "bid.stands && bid.member == member && bid.round == open_round", "bid.member == member && bid.round == open_round"),
+    ("WITHDRAW: the roll does not check the member", ROLL, "            | Call::Sale { member, .. }\n            | Call::Withdraw { member, .. } =>", "            | Call::Sale { member, .. } =>"),
     ("MOVE: earlier bid first within a pool", COUNTS, "(self.bids[b].price, Reverse(b))", "(self.bids[b].price, Reverse(self.bids[b].pool), b)"),
     ("holdings: moved units left out", COUNTS, "            lots.push((p as u8, 0, self.member[m].moved[p]));\n", ""),
     ("holdings: a price twice", COUNTS, "let same = (next.0, next.1) == (kept.0, kept.1);", "let same = (next.0, next.1) == (kept.0, kept.1) && next.1 != 0;"),
@@ -378,7 +485,7 @@ IN_HOLDINGS = [
     ("SALE: holdings without units so sold", COUNTS, "            lots.extend(agreed.map(|a| (p as u8, a.price, a.units)));\n", "            let _ = agreed;\n"),
     ("SALE: holding without units so sold", COUNTS, "        sold + allocated + moved + agreed\n", "        let _ = agreed;\n        sold + allocated + moved\n"),
     ("SALE: units so sold held at price 0", COUNTS, "lots.extend(agreed.map(|a| (p as u8, a.price, a.units)));", "lots.extend(agreed.map(|a| (p as u8, 0, a.units)));"),
-    ("SALE: a declined one leaves a trace", COUNTS, "            return 17;\n", "            self.round_begins = 1;\n            return 17;\n"),
+    ("SALE: a declined one leaves a trace", COUNTS, "            return 17;\n", "            self.to_allot = vec![1];\n            return 17;\n"),
     ("owes: the call after a MOVE", COUNTS, "        if member < MEMBERS { self.owed(member) } else { 0 }", "        if member < MEMBERS { self.member[member].call - self.member[member].paid } else { 0 }"),
     ("prefunded: all or none", COUNTS, "self.stage.map(|_| self.held_ready())", "self.stage.filter(|s| *s != Stage::Setup).map(|_| self.held_ready())"),
     ("a declined MOVE leaves a trace", COUNTS, "        if owed == 0 {\n            return 14;\n        }\n        let still", "        if owed == 0 {\n            self.least_bid = 1;\n            return 14;\n        }\n        let still"),

@@ -47,6 +47,7 @@ pub fn difference(calls: &[Vec<u8>], tally: &mut Tally) -> Option<ModelDifferenc
         }
     }
     tally.inputs += 1;
+    tally.count_situations(calls);
     None
 }
 

@@ -5,6 +5,7 @@ mod options;
 mod pairs;
 mod program;
 mod shrink;
+mod situations;
 mod tally;
 
 use generator::{Profile, calls, describe, fields, input, profile_of};
@@ -44,9 +45,13 @@ fn main() -> ExitCode {
         println!("{report}");
         return ExitCode::FAILURE;
     }
-    let (missed, missed_in_stages) = tally.report();
-    if options.cover && missed > 0 || options.cover_stages && missed_in_stages > 0 {
+    let missed = tally.report();
+    if options.cover && missed.pairs > 0 || options.cover_stages && missed.in_stages > 0 {
         println!("FAILED: a reachable pair was not hit");
+        return ExitCode::FAILURE;
+    }
+    if options.cover && missed.situations > 0 {
+        println!("FAILED: a situation with a withdrawn bid never came");
         return ExitCode::FAILURE;
     }
     println!("no difference");

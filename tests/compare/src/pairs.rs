@@ -1,4 +1,4 @@
-//! Which answers a call can get at all, and in which stages; worked out from document 01 and C-12 of document 02.
+//! Which answers a call can get at all, and in which stages; worked out from document 01 and C-12 and C-14 of document 02.
 
 use model::Stage;
 
@@ -139,6 +139,12 @@ pub const REACHABLE: &[Pair] = &[
     pair(14, 8, &[S], "pool not given yet, or sold by agreement"),
     pair(14, 10, &[S], "another pool or a member missing"),
     pair(14, 17, &[S], "above margin and fund"),
+    // WITHDRAW
+    pair(15, 0, &[B1, B2], "a standing bid of the member in the open round"),
+    pair(15, 1, &PLACES, "wrong length"),
+    pair(15, 2, &[NONE, S, A0, A1, A2, C, F], "not in B"),
+    pair(15, 4, &[B1, B2], "no such member"),
+    pair(15, 18, &[B1, B2], "no standing bid of the member in the open round has the number"),
 ];
 
 /// Pairs that look possible and are not: tag, answer, reason.
@@ -171,6 +177,11 @@ pub const UNREACHABLE: &[(u8, u8, &str)] = &[
     (14, 9, "a pool of either mark may be sold by agreement"),
     (14, 11, "only CALL and FINISH want no open unit"),
     (14, 13, "what margin and fund cannot bear is 17, whatever else is prefunded"),
+    (15, 3, "WITHDRAW names no pool"),
+    (15, 5, "a number that no bid can have is 18"),
+    (15, 6, "only BID is held to the least bid"),
+    (15, 7, "a withdrawal takes no place among the 256 bids"),
+    (15, 8, "a bid may be withdrawn whatever is open"),
 ];
 
 /// Pairs that other stages reach and these do not: tag, answer, stage, reason.
@@ -209,9 +220,9 @@ pub fn place_name(place: Place) -> &'static str {
 }
 
 pub fn tag_name(tag: u8) -> &'static str {
-    const NAMES: [&str; 15] = [
+    const NAMES: [&str; 16] = [
         "unknown", "HEAD", "POOL", "MEMBER", "ROUND", "BID", "CLOSE", "ALLOCATE", "TEAR", "CALL", "PAY", "MOVE",
-        "MISS", "FINISH", "SALE",
+        "MISS", "FINISH", "SALE", "WITHDRAW",
     ];
     NAMES.get(usize::from(tag)).unwrap_or(&NAMES[0])
 }

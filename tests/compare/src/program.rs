@@ -100,7 +100,9 @@ fn first_difference(program: &[u8], model: &[u8]) -> LineDifference {
 pub fn tally<L: Ledger + Default>(input: &[u8], tally: &mut Tally) {
     let mut ledger = L::default();
     let mut had_round = false;
-    for field in fields(input) {
+    let list = fields(input);
+    tally.count_situations(&list);
+    for field in list {
         let place = place(ledger.stage(), had_round);
         let answer = ledger.call(&field);
         had_round |= (field[0], answer) == (write::ROUND, 0);

@@ -1,6 +1,7 @@
 //! What a run has compared: inputs, calls, and how often each answer of each call was given in each stage.
 
 use crate::pairs::{PLACES, Place, REACHABLE, UNKNOWN, UNREACHABLE, UNREACHABLE_IN, place_name, tag_name};
+use crate::situations::{self, Situations};
 use std::collections::{BTreeMap, BTreeSet};
 
 #[derive(Default)]
@@ -10,18 +11,38 @@ pub struct Tally {
     pub bytes: u64,
     hits: BTreeMap<(u8, u8, Place), u64>,
     unknown_tags: BTreeSet<u8>,
+    situations: Situations,
+}
+
+/// How many of those that have to come never did.
+pub struct Missed {
+    pub pairs: usize,
+    /// Pairs in some stage that reaches them.
+    pub in_stages: usize,
+    pub situations: usize,
 }
 
 impl Tally {
     /// Counts one call, by the stage it was made in.
     pub fn count(&mut self, tag: u8, answer: u8, place: Place) {
-        let known = (1..=14).contains(&tag);
+        let known = (1..=15).contains(&tag);
         if !known {
             self.unknown_tags.insert(tag);
         }
         let tag = if known { tag } else { UNKNOWN };
         *self.hits.entry((tag, answer, place)).or_default() += 1;
         self.calls += 1;
+    }
+
+    /// Counts what a list with WITHDRAWs goes through.
+    pub fn count_situations(&mut self, calls: &[Vec<u8>]) {
+        self.add_situations(situations::of(calls));
+    }
+
+    fn add_situations(&mut self, found: Situations) {
+        for (name, count) in found {
+            *self.situations.entry(name).or_default() += count;
+        }
     }
 
     pub fn add(&mut self, other: Tally) {
@@ -32,6 +53,7 @@ impl Tally {
             *self.hits.entry(hit).or_default() += count;
         }
         self.unknown_tags.extend(other.unknown_tags);
+        self.add_situations(other.situations);
     }
 
     fn pair_hits(&self, tag: u8, answer: u8) -> u64 {
@@ -42,17 +64,35 @@ impl Tally {
         self.hits.get(&(tag, answer, place)).copied().unwrap_or(0)
     }
 
-    /// Prints the table; gives how many reachable pairs were missed, and how many of them in some stage.
-    pub fn report(&self) -> (usize, usize) {
+    /// Prints the table; gives what was missed.
+    pub fn report(&self) -> Missed {
         println!("compared {} lists, {} calls, {} bytes", self.inputs, self.calls, self.bytes);
-        println!("answers hit, by call and number (unknown: {} of 242 tags):", self.unknown_tags.len());
-        for tag in 0..=14 {
+        println!("answers hit, by call and number (unknown: {} of 241 tags):", self.unknown_tags.len());
+        for tag in 0..=15 {
             let of_tag = REACHABLE.iter().filter(|pair| pair.tag == tag);
             let counts = of_tag.map(|pair| format!("{}: {}", pair.answer, self.pair_hits(tag, pair.answer)));
             println!("  {tag:>2} {:<9}{}", tag_name(tag), counts.collect::<Vec<_>>().join("  "));
         }
         self.report_unforeseen();
-        (self.report_missed_pairs(), self.report_missed_places())
+        Missed {
+            situations: self.report_situations(),
+            pairs: self.report_missed_pairs(),
+            in_stages: self.report_missed_places(),
+        }
+    }
+
+    fn report_situations(&self) -> usize {
+        let count = |name| self.situations.get(name).copied().unwrap_or(0);
+        println!("with bids taken back:");
+        for name in situations::ALL {
+            println!("  {name}: {}", count(name));
+        }
+        let missed = situations::ALL.into_iter().filter(|name| count(name) == 0);
+        let missed: Vec<_> = missed.collect();
+        for name in &missed {
+            println!("MISSED {name}");
+        }
+        missed.len()
     }
 
     /// A pair hit that the list holds for unreachable is a mistake in the list or in the model.

@@ -5,16 +5,17 @@ use model::write;
 
 /// A whole field with a tag that no call has.
 pub fn unknown_tag(rng: &mut Rng) -> Vec<u8> {
-    // Drawn from 14 on, so that the lists of document 01 stay as they were; 14 is SALE.
-    let tag = if rng.chance(15) { 0 } else { rng.between(14, 255).max(15) as u8 };
+    // Drawn from 14 on, so that the lists of document 01 stay as they were; 14 is SALE and 15 WITHDRAW.
+    let tag = if rng.chance(15) { 0 } else { rng.between(14, 255).max(16) as u8 };
     let length = rng.pick(&[0, 1, 4, 5, 8, 27]);
     write::field(tag, &random_bytes(rng, length))
 }
 
 /// The field under a tag that no call has, often the next one that a request may bring.
 pub fn under_an_unknown_tag(rng: &mut Rng, mut field: Vec<u8>) -> Vec<u8> {
-    let other = rng.between(15, 255) as u8;
-    field[0] = rng.pick(&[15, 15, 16, 17, 0, other]);
+    // Drawn from 15 on, so that the lists with SALEs alone stay as they were.
+    let other = rng.between(15, 255).max(16) as u8;
+    field[0] = rng.pick(&[16, 16, 16, 17, 0, other]);
     field
 }
 
@@ -61,9 +62,10 @@ pub fn not_one_field(rng: &mut Rng, mut field: Vec<u8>) -> Vec<u8> {
 }
 
 /// The beginning of a field that the input's end cuts off: a lone tag, half a length, or part of a value.
-pub fn cut_off_field(rng: &mut Rng) -> Vec<u8> {
-    let tag = if rng.chance(80) { rng.between(1, 14) as u8 } else { rng.below(256) as u8 };
-    let lengths = [0, 27, 4, 13, 4, 8, 0, 5, 5, 0, 5, 1, 5, 0, 6];
+pub fn cut_off_field(rng: &mut Rng, has_withdrawals: bool) -> Vec<u8> {
+    let last = if has_withdrawals { write::WITHDRAW } else { write::SALE };
+    let tag = if rng.chance(80) { rng.between(1, last.into()) as u8 } else { rng.below(256) as u8 };
+    let lengths = [0, 27, 4, 13, 4, 8, 0, 5, 5, 0, 5, 1, 5, 0, 6, 3];
     let right = lengths.get(usize::from(tag)).copied().unwrap_or(3);
     let length = if right == 0 || rng.chance(20) { rng.pick(&[1, 300, 65_535]) } else { right };
     let mut field = write::field(tag, &random_bytes(rng, length));

@@ -54,6 +54,7 @@ pub fn describe(bytes: &[u8]) -> String {
         (12, 5) => format!("MISS member {} price {}", value[0], price_at(value, 1)),
         (13, 0) => "FINISH".to_string(),
         (14, 6) => format!("SALE pool {} member {} price {}", value[0], value[1], price_at(value, 2)),
+        (15, 3) => format!("WITHDRAW member {} bid {}", value[0], u16_at(value, 1)),
         (tag, length) => format!("tag {tag} with {length} bytes: {}", hex(value)),
     }
 }

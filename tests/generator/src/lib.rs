@@ -8,6 +8,7 @@ mod profile;
 mod rng;
 mod suit;
 mod timing;
+mod withdraw;
 mod writer;
 
 pub use describe::{describe, fields};
@@ -22,33 +23,49 @@ pub fn profile_of(seed: u64) -> Profile {
     Profile::draw(&mut Rng::new(seed ^ 0x70726F66696C65))
 }
 
-/// Percent of the seeds whose lists have SALEs among their calls.
-const WITH_SALES: u64 = 45;
+/// Which calls of document 02 a list has among its own.
+#[derive(Clone, Copy, Default)]
+struct Requests {
+    sales: bool,
+    withdrawals: bool,
+}
 
-fn has_sales(seed: u64) -> bool {
-    Rng::new(seed ^ 0x73616C6573).chance(WITH_SALES)
+impl Requests {
+    /// Percent of the seeds whose lists have SALEs among their calls.
+    const WITH_SALES: u64 = 45;
+    /// Percent of the seeds whose lists have WITHDRAWs among their calls.
+    const WITH_WITHDRAWALS: u64 = 40;
+
+    /// Each is drawn by itself, so that the lists without the later calls stay as they were.
+    fn of(seed: u64) -> Requests {
+        Requests {
+            sales: Rng::new(seed ^ 0x73616C6573).chance(Requests::WITH_SALES),
+            withdrawals: Rng::new(seed ^ 0x7769746864726177).chance(Requests::WITH_WITHDRAWALS),
+        }
+    }
 }
 
 /// A list of calls; some of them may be byte strings that are not exactly one field.
 pub fn calls(seed: u64, profile: Profile) -> Vec<Vec<u8>> {
-    Writer::new(seed, profile, true, has_sales(seed)).write()
+    Writer::new(seed, profile, true, Requests::of(seed)).write()
 }
 
 /// A list of the calls of document 01 only. It stays the same for a seed when requests bring calls, so that what was made from
 /// it stands.
 pub fn calls_of_01(seed: u64, profile: Profile) -> Vec<Vec<u8>> {
-    Writer::new(seed, profile, true, false).write()
+    Writer::new(seed, profile, true, Requests::default()).write()
 }
 
 /// The bytes of an input: whole fields, then perhaps one that the input's end cuts off.
 pub fn input(seed: u64, profile: Profile) -> Vec<u8> {
     let mut rng = Rng::new(seed ^ 0x656E64696E67);
-    let mut bytes = Writer::new(seed, profile, false, has_sales(seed)).write().concat();
+    let requests = Requests::of(seed);
+    let mut bytes = Writer::new(seed, profile, false, requests).write().concat();
     if profile == Profile::Damage {
         damage::edit(&mut rng, &mut bytes);
     }
     if rng.chance(25) {
-        bytes.extend(damage::cut_off_field(&mut rng));
+        bytes.extend(damage::cut_off_field(&mut rng, requests.withdrawals));
     }
     bytes
 }

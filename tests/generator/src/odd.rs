@@ -45,6 +45,7 @@ impl Writer {
                 &[write::POOL, write::MEMBER, write::ROUND, write::SALE, write::SALE]
             }
             Some(Stage::Setup) => &[write::POOL, write::MEMBER, write::ROUND],
+            Some(Stage::Bidding(_)) if self.plan.has_withdrawals => &[write::BID, write::WITHDRAW],
             Some(Stage::Bidding(_)) => &[write::BID],
             Some(Stage::After(_)) => {
                 &[write::ROUND, write::ALLOCATE, write::ALLOCATE, write::TEAR, write::CALL, write::MISS, write::FINISH]
@@ -52,12 +53,18 @@ impl Writer {
             Some(Stage::CallsOut) => &[write::PAY, write::MOVE, write::MISS, write::FINISH],
             Some(Stage::Finished) => &[],
         };
-        let last = if self.plan.has_sales { write::SALE } else { write::FINISH };
-        if allowed.is_empty() || self.rng.chance(40) {
-            self.rng.between(1, last.into()) as u8
-        } else {
-            self.rng.pick(allowed)
+        if allowed.is_empty() || self.rng.chance(40) { self.any_tag() } else { self.rng.pick(allowed) }
+    }
+
+    /// Any of the calls that the list has.
+    fn any_tag(&mut self) -> u8 {
+        let mut tags: Vec<u8> = (1..=write::FINISH).collect();
+        tags.extend(self.plan.has_sales.then_some(write::SALE));
+        if self.plan.has_withdrawals {
+            // More often than the others, since outside of B it comes by this alone.
+            tags.extend([write::WITHDRAW; 3]);
         }
+        self.rng.pick(&tags)
     }
 
     /// A field of the right length whose numbers are each valid, at an end or past it.
@@ -85,6 +92,7 @@ impl Writer {
                 let price = if self.rng.chance(40) { self.sale_price(pool) } else { self.odd_price() };
                 write::sale(pool, self.odd_member(), price)
             }
+            write::WITHDRAW => self.odd_withdrawal(),
             _ => write::field(tag, &[]),
         }
     }
@@ -100,7 +108,7 @@ impl Writer {
         self.odd([good], [pools, pools, 4, 255])
     }
 
-    fn odd_member(&mut self) -> u8 {
+    pub fn odd_member(&mut self) -> u8 {
         let good = self.any_member();
         let outside = self.rng.below(32) as u8;
         self.odd([good], [outside, outside, good + 32, good + 128, 32, 255])

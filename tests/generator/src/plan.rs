@@ -69,6 +69,18 @@ pub struct Plan {
     pub sales: usize,
     /// Odd calls written in A1 where no round was opened.
     pub linger: usize,
+    /// Whether WITHDRAW is among the calls of the list.
+    pub has_withdrawals: bool,
+    /// WITHDRAWs that are written at most in a round, some of them to be declined.
+    pub withdrawals: usize,
+    /// Percent of the steps that are one of the first half of them.
+    pub withdraw: u64,
+    /// Percent of the withdrawn bids that are sent again.
+    pub send_again: u64,
+    /// The pools in which every bid is withdrawn before CLOSE, as a set.
+    pub emptied: u8,
+    /// The first round in which they are.
+    pub emptied_from: usize,
     /// The list ends with this many calls at the latest.
     pub limit: usize,
     /// Calls written after FINISH.
@@ -109,6 +121,12 @@ impl Plan {
             to_sell: 0,
             sales: 0,
             linger: 0,
+            has_withdrawals: false,
+            withdrawals: 0,
+            withdraw: 0,
+            send_again: 0,
+            emptied: 0,
+            emptied_from: 1,
             limit: 600,
             tail: if rng.chance(20) { rng.between(1, 15) as usize } else { 0 },
             cut: rng.chance(15),

@@ -69,6 +69,64 @@ impl Plan {
         self.prices = vec![-1_000_000, -999_999, rng.pick(&[-500_000, 1_000_000])];
     }
 
+    /// A list with WITHDRAWs: some in each round, while bids come in and before CLOSE; now and then no bid of a pool is left.
+    pub fn suit_withdrawals(&mut self, rng: &mut Rng, profile: Profile) {
+        self.has_withdrawals = true;
+        self.withdrawals = rng.pick(&[1, 3, 6, 12]);
+        self.withdraw = rng.pick(&[10, 25, 50]);
+        self.send_again = rng.pick(&[0, 50, 90]);
+        // These profiles want units that no bid takes, so that there are some to allocate, move and miss.
+        let wants_open_units = matches!(profile, Profile::Allocations | Profile::Moves | Profile::Misses);
+        if wants_open_units {
+            // A withdrawn bid leaves fewer units that MOVE could take, so more of the debts are to end by one.
+            self.moves = self.moves.max(80);
+        }
+        if profile == Profile::ManyBids {
+            // Most of them come when 256 are kept.
+            (self.withdrawals, self.withdraw) = (rng.pick(&[6, 12, 24]), 3);
+        } else if rng.chance(25) {
+            self.suit_emptied_pools(rng, !wants_open_units);
+        }
+        if profile != Profile::Edges && rng.chance(if wants_open_units { 30 } else { 60 }) {
+            self.suit_bids_to_take_back(rng);
+        }
+        if !wants_open_units && !matches!(profile, Profile::Edges | Profile::ManyBids) && rng.chance(25) {
+            self.suit_bids_sent_again(rng);
+        }
+    }
+
+    /// Pools in which no bid is left: in each round, or also in a second one alone, with a lower reserve, after a first that sold some units.
+    fn suit_emptied_pools(&mut self, rng: &mut Rng, also_second_alone: bool) {
+        let one = 1 << rng.below(self.head.pools.clamp(1, 4).into());
+        self.emptied = if rng.chance(40) { 0b1111 } else { one };
+        if also_second_alone && rng.chance(50) {
+            self.emptied_from = 2;
+            self.second_round = true;
+            self.demand = [[Demand::Part; 4], [Demand::Over; 4]];
+            let lower = |reserve: i32, less: i64| (reserve - less as i32).max(-1_000_000);
+            self.reserves[1] = self.reserves[0].map(|reserve| lower(reserve, rng.between(0, 10)));
+        }
+    }
+
+    /// Bids for as many units at one price, and more than are open, so that the odd unit goes by the order in which they stand.
+    fn suit_bids_sent_again(&mut self, rng: &mut Rng) {
+        let units = rng.pick(&[2, 3, 3, 4]);
+        (self.head.least_bid, self.bid_units) = (units, units);
+        self.prices.truncate(1);
+        self.reserves = draw_reserves(rng, &self.prices);
+        self.demand[0] = [Demand::Over; 4];
+        self.withdrawals = rng.pick(&[1, 2, 4]);
+        self.send_again = 95;
+        self.emptied = 0;
+    }
+
+    /// A round without a bid has nothing to take back.
+    fn suit_bids_to_take_back(&mut self, rng: &mut Rng) {
+        for demand in self.demand.iter_mut().flatten().filter(|demand| **demand == Demand::Nothing) {
+            *demand = rng.pick(&[Demand::Part, Demand::Over]);
+        }
+    }
+
     fn suit_ties(&mut self, rng: &mut Rng) {
         self.demand[0] = [Demand::Over; 4];
         self.demand[1] = demand_among(rng, &[Demand::Over, Demand::FarOver]);

@@ -44,7 +44,7 @@ pub fn refused(fields: usize) -> Vec<u8> {
             6 => write::tear(pool, -1),
             7 => write::finish(),
             8 => write::field(write::CLOSE, &[0]),
-            _ => write::field(15 + member, &[1, 2, 3]),
+            _ => write::field(16 + member, &[1, 2, 3]),
         });
     }
     calls.truncate(fields);

@@ -1,5 +1,6 @@
 //! Writes a list of calls and watches the roll while it does.
 
+use crate::Requests;
 use crate::plan::{Demand, Plan, Target, members_of};
 use crate::profile::Profile;
 use crate::rng::Rng;
@@ -18,18 +19,23 @@ pub struct Writer {
     head_at: Option<usize>,
     members_given: u32,
     /// The bids still to write in this round, the next one last.
-    bids: Vec<Vec<u8>>,
+    pub bids: Vec<Vec<u8>>,
     /// How many ROUNDs were accepted.
-    rounds: usize,
+    pub rounds: usize,
+    /// The WITHDRAWs still to write in this round.
+    pub withdrawals_left: usize,
     aimed: bool,
 }
 
 impl Writer {
-    pub fn new(seed: u64, profile: Profile, loose: bool, has_sales: bool) -> Writer {
+    pub fn new(seed: u64, profile: Profile, loose: bool, requests: Requests) -> Writer {
         let mut rng = Rng::new(seed);
         let mut plan = Plan::draw(&mut rng, profile);
-        if has_sales {
+        if requests.sales {
             plan.suit_sales(&mut rng, profile);
+        }
+        if requests.withdrawals {
+            plan.suit_withdrawals(&mut rng, profile);
         }
         Writer {
             plan,
@@ -42,6 +48,7 @@ impl Writer {
             members_given: 0,
             bids: Vec::new(),
             rounds: 0,
+            withdrawals_left: 0,
             aimed: false,
         }
     }
@@ -82,6 +89,7 @@ impl Writer {
             write::ROUND => {
                 self.rounds += 1;
                 self.bids = self.draw_bids();
+                self.withdrawals_left = self.plan.withdrawals;
             }
             _ => {}
         }
@@ -121,8 +129,10 @@ impl Writer {
             }
             Some(Stage::Setup) => self.set_up(),
             Some(Stage::Bidding(_)) => {
-                let next = self.bids.pop().unwrap_or_else(write::close);
-                self.put(next);
+                if !self.take_back() {
+                    let next = self.bids.pop().unwrap_or_else(write::close);
+                    self.put(next);
+                }
             }
             Some(Stage::After(round)) if self.any_open() => self.place(round),
             Some(Stage::After(_)) => self.settle(),

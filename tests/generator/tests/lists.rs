@@ -1,7 +1,7 @@
 //! What the generator promises of its lists.
 
 use generator::{Profile, calls, calls_of_01, fields, input, profile_of, timing};
-use model::roll::Entry;
+use model::roll::{Bid, Entry};
 use model::{Counts, Ledger, Roll, Stage, write};
 
 fn last_stage(list: &[Vec<u8>]) -> Option<Stage> {
@@ -92,10 +92,90 @@ fn a_share_of_the_lists_sells_by_agreement_in_every_profile() {
 }
 
 #[test]
-fn the_lists_of_01_have_no_sale() {
+fn the_lists_of_01_have_no_call_of_02() {
     for seed in 0..300 {
         let list = calls_of_01(seed, profile_of(seed));
-        assert!(!list.iter().any(|bytes| bytes.first() == Some(&write::SALE)), "seed {seed}");
+        let of_02 = |bytes: &Vec<u8>| matches!(bytes.first(), Some(&write::SALE | &write::WITHDRAW));
+        assert!(!list.iter().any(of_02), "seed {seed}");
+    }
+}
+
+/// What lists with an accepted WITHDRAW go through.
+#[derive(Default)]
+struct Withdrawals {
+    lists: usize,
+    finished: usize,
+    /// Rounds in which two bids or more were withdrawn, and in which every bid was.
+    several: usize,
+    none_left: usize,
+    /// Bids that are like one withdrawn before in the round.
+    sent_again: usize,
+    declined_by_18: usize,
+    /// Those that name a bid of the first round in the second.
+    of_an_old_round: usize,
+    /// Accepted where 256 bids are kept, and BIDs declined by 7 after it.
+    with_256_kept: usize,
+    declined_by_7: usize,
+}
+
+impl Withdrawals {
+    fn count(&mut self, list: &[Vec<u8>]) {
+        let mut ledger = Roll::default();
+        let mut accepted = 0;
+        for bytes in list {
+            let stage = ledger.stage();
+            let answer = ledger.call(bytes);
+            let tag = bytes.first().copied().unwrap_or(0);
+            accepted += usize::from((tag, answer) == (write::WITHDRAW, 0));
+            self.count_call(&ledger, bytes, answer, stage);
+        }
+        self.lists += usize::from(accepted > 0);
+        self.finished += usize::from(accepted > 0 && ledger.stage() == Some(Stage::Finished));
+    }
+
+    fn count_call(&mut self, ledger: &Roll, bytes: &[u8], answer: u8, before: Option<Stage>) {
+        let Some(Stage::Bidding(round)) = before else {
+            return;
+        };
+        let bids = ledger.bids();
+        let of_round: Vec<&Bid> = bids.iter().filter(|bid| bid.round == round).collect();
+        let withdrawn = of_round.iter().filter(|bid| !bid.stands).count();
+        match (bytes.first().copied().unwrap_or(0), answer) {
+            (write::WITHDRAW, 0) => self.with_256_kept += usize::from(bids.len() == 256),
+            (write::WITHDRAW, 18) => {
+                self.declined_by_18 += 1;
+                let bid = bids.get(usize::from(model::field::u16_at(bytes, 4)));
+                self.of_an_old_round += usize::from(bid.is_some_and(|bid| bid.stands && bid.round < round));
+            }
+            (write::BID, 0) => {
+                let (last, earlier) = of_round.split_last().expect("a bid was kept");
+                self.sent_again += usize::from(earlier.contains(&&Bid { stands: false, ..(*last).clone() }));
+            }
+            (write::BID, 7) => self.declined_by_7 += usize::from(bids.iter().any(|bid| !bid.stands)),
+            (write::CLOSE, 0) => {
+                self.several += usize::from(withdrawn >= 2);
+                self.none_left += usize::from(withdrawn >= 1 && withdrawn == of_round.len());
+            }
+            _ => {}
+        }
+    }
+}
+
+#[test]
+fn a_share_of_the_lists_takes_bids_back_in_every_profile() {
+    for profile in Profile::ALL.into_iter().filter(|&profile| profile != Profile::Short && profile != Profile::Long) {
+        let mut all = Withdrawals::default();
+        (0..200).for_each(|seed| all.count(&calls(seed, profile)));
+        let Withdrawals { lists, finished, several, none_left, sent_again, declined_by_18, .. } = all;
+        assert!(
+            lists >= 35 && finished >= 25 && declined_by_18 >= 25,
+            "{profile:?}: {lists} {finished} {declined_by_18}"
+        );
+        assert!(several >= 15 && sent_again >= 15, "{profile:?}: {several} {sent_again}");
+        assert!(none_left >= 5 || profile == Profile::ManyBids, "{profile:?}: {none_left}");
+        let (kept, old) = (all.with_256_kept, all.of_an_old_round);
+        assert!(old >= 5 || profile != Profile::Rounds, "{profile:?}: {old}");
+        assert!(kept >= 50 && all.declined_by_7 >= 50 || profile != Profile::ManyBids, "{kept} {}", all.declined_by_7);
     }
 }
 

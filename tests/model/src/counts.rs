@@ -1,6 +1,6 @@
 //! The ledger held as counts only: no list of units, and no call that sweeps over units.
 //!
-//! It is the speed baseline, and a second writing of document 01 and of C-12 against which the roll is compared. Refusals are checked call by
+//! It is the speed baseline, and a second writing of document 01 and of C-12 and C-14 against which the roll is compared. Refusals are checked call by
 //! call in the order of their numbers.
 
 use crate::auction::allot;
@@ -37,8 +37,8 @@ pub struct Counts {
     member: [Member; MEMBERS],
     contributions: u64,
     bids: Vec<Bid>,
-    /// The number of the first bid of this round.
-    round_begins: usize,
+    /// The numbers of the bids of the open round that were not withdrawn, in bid order.
+    to_allot: Vec<usize>,
     /// The sum of prices of all units not open.
     prices: i64,
     /// Torn units by pool and price, in the order they were torn.
@@ -124,6 +124,7 @@ impl Counts {
             11 => length == 1,
             6 | 9 | 13 => length == 0,
             14 => length == 6,
+            15 => length == 3,
             _ => false,
         }
     }
@@ -264,7 +265,6 @@ impl Counts {
                 pool.worst_reserve = pool.worst_reserve.min(pool.reserve);
             }
         }
-        self.round_begins = self.bids.len();
         self.stage = Some(Stage::Bidding(round));
         0
     }
@@ -331,6 +331,26 @@ impl Counts {
             return 8;
         }
         self.bids.push(Bid { pool, member, units, price, won: 0, sold: 0 });
+        self.to_allot.push(self.bids.len() - 1);
+        0
+    }
+
+    /// Takes the bid from those that are allotted; its record stays among the bids and keeps its place.
+    fn withdraw(&mut self, value: &[u8]) -> u8 {
+        if !self.is_bidding() {
+            return 2;
+        }
+        let (member, number) = (usize::from(value[0]), usize::from(u16_at(value, 1)));
+        if !self.has_member(member) {
+            return 4;
+        }
+        let Ok(place) = self.to_allot.binary_search(&number) else {
+            return 18;
+        };
+        if self.bids[number].member != member {
+            return 18;
+        }
+        self.to_allot.remove(place);
         0
     }
 
@@ -338,9 +358,10 @@ impl Counts {
         let Some(Stage::Bidding(round)) = self.stage else {
             return 2;
         };
+        let to_allot = std::mem::take(&mut self.to_allot);
         for pool in 0..self.pools {
             let numbers: Vec<usize> =
-                (self.round_begins..self.bids.len()).filter(|&number| self.bids[number].pool == pool).collect();
+                to_allot.iter().copied().filter(|&number| self.bids[number].pool == pool).collect();
             let offers: Vec<(u64, i64)> =
                 numbers.iter().map(|&number| (self.bids[number].units, self.bids[number].price)).collect();
             let won = allot(self.pool[pool].open, self.pool[pool].reserve, &offers);
@@ -715,7 +736,8 @@ impl Ledger for Counts {
             11 => self.move_units(value),
             12 => self.miss(value),
             13 => self.finish(),
-            _ => self.sell_by_agreement(value),
+            14 => self.sell_by_agreement(value),
+            _ => self.withdraw(value),
         }
     }
 

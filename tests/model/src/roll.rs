@@ -1,4 +1,4 @@
-//! The ledger as an explicit unit roll, one entry a unit, by the letter of document 01 and C-12 of document 02, and as plain as it can be.
+//! The ledger as an explicit unit roll, one entry a unit, by the letter of document 01 and C-12 and C-14 of document 02, and as plain as it can be.
 //!
 //! This is the model to believe: above each function stands the sentence that it follows. It uses no code of `split`, `auction`
 //! or `counts`.
@@ -65,7 +65,7 @@ struct Round {
     had_open_units: Vec<bool>,
 }
 
-/// An accepted BID, the round it belongs to, and its units won.
+/// An accepted BID, the round it belongs to, and its units won. C-14: "A bid record in the case now says whether it stands".
 #[derive(Clone, Debug, PartialEq, Eq)]
 pub struct Bid {
     pub round: u8,
@@ -74,10 +74,11 @@ pub struct Bid {
     pub units: u64,
     pub price: i64,
     pub won: u64,
+    pub stands: bool,
 }
 
 /// "A call is a tagged field: tag (1 byte), length (2), value."
-// One of the fourteen calls is itself named CALL.
+// One of the fifteen calls is itself named CALL.
 #[allow(clippy::enum_variant_names)]
 #[derive(Clone, Debug, PartialEq, Eq)]
 enum Call {
@@ -95,6 +96,7 @@ enum Call {
     Miss { member: u8, price: i64 },
     Finish,
     Sale { pool: u8, member: u8, price: i64 },
+    Withdraw { member: u8, number: u16 },
 }
 
 /// "1. Unknown tag, bytes that aren't exactly one field, or a wrong length (ROUND: 4 × pools; with no case 4, 8, 12 or 16)."
@@ -122,6 +124,7 @@ fn read(bytes: &[u8], pools: Option<u8>) -> Option<Call> {
             units: field::u16_at(value, 2).into(),
             price: field::price_at(value, 4),
             won: 0,
+            stands: true,
         }),
         (6, 0) => Call::Close,
         (7, 5) => Call::Allocate { pool: value[0], price: field::price_at(value, 1) },
@@ -133,6 +136,8 @@ fn read(bytes: &[u8], pools: Option<u8>) -> Option<Call> {
         (13, 0) => Call::Finish,
         // "SALE (tag 14: pool 1, member 1, price 4)"
         (14, 6) => Call::Sale { pool: value[0], member: value[1], price: field::price_at(value, 2) },
+        // "WITHDRAW (tag 15: member 1, bid number 2)"
+        (15, 3) => Call::Withdraw { member: value[0], number: field::u16_at(value, 1) },
         _ => return None,
     };
     Some(call)
@@ -190,7 +195,8 @@ fn is_out_of_range(call: &Call, pools: u8) -> bool {
         | Call::Sale { price, .. } => price_is_out_of_range(*price),
         // "a payment 1 to 10^9"
         Call::Pay { amount, .. } => !(1..=1_000_000_000).contains(amount),
-        Call::Close | Call::Call | Call::Move { .. } | Call::Finish => false,
+        // A bid number has no range of its own: one that no bid can have is 18.
+        Call::Close | Call::Call | Call::Move { .. } | Call::Finish | Call::Withdraw { .. } => false,
     }
 }
 
@@ -240,7 +246,7 @@ impl Roll {
             None => declines_without_a_case(number, call),
             Some(case) => case.declines(number, call),
         };
-        (2..=17).find(declines).unwrap_or(0)
+        (2..=18).find(declines).unwrap_or(0)
     }
 
     fn take(&mut self, call: Call) {
@@ -299,6 +305,7 @@ impl Case {
             15 => matches!(call, Call::Finish) && self.set().iter().any(|&m| self.owes(m) > 0),
             16 => matches!(call, Call::Miss { member, .. } if !self.was_given_units(*member)),
             17 => matches!(call, Call::Sale { pool, price, .. } if self.sale_passes_the_limit(*pool, *price)),
+            18 => matches!(call, Call::Withdraw { member, number } if !self.has_standing_bid(*member, *number)),
             _ => false,
         }
     }
@@ -311,7 +318,8 @@ impl Case {
             // "SALE ... in stage S"
             Call::Pool(_) | Call::Member(_) | Call::Sale { .. } => self.stage == Setup,
             Call::Round { .. } => self.stage == Setup || self.stage == After(1),
-            Call::Bid(_) | Call::Close => matches!(self.stage, Bidding(_)),
+            // "WITHDRAW ... is allowed while a round is open."
+            Call::Bid(_) | Call::Close | Call::Withdraw { .. } => matches!(self.stage, Bidding(_)),
             Call::Allocate { .. } | Call::Tear { .. } | Call::Call => {
                 matches!(self.stage, After(_))
             }
@@ -340,7 +348,8 @@ impl Case {
             Call::Pay { member, .. }
             | Call::Move { member }
             | Call::Miss { member, .. }
-            | Call::Sale { member, .. } => not_in_the_set(*member),
+            | Call::Sale { member, .. }
+            | Call::Withdraw { member, .. } => not_in_the_set(*member),
             _ => false,
         }
     }
@@ -413,6 +422,13 @@ impl Case {
         losses - (so_far + this_pool) > limit
     }
 
+    /// "18, after the member check, where no standing bid of that member in the open round has the number."
+    fn has_standing_bid(&self, member: u8, number: u16) -> bool {
+        let open_round = self.rounds.len() as u8;
+        let bid = self.bids.get(usize::from(number));
+        bid.is_some_and(|bid| bid.stands && bid.member == member && bid.round == open_round)
+    }
+
     // The calls
 
     fn take(&mut self, call: Call) {
@@ -433,6 +449,8 @@ impl Case {
             Call::Miss { member, price } => self.miss(member, price),
             Call::Finish => self.stage = Stage::Finished,
             Call::Sale { pool, member, price } => self.sale(pool, member, price),
+            // "the bid keeps its number and still counts towards 256", so its record stays.
+            Call::Withdraw { number, .. } => self.bids[usize::from(number)].stands = false,
         }
     }
 
@@ -469,10 +487,11 @@ impl Case {
         self.stage = Stage::After(self.rounds.len() as u8);
     }
 
-    /// "a bid of this round is valid if its price is at or above its pool's reserve."
+    /// "a bid of this round is valid if its price is at or above its pool's reserve." C-14: "CLOSE allots as though a withdrawn bid
+    /// had not been sent".
     fn is_valid(&self, bid: &Bid) -> bool {
         let round = &self.rounds[self.rounds.len() - 1];
-        usize::from(bid.round) == self.rounds.len() && bid.price >= round.reserves[usize::from(bid.pool)]
+        bid.stands && usize::from(bid.round) == self.rounds.len() && bid.price >= round.reserves[usize::from(bid.pool)]
     }
 
     /// "With n units open in its pool, and only that pool's bids counted, a valid bid wins all its units if the valid units at its

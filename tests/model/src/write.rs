@@ -15,6 +15,7 @@ pub const MOVE: u8 = 11;
 pub const MISS: u8 = 12;
 pub const FINISH: u8 = 13;
 pub const SALE: u8 = 14;
+pub const WITHDRAW: u8 = 15;
 
 /// A field of any tag and value; a value past 65,535 bytes has no field.
 pub fn field(tag: u8, value: &[u8]) -> Vec<u8> {
@@ -107,6 +108,11 @@ pub fn sale(pool: u8, member: u8, price: i32) -> Vec<u8> {
     let mut value = vec![pool, member];
     value.extend(price.to_be_bytes());
     field(SALE, &value)
+}
+
+pub fn withdraw(member: u8, number: u16) -> Vec<u8> {
+    let [high, low] = number.to_be_bytes();
+    field(WITHDRAW, &[member, high, low])
 }
 
 fn byte_and_four(first: u8, rest: [u8; 4]) -> [u8; 5] {

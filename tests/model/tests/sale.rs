@@ -94,8 +94,8 @@ fn the_first_number_of_the_list_answers() {
     const FAR: i32 = 1_000_001;
     both(|ledger| {
         let (short, long) = (vec![14, 0, 5, 0, 0, 0, 0, 0], vec![14, 0, 7, 0, 0, 0, 0, 0, 0, 0]);
-        // With no case a wrong length is 1 and the call itself 2; tag 15 is no call yet.
-        let calls = [short.clone(), long.clone(), sale(9, 99, FAR), field(15, &[0; 6]), field(15, &[0; 3])];
+        // With no case a wrong length is 1 and the call itself 2; a SALE's value under another tag is no SALE.
+        let calls = [short.clone(), long.clone(), sale(9, 99, FAR), field(15, &[0; 6]), field(16, &[0; 6])];
         assert_eq!(feed(ledger, &calls), [1, 1, 2, 1, 1]);
         let h = Head { margin: 10, ..head_of(2, 2) };
         accepted(ledger, &[head(&h), pool(0, 1, 0), member(0, 0, NONE)]);

@@ -1,10 +1,10 @@
 //! The inputs of the program crate `cases`, and what the model prints for them: K9, annexure 1 of document 000, the example of document 01 cut off at
-//! every byte, lists that give every answer to every call of document 01 that can get it, and lists of sales by agreement.
+//! every byte, lists that give every answer to every call of document 01 that can get it, lists of sales by agreement and lists of bids taken back.
 
 use generator::{calls_of_01, fields, profile_of};
 use model::write::{
-    ALLOCATE, FINISH, Head, SALE, allocate, bid, call, close, example, field, finish, head, member, miss, move_units,
-    pay, pool, round, sale, tear,
+    ALLOCATE, FINISH, Head, SALE, WITHDRAW, allocate, bid, call, close, example, field, finish, head, member, miss,
+    move_units, pay, pool, round, sale, tear, withdraw,
 };
 use model::{Ledger, Roll, print};
 use std::collections::BTreeSet;
@@ -16,6 +16,9 @@ const PAIRS: usize = 74;
 
 /// The answers that SALE can get.
 const SALE_ANSWERS: [u8; 9] = [0, 1, 2, 3, 4, 5, 8, 10, 17];
+
+/// The answers that WITHDRAW can get.
+const WITHDRAW_ANSWERS: [u8; 5] = [0, 1, 2, 4, 18];
 
 fn main() -> ExitCode {
     let output = match std::env::args().nth(1).as_deref() {
@@ -43,17 +46,158 @@ fn inputs() -> Vec<Vec<u8>> {
     let seen = all.iter().flat_map(|input| pairs_of(input)).collect();
     all.extend(every_pair(seen));
     all.extend(sales());
+    all.extend(withdrawals());
     all
+}
+
+/// Fails where the lists do not give the call each of the answers.
+fn assert_all_given(lists: &[Vec<u8>], tag: u8, answers: &[u8]) {
+    let seen: BTreeSet<(u8, u8)> = lists.iter().flat_map(|input| pairs_of(input)).collect();
+    let missed: Vec<u8> = answers.iter().copied().filter(|&answer| !seen.contains(&(tag, answer))).collect();
+    assert!(missed.is_empty(), "tag {tag} never answered {missed:?}");
 }
 
 /// Sales by agreement: every answer of SALE, A1 without a round, units so sold that MOVE and MISS pass over, and ranks beside them.
 fn sales() -> Vec<Vec<u8>> {
     let lists = [declined_sales(), sold_whole(), passed_over(), nothing_to_move(), ranked_beside_a_sale()]
         .map(|list| list.concat());
-    let seen: BTreeSet<(u8, u8)> = lists.iter().flat_map(|input| pairs_of(input)).collect();
-    let missed: Vec<u8> = SALE_ANSWERS.into_iter().filter(|&answer| !seen.contains(&(SALE, answer))).collect();
-    assert!(missed.is_empty(), "SALE never answered {missed:?}");
+    assert_all_given(&lists, SALE, &SALE_ANSWERS);
     lists.to_vec()
+}
+
+/// Bids taken back: every answer of WITHDRAW in both rounds, what CLOSE then allots, a bid sent again, and places that stay taken.
+fn withdrawals() -> Vec<Vec<u8>> {
+    let lists = [declined_withdrawals(), allotted_without(), sent_again(), no_bid_left(), places_stay_taken()]
+        .map(|list| list.concat());
+    assert_all_given(&lists, WITHDRAW, &WITHDRAW_ANSWERS);
+    lists.to_vec()
+}
+
+/// Every reason to decline a WITHDRAW, in every stage: another member's bid, a number not given yet or past 255, a bid withdrawn before, a bid of the first
+/// round in the second, sold, below the reserve or withdrawn. What stands is sold: 1 unit of bid 1 and 2 of bid 4.
+fn declined_withdrawals() -> Vec<Vec<u8>> {
+    let h = Head { hedge_loss: 40, margin: 10, ..head_of(1, 2) };
+    vec![
+        withdraw(0, 0),
+        field(WITHDRAW, &[0; 2]),
+        head(&h),
+        withdraw(0, 0),
+        pool(0, 9, 0),
+        member(0, 10, [0; 4]),
+        member(1, 10, [0; 4]),
+        round(&[-5]),
+        withdraw(0, 0),
+        bid(0, 0, 3, -4),
+        bid(0, 1, 1, -4),
+        bid(0, 0, 2, -6),
+        field(WITHDRAW, &[0; 4]),
+        withdraw(2, 0),
+        withdraw(32, 65_535),
+        withdraw(1, 0),
+        withdraw(0, 1),
+        withdraw(0, 3),
+        withdraw(0, 256),
+        withdraw(1, 257),
+        withdraw(0, 512),
+        withdraw(0, 65_535),
+        withdraw(0, 0),
+        withdraw(0, 0),
+        close(),
+        withdraw(1, 1),
+        round(&[-9]),
+        withdraw(1, 1),
+        withdraw(0, 2),
+        withdraw(0, 0),
+        bid(0, 1, 5, -2),
+        bid(0, 0, 2, -9),
+        withdraw(1, 0),
+        withdraw(0, 3),
+        withdraw(1, 3),
+        withdraw(1, 3),
+        withdraw(255, 4),
+        close(),
+        withdraw(0, 4),
+        tear(0, -1),
+        call(),
+        withdraw(0, 4),
+        pay(0, 10),
+        pay(1, 10),
+        finish(),
+        withdraw(0, 4),
+        field(WITHDRAW, &[]),
+    ]
+}
+
+/// Two pools. In pool 0 the bid above the others is withdrawn, so that 5 and not 2 are split by 4, 4 and 2; in pool 1 the three bids ask for more than is open
+/// and the two that stand do not. The prices are −10 and −4, and the ranks 2 3 1.
+fn allotted_without() -> Vec<Vec<u8>> {
+    let h = Head { margin: 5, house: 4, ..head_of(2, 3) };
+    vec![
+        head(&h),
+        pool(0, 5, 0),
+        pool(1, 10, 0),
+        member(0, 7, [1, 4, 0, 0]),
+        member(1, 7, [4, 0, 0, 0]),
+        member(2, 7, [0; 4]),
+        round(&[-9, -3]),
+        bid(0, 0, 4, -2),
+        bid(0, 2, 3, -1),
+        bid(1, 0, 4, -1),
+        bid(0, 1, 4, -2),
+        bid(1, 1, 7, -1),
+        bid(0, 2, 2, -2),
+        bid(1, 2, 4, 0),
+        withdraw(2, 1),
+        withdraw(1, 4),
+        close(),
+        tear(1, 0),
+        finish(),
+    ]
+}
+
+/// Two bids of 2 at one price and 3 units: the odd one goes to the earlier bid, which is member 1's once member 0 has taken its own back and sent it again.
+/// The MOVE takes units of the later bid, number 2.
+fn sent_again() -> Vec<Vec<u8>> {
+    let given = [pool(0, 3, 0), member(0, 10, [1, 0, 0, 0]), member(1, 4, [1, 0, 0, 0]), round(&[-9])];
+    let bids = [bid(0, 0, 2, -8), bid(0, 1, 2, -8), withdraw(0, 0), bid(0, 0, 2, -8), close()];
+    [vec![head(&head_of(1, 2))], given.to_vec(), bids.to_vec(), vec![call(), move_units(1), pay(0, 7), finish()]]
+        .concat()
+}
+
+/// Every bid of the first round is withdrawn, so nobody has won and both are short; the second round's reserve still counts for what is sold in it.
+fn no_bid_left() -> Vec<Vec<u8>> {
+    let h = Head { margin: 100, ..head_of(1, 2) };
+    vec![
+        head(&h),
+        pool(0, 6, 0),
+        member(0, 0, [2, 0, 0, 0]),
+        member(1, 0, [1, 0, 0, 0]),
+        round(&[-3]),
+        bid(0, 0, 6, -1),
+        bid(0, 1, 2, -2),
+        withdraw(1, 1),
+        withdraw(0, 0),
+        close(),
+        allocate(0, -4),
+        round(&[-9]),
+        bid(0, 1, 2, -7),
+        bid(0, 1, 2, -7),
+        withdraw(1, 3),
+        close(),
+        tear(0, -5),
+        finish(),
+    ]
+}
+
+/// 256 bids, of which two are withdrawn: the next is declined by 7 before and after, also in the second round.
+fn places_stay_taken() -> Vec<Vec<u8>> {
+    let mut all =
+        vec![head(&Head { margin: 1_000, ..head_of(1, 1) }), pool(0, 256, 0), member(0, 0, [0; 4]), round(&[-1])];
+    all.extend((0..255).map(|_| bid(0, 0, 1, -1)));
+    all.extend([withdraw(0, 7), bid(0, 0, 1, -1), bid(0, 0, 1, -1), withdraw(0, 255), bid(0, 0, 1, -1)]);
+    all.extend([withdraw(0, 256), withdraw(0, 255), close(), round(&[-1]), bid(0, 0, 1, -1), withdraw(0, 0), close()]);
+    all.extend([tear(0, 0), finish()]);
+    all
 }
 
 /// Every reason to decline a SALE in turn, and the limit of 17: 30 lost, and 90 for both pools, are margin and fund together. One cent more is declined.
@@ -210,7 +354,7 @@ fn pairs_of(input: &[u8]) -> BTreeSet<(u8, u8)> {
     fields(input)
         .iter()
         .map(|field| (field[0], ledger.call(field)))
-        .filter(|&(tag, _)| (1..=SALE).contains(&tag))
+        .filter(|&(tag, _)| (1..=WITHDRAW).contains(&tag))
         .collect()
 }
 
@@ -229,7 +373,7 @@ fn every_pair(mut seen: BTreeSet<(u8, u8)>) -> Vec<Vec<u8>> {
         if input.len() > 4_000 {
             continue;
         }
-        let pairs: BTreeSet<(u8, u8)> = pairs_of(&input).into_iter().filter(|&(tag, _)| tag != SALE).collect();
+        let pairs: BTreeSet<(u8, u8)> = pairs_of(&input).into_iter().filter(|&(tag, _)| tag <= FINISH).collect();
         if !pairs.is_subset(&seen) {
             seen.extend(pairs);
             kept.push(input);

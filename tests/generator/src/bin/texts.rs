@@ -23,6 +23,7 @@ fn is_call(field: &[u8]) -> bool {
         7 | 8 | 10 | 12 => &[5],
         11 => &[1],
         14 => &[6],
+        15 => &[3],
         _ => &[],
     };
     lengths.contains(&(field.len() - 3)) && usize::from(u16::from_be_bytes([field[1], field[2]])) == field.len() - 3
@@ -157,6 +158,29 @@ fn main() -> ExitCode {
             format!("{ends}; expected the key price"),
             b"SALE pool 0 member 1 price -12.00\nSALE pool 1 member 1\nFINISH\n".to_vec(),
         ),
+        // a bid taken back
+        (1, 18, format!("{ends}; expected the key bid"), b"WITHDRAW member 1\n".to_vec()),
+        (1, 22, format!("{ends}; expected a whole number"), b"WITHDRAW member 1 bid\n".to_vec()),
+        (1, 9, format!("{ends}; expected the key member"), b"WITHDRAW\n".to_vec()),
+        (1, 23, "the number is too large, at most 65535".into(), b"WITHDRAW member 1 bid 65536\n".to_vec()),
+        (1, 17, "the number is too large, at most 255".into(), b"WITHDRAW member 256 bid 3\n".to_vec()),
+        (1, 10, "expected the key member".into(), b"WITHDRAW bid 3 member 1\n".to_vec()),
+        (1, 10, "expected the key member".into(), b"WITHDRAW pool 0 member 1 bid 3\n".to_vec()),
+        (1, 10, "expected the key member".into(), b"WITHDRAW 1 3\n".to_vec()),
+        (1, 19, "expected the key bid".into(), b"WITHDRAW member 1 number 3\n".to_vec()),
+        (1, 19, "expected the key bid".into(), b"WITHDRAW member 1 3\n".to_vec()),
+        (1, 22, "expected the key bid, then a space".into(), b"WITHDRAW member 1 bid=3\n".to_vec()),
+        (1, 23, "expected a whole number".into(), b"WITHDRAW member 1 bid first\n".to_vec()),
+        (1, 23, "expected a whole number".into(), b"WITHDRAW member 1 bid -1\n".to_vec()),
+        (1, 25, complete.into(), b"WITHDRAW member 1 bid 3 4\n".to_vec()),
+        (1, 1, unnamed.into(), b"WITHDRAWN member 1 bid 3\n".to_vec()),
+        (1, 1, unnamed.into(), b"WITHDRA member 1 bid 3\n".to_vec()),
+        (
+            2,
+            18,
+            format!("{ends}; expected the key bid"),
+            b"WITHDRAW member 1 bid 3\nWITHDRAW member 1\nCLOSE\n".to_vec(),
+        ),
         // the line's end
         (1, 34, format!("{ends}; {price}"), b"BID pool 0 member 1 units 5 price\n".to_vec()),
         (1, 20, format!("{ends}; expected the key units"), b"BID pool 0 member 1\n".to_vec()),
@@ -185,11 +209,11 @@ fn main() -> ExitCode {
         println!("{message}");
     }
     // a space or a tab may stand behind a comma, between words and at a line's ends
-    let spaced = b"\tHEAD  pools 1 least 1 members 0, 1,\t2 hedge 0.00 other 0.00 margin 0.20 fund 0.10 house 0.50 \r\nmember member 0 contribution 1.00 expected 4, 0,0,  0 # all\r\n sale\tpool 0 Member  1 price -12.00\t\nround reserves -0.30, -0.20";
-    let plain = b"HEAD pools 1 least 1 members 0,1,2 hedge 0.00 other 0.00 margin 0.20 fund 0.10 house 0.50\nMEMBER member 0 contribution 1.00 expected 4,0,0,0\nSALE pool 0 member 1 price -12.00\nROUND reserves -0.30,-0.20\n";
+    let spaced = b"\tHEAD  pools 1 least 1 members 0, 1,\t2 hedge 0.00 other 0.00 margin 0.20 fund 0.10 house 0.50 \r\nmember member 0 contribution 1.00 expected 4, 0,0,  0 # all\r\n sale\tpool 0 Member  1 price -12.00\t\n\twithdraw  member 1\tBid  65535 # the last\r\nround reserves -0.30, -0.20";
+    let plain = b"HEAD pools 1 least 1 members 0,1,2 hedge 0.00 other 0.00 margin 0.20 fund 0.10 house 0.50\nMEMBER member 0 contribution 1.00 expected 4,0,0,0\nSALE pool 0 member 1 price -12.00\nWITHDRAW member 1 bid 65535\nROUND reserves -0.30,-0.20\n";
     let spaced = run(program, None, spaced.to_vec());
     let plain = run(program, None, plain.to_vec());
-    if spaced.stdout.len() != 66 || spaced.stdout != plain.stdout || !spaced.stderr.is_empty() {
+    if spaced.stdout.len() != 72 || spaced.stdout != plain.stdout || !spaced.stderr.is_empty() {
         println!(
             "FAILED: spaces: {} bytes on standard output, message {:?}",
             spaced.stdout.len(),
@@ -204,6 +228,14 @@ fn main() -> ExitCode {
         return ExitCode::FAILURE;
     }
     println!("a SALE is written with pool, member and price");
+    let withdrawn = [write::withdraw(1, 3), write::withdraw(0, 0), write::withdraw(255, 65_535)].concat();
+    let written = run(program, Some("--text"), withdrawn.clone()).stdout;
+    let wanted = b"WITHDRAW member 1 bid 3\nWITHDRAW member 0 bid 0\nWITHDRAW member 255 bid 65535\n";
+    if written != wanted || run(program, None, written.clone()).stdout != withdrawn {
+        println!("FAILED: WITHDRAWs in words: {:?}", String::from_utf8_lossy(&written));
+        return ExitCode::FAILURE;
+    }
+    println!("a WITHDRAW is written with member and bid, and read");
     // a comment of 32 bytes to a line ends without a bare '#'
     for (length, lines) in [(29, 1), (30, 2), (61, 2), (62, 3)] {
         let mut field = vec![77, 0, length];

@@ -1,10 +1,11 @@
 //! `calls [N [SEED]]`: the proved ledger against the roll's model, call by call, on N generated lists (2,000) from consecutive seeds, among
 //! them byte strings that are not one field; then the same lists at once, cut by ends that are out of order, and whole inputs with their text.
-//! Over 1,000 lists or more it fails where an answer of SALE or a situation after one never came.
+//! Over 1,000 lists or more it fails where an answer of SALE or WITHDRAW or a situation after one never came.
 use generator::{calls, input, profile_of};
 use linked::Random;
 use linked::ledger::{self, Proved};
 use linked::tally::tell;
+use model::roll::Bid;
 use model::{Ledger, Roll, Stage, field, write};
 use std::process::ExitCode;
 
@@ -108,6 +109,12 @@ struct Tally {
     /// Accepted MOVEs and MISSes where units sold by agreement are held.
     moves_beside_sales: u64,
     misses_beside_sales: u64,
+    /// Answers to WITHDRAW.
+    withdrawals: [u64; 32],
+    /// Accepted CLOSEs of a round with a withdrawn bid, BIDs declined by 7 with one among the 256, and WITHDRAWs of a bid of the first round in the second.
+    closed_without: u64,
+    places_taken: u64,
+    of_old_round: u64,
 }
 
 impl Tally {
@@ -128,10 +135,29 @@ impl Tally {
         self.misses_beside_sales += u64::from(had_sale && (tag, answer) == (Some(write::MISS), 0));
     }
 
+    /// Counts what a call is an example of beside bids taken back, by the stage before it and the bids after it.
+    fn count_withdrawals(&mut self, call: &[u8], answer: u8, before: Option<Stage>, bids: &[Bid]) {
+        let tag = call.first().copied();
+        if tag == Some(write::WITHDRAW) {
+            self.withdrawals[usize::from(answer)] += 1;
+        }
+        let Some(Stage::Bidding(round)) = before else {
+            return;
+        };
+        let withdrawn = |bid: &Bid| !bid.stands && bid.round == round;
+        self.closed_without += u64::from((tag, answer) == (Some(write::CLOSE), 0) && bids.iter().any(withdrawn));
+        self.places_taken += u64::from((tag, answer) == (Some(write::BID), 7) && bids.iter().any(|bid| !bid.stands));
+        if (tag, answer) == (Some(write::WITHDRAW), 18) {
+            let bid = bids.get(usize::from(field::u16_at(call, 4)));
+            self.of_old_round += u64::from(bid.is_some_and(|bid| bid.stands && bid.member == call[3] && bid.round < round));
+        }
+    }
+
     /// What has to occur in 1,000 lists.
     fn occurred(&self) -> Vec<(String, u64)> {
-        let answers = [0, 1, 2, 3, 4, 5, 8, 10, 17].map(|answer| (format!("SALE {answer}"), self.sales[answer]));
-        let mut all = answers.to_vec();
+        let sales = [0, 1, 2, 3, 4, 5, 8, 10, 17].map(|answer| (format!("SALE {answer}"), self.sales[answer]));
+        let withdrawals = [0, 1, 2, 4, 18].map(|answer| (format!("WITHDRAW {answer}"), self.withdrawals[answer]));
+        let mut all = [&sales[..], &withdrawals].concat();
         for (what, count) in [
             ("calls in A1 without a round", self.without_round),
             ("ROUND 8 there", self.rounds_declined),
@@ -139,6 +165,9 @@ impl Tally {
             ("FINISH there", self.finished_without_round),
             ("MOVE beside units sold by agreement", self.moves_beside_sales),
             ("MISS beside units sold by agreement", self.misses_beside_sales),
+            ("CLOSE of a round with a withdrawn bid", self.closed_without),
+            ("BID 7 with a withdrawn bid among the 256", self.places_taken),
+            ("WITHDRAW 18 of a bid of the first round", self.of_old_round),
         ] {
             all.push((what.to_string(), count));
         }
@@ -159,6 +188,7 @@ fn compare_list(seed: u64, list: &[Vec<u8>], tally: &mut Tally) {
         assert_eq!(proved.call(call), answer, "answer {at}");
         answers.push(answer);
         tally.count(call.first().copied(), answer, before, had_round, had_sale);
+        tally.count_withdrawals(call, answer, before, roll.bids());
         if answer != 0 {
             continue;
         }
