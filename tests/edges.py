@@ -267,15 +267,24 @@ for text in sorted(pathlib.Path('examples').glob('*.txt')):
     r = run(['bin/run', str(text)])
     tell('bin/run %s' % text, r.returncode == 0 and r.stderr == b'' and r.stdout == text.with_suffix('.out').read_bytes(), r)
 
-# ---- reasons that no example has
+# ---- answers that no example has
 
 text = [b'HEAD pools 1 least 1 members 0 hedge 0.00 other 0.00 margin 0.00 fund 0.00 house 0.00', b'POOL pool 0 units 1 mark 0',
         b'MEMBER member 0 contribution 0.00 expected 0,0,0,0', b'ROUND reserves 0.00'] + [b'BID pool 0 member 0 units 1 price 0.00'] * 257
 r = run(['bin/run'], b'\n'.join(text))
 tell('bin/run, a bid too many', r.returncode == 0 and r.stdout.count(b'refused') == 1 and b'refused 7: no more bids are kept (bids kept 256); stage B' in r.stdout, r)
-r = run(['bin/explain'], bytes([99, 0, 1, 5, 5, 0, 0, 14, 0, 5, 0, 0, 0, 0, 0]))
+# a withdrawn bid still counts, and the last number is that of the last bid
+r = run(['bin/run'], b'\n'.join(text[:-1] + [b'WITHDRAW member 0 bid 256', b'WITHDRAW member 0 bid 255', text[-1]]))
+said = [line.split(b'; stage')[0] for line in r.stdout.splitlines()]
+at = said.index(b'WITHDRAW member 0 bid 256')
+tell('bin/run, a bid too many behind a withdrawn one', said[at - 1:at + 6] == [b'    accepted as bid 255', b'WITHDRAW member 0 bid 256', b'    refused 18: no bid has the number (bids are numbered 0 to 255)', b'WITHDRAW member 0 bid 255', b'    accepted', text[-1], b'    refused 7: no more bids are kept (bids kept 256)'], said[at - 1:at + 6])
+rows = said[said.index(b'Bids of round 1') + 2:said.index(b'Loss') - 1]
+tell('bin/run, a table of 256 bids', [row.split() for row in rows] == [[b'%d' % n, b'0', b'0', b'1', b'0.00', b'withdrawn' if n == 255 else b'yes'] for n in range(256)], rows)
+r = run(['bin/run'], b'\n'.join(text[:4]))
+tell('bin/run, a round without bids', b'\n\nBids of round 1\n    bid  member    pool     units          price  stands\n\nLoss\n' in r.stdout, r)
+r = run(['bin/explain'], bytes([99, 0, 1, 5, 5, 0, 0, 14, 0, 5, 0, 0, 0, 0, 0, 15, 0, 2, 0, 0]))
 reason = b'    refused 1: not a call: unknown tag or wrong length; no case\n'
-tell('bin/explain, fields that are no calls', r.stdout == b'tag 99, bytes 1\n' + reason + b'tag 5, bytes 0\n' + reason + b'tag 14, bytes 5\n' + reason + b'no case\n', r)
+tell('bin/explain, fields that are no calls', r.stdout == b'tag 99, bytes 1\n' + reason + b'tag 5, bytes 0\n' + reason + b'tag 14, bytes 5\n' + reason + b'tag 15, bytes 2\n' + reason + b'no case\n', r)
 
 # ---- a pool sold by agreement, where the case is not finished: the tables of no example
 
@@ -293,6 +302,12 @@ Sold by agreement, counted as sold above
    pool     units  member          price         amount
       1         2       2        -100.00        -200.00
   total         2                               -200.00
+
+Bids of round 1
+    bid  member    pool     units          price  stands
+      0       0       0         3         -20.00  yes
+      1       1       0         4         -30.00  yes
+      2       2       0         2         -70.00  yes
 
 Loss
   hedge loss                                60.00
@@ -327,6 +342,12 @@ sold = open('docs/USING.md').read().split('\n## 2. A small pool sold first\n')[1
 printed = [line for name in ('agreed', 'sales') for line in open('examples/%s.out' % name).read().splitlines()]
 quoted = [line[4:] for line in sold.splitlines() if line.startswith('    ')]
 tell('docs/USING.md quotes the examples with SALE', len(quoted) > 20 and all(line in printed for line in quoted), [line for line in quoted if line not in printed])
+
+sections = open('docs/USING.md').read().split('\n## ')
+texts = [block for section in sections if section.startswith(('3. The auctions', '7. The tables')) for block in section.split('```')[::2]]
+printed = [line for name in ('withdrawals', 'open-round') for line in open('examples/%s.out' % name).read().splitlines()]
+quoted = [line[4:] for text in texts for line in text.splitlines() if line.startswith('    ')]
+tell('docs/USING.md quotes the examples with WITHDRAW', len(quoted) > 12 and all(line in printed for line in quoted), [line for line in quoted if line not in printed])
 
 # ---- the scripts, with an `rt` that says what they are told
 

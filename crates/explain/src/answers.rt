@@ -6,6 +6,7 @@ use crate::texts::minus;
 use crate::texts::one;
 use crate::texts::plain;
 use crate::texts::two;
+use accounts::bids::Bids;
 use book::Book;
 use book::Stage;
 use case::Case;
@@ -13,12 +14,14 @@ use forms::Tagged;
 use units::Units;
 use wire::Call;
 
-// The tags of calls that have reasons of their own.
+// The tags of calls of which more is said than of others.
 const POOL: u8 = 2;
 
 const MEMBER: u8 = 3;
 
 const ROUND: u8 = 4;
+
+const BID: u8 = 5;
 
 const PAY: u8 = 10;
 
@@ -222,6 +225,40 @@ fn fault(present: bool, book: Book, tag: u8, first: u8, price: u32, answer: u8) 
     late_fault(book, tag, first, price, answer)
 }
 
+// ---- 18: "where no standing bid of that member in the open round has the number"
+
+// The number is that of no bid.
+fn no_bid_line(kept: usize) -> Line {
+    if kept == 0 {
+        return one(texts::NONE_KEPT, 18);
+    }
+    two(texts::NO_BID, 18, (kept - 1) as u64)
+}
+
+// The number at one of 256 places, and 0 behind them.
+fn number_at(xs: [u8; 256], n: usize) -> u8 {
+    if n < 256 { xs[n] } else { 0 }
+}
+
+// The number is that of no bid, or its bid is another member's, of an earlier round, or withdrawn: the first that applies.
+fn withdraw_line(bids: Bids, round: u8, m: u8, n: u32) -> Line {
+    let i = n as usize;
+    if bids.kept <= i {
+        return no_bid_line(bids.kept);
+    }
+    let members = bids.member;
+    let bidder = number_at(members, i);
+    if bidder != m {
+        return two(texts::OTHERS_BID, 18, bidder as u64);
+    }
+    let rounds = bids.round;
+    let held = number_at(rounds, i);
+    if held != round {
+        return two(texts::EARLIER_BID, 18, held as u64);
+    }
+    two(texts::WITHDRAWN_BID, 18, n as u64)
+}
+
 // ---- the stage
 
 // The letter of a stage and its round; `held` is the number of rounds that were held.
@@ -275,6 +312,12 @@ fn first_of(call: Tagged) -> u8 {
     if n < 256 { n as u8 } else { 255 }
 }
 
+// The second number of a call, which is that of the bid of a WITHDRAW.
+fn second_of(call: Tagged) -> u32 {
+    let numbers = call.numbers;
+    numbers[1]
+}
+
 // The third number of a call, which is the price of a SALE.
 fn third_of(call: Tagged) -> u32 {
     let numbers = call.numbers;
@@ -316,6 +359,22 @@ fn write_refusal(
     more
 }
 
+// An accepted call; a BID has the number of the bids kept before it: "numbered from 0 as accepted".
+fn accepted_line(tag: u8, kept: usize) -> Line {
+    if tag == BID {
+        return one(texts::ACCEPTED_BID, kept as u64);
+    }
+    plain(texts::ACCEPTED)
+}
+
+// The answers 0 and 18, for which only the bids and the round are read.
+fn answer_line(bids: Bids, round: u8, call: Tagged, answer: u8) -> Line {
+    if answer == 0 {
+        return accepted_line(call.tag, bids.kept);
+    }
+    withdraw_line(bids, round, first_of(call), second_of(call))
+}
+
 // The answer to a call in words; the case is that before the call.
 pub fn write_answer(
     present: bool,
@@ -325,8 +384,12 @@ pub fn write_answer(
     out: &mut [u8],
     at: usize,
 ) -> usize {
-    if answer == 0 {
-        return fill(out, at, plain(texts::ACCEPTED));
+    let flat = forms::flat(call);
+    let stage = case.stage;
+    let book = case.book;
+    if lists::either(answer == 0, answer == 18) {
+        let round = book::round_of(stage);
+        return fill(out, at, answer_line(book.bids, round, flat, answer));
     }
-    write_refusal(present, case, forms::flat(call), answer, out, at)
+    write_refusal(present, case, flat, answer, out, at)
 }

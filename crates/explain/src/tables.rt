@@ -1,4 +1,5 @@
-// The tables at the end: pools, those sold by agreement, the loss and its six layers, members, and the units held by member, pool and price. Each has a row of totals.
+// The tables at the end: pools, those sold by agreement, the bids of the open round, the loss and its six layers, members, and the units held by member, pool and price.
+// Each has a row of totals, but for the bids, and the members before FINISH.
 ghost use Prim.Native.Nat.{_≤_, _<_};
 use crate::texts;
 use crate::texts::Line;
@@ -7,6 +8,7 @@ use crate::texts::fill;
 use crate::texts::minus;
 use crate::texts::plain;
 use crate::texts::worth;
+use accounts::bids::Bids;
 use accounts::members::Members;
 use accounts::members::over_pools;
 use accounts::members::widened;
@@ -174,6 +176,55 @@ fn write_sales(units: Units, out: &mut [u8], at: usize) -> usize {
     let title = fill(out, at, plain(texts::SALES_TITLE));
     let rows = sale_rows(units, out, title);
     fill(out, rows, sales_total(units))
+}
+
+// ---- the bids of the open round
+
+// The text of a bid's row.
+fn bid_text(stands: bool) -> usize {
+    if stands {
+        texts::STANDING_ROW
+    } else {
+        texts::WITHDRAWN_ROW
+    }
+}
+
+// The row of a bid of a round; no other bid has one.
+fn bid_line(bids: Bids, round: u8, i: usize) -> Line {
+    if Bids::MOST <= i {
+        return plain(texts::NOTHING);
+    }
+    if bids.round[i] != round {
+        return plain(texts::NOTHING);
+    }
+    texts::five(
+        bid_text(bids.stands[i]),
+        i as u64,
+        bids.member[i] as u64,
+        bids.pool[i] as u64,
+        bids.units[i] as u64,
+        texts::price(bids.price[i]),
+    )
+}
+
+// The rows of the bids of a round, by their numbers.
+fn bid_rows(bids: Bids, round: u8, out: &mut [u8], at: usize) -> usize {
+    let mut to = at;
+    let mut i: usize = 0;
+    while i < bids.kept {
+        to = fill(out, to, bid_line(bids, round, i));
+        i += 1;
+    }
+    to
+}
+
+// The table of the bids of the open round, where there is one.
+fn write_bids(open: bool, round: u8, bids: Bids, out: &mut [u8], at: usize) -> usize {
+    if !open {
+        return at;
+    }
+    let title = fill(out, at, texts::one(texts::BIDS_TITLE, round as u64));
+    bid_rows(bids, round, out, title)
 }
 
 // ---- the loss
@@ -618,10 +669,12 @@ pub fn write_tables(held: Held, out: &mut [u8], at: usize) -> usize {
     let case = held.case;
     let stage = case.stage;
     let book = case.book;
-    let finished = book::letter(stage) == 5;
+    let letter = book::letter(stage);
+    let finished = letter == 5;
     let pools = write_pools(case, out, at);
     let sales = write_sales(book.units, out, pools);
-    let loss = write_loss(finished, book, out, sales);
+    let bids = write_bids(letter == 2, book::round_of(stage), book.bids, out, sales);
+    let loss = write_loss(finished, book, out, bids);
     let members = write_members(finished, book, out, loss);
     write_held(case, out, members)
 }

@@ -16,145 +16,165 @@ pub const NOTHING: usize = 0;
 
 pub const ACCEPTED: usize = 1;
 
-pub const THEN: usize = 2;
+// A BID, with its number.
+pub const ACCEPTED_BID: usize = 2;
+
+pub const THEN: usize = 3;
 
 // The stages, by their letter from 1 on.
-pub const STAGE: usize = 2;
+pub const STAGE: usize = 3;
 
 // Stage A where no round was held, since every pool was sold by agreement.
-pub const NO_ROUND: usize = 8;
+pub const NO_ROUND: usize = 9;
 
 // The open units, by the number of pools given.
-pub const UNITS: usize = 8;
+pub const UNITS: usize = 9;
 
-pub const NO_CASE: usize = 13;
+pub const NO_CASE: usize = 14;
 
 // Why a call is declined, by the answer from 1 on; then those that only some calls have.
-pub const REASON: usize = 13;
+pub const REASON: usize = 14;
 
-pub const WRONG_RESERVES: usize = 31;
+// The number of WITHDRAW is that of no bid, or of a bid that is another's, of an earlier round, or withdrawn.
+pub const NO_BID: usize = 32;
 
-pub const NOT_NEXT: usize = 32;
+pub const NONE_KEPT: usize = 33;
 
-pub const GIVEN: usize = 33;
+pub const OTHERS_BID: usize = 34;
 
-pub const NONE_OPEN: usize = 34;
+pub const EARLIER_BID: usize = 35;
 
-pub const NOT_ALL_GIVEN: usize = 35;
+pub const WITHDRAWN_BID: usize = 36;
 
-pub const MORE_THAN_OWED: usize = 36;
+pub const WRONG_RESERVES: usize = 37;
+
+pub const NOT_NEXT: usize = 38;
+
+pub const GIVEN: usize = 39;
+
+pub const NONE_OPEN: usize = 40;
+
+pub const NOT_ALL_GIVEN: usize = 41;
+
+pub const MORE_THAN_OWED: usize = 42;
 
 // The value at fault.
-pub const BEFORE_HEAD: usize = 37;
+pub const BEFORE_HEAD: usize = 43;
 
-pub const IN_STAGE: usize = 38;
+pub const IN_STAGE: usize = 44;
 
-pub const RESERVES_FAULT: usize = 39;
+pub const RESERVES_FAULT: usize = 45;
 
-pub const POOLS_FAULT: usize = 40;
+pub const POOLS_FAULT: usize = 46;
 
-pub const SET_FAULT: usize = 41;
+pub const SET_FAULT: usize = 47;
 
-pub const LEAST_FAULT: usize = 42;
+pub const LEAST_FAULT: usize = 48;
 
-pub const KEPT_FAULT: usize = 43;
+pub const KEPT_FAULT: usize = 49;
 
-pub const POOL_FAULT: usize = 44;
+pub const POOL_FAULT: usize = 50;
 
-pub const ANY_POOL_FAULT: usize = 45;
+pub const ANY_POOL_FAULT: usize = 51;
 
-pub const SHORT_FAULT: usize = 46;
+pub const SHORT_FAULT: usize = 52;
 
-pub const GIVEN_FAULT: usize = 47;
+pub const GIVEN_FAULT: usize = 53;
 
-pub const OPEN_FAULT: usize = 48;
+pub const OPEN_FAULT: usize = 54;
 
-pub const COVER_FAULT: usize = 49;
+pub const COVER_FAULT: usize = 55;
 
-pub const OWED_FAULT: usize = 50;
+pub const OWED_FAULT: usize = 56;
 
-pub const OWING_FAULT: usize = 51;
+pub const OWING_FAULT: usize = 57;
 
-pub const MEMBER_FAULT: usize = 52;
+pub const MEMBER_FAULT: usize = 58;
 
-pub const DEAR_FAULT: usize = 53;
+pub const DEAR_FAULT: usize = 59;
 
 // Numbers out of their ranges; HEAD's eight from its first on.
-pub const HEAD_RANGE: usize = 54;
+pub const HEAD_RANGE: usize = 60;
 
-pub const UNITS_RANGE: usize = 62;
+pub const UNITS_RANGE: usize = 68;
 
-pub const MARK_RANGE: usize = 63;
+pub const MARK_RANGE: usize = 69;
 
-pub const CONTRIBUTION_RANGE: usize = 64;
+pub const CONTRIBUTION_RANGE: usize = 70;
 
-pub const EXPECTED_RANGE: usize = 65;
+pub const EXPECTED_RANGE: usize = 71;
 
-pub const LACKING_POOL: usize = 66;
+pub const LACKING_POOL: usize = 72;
 
-pub const RESERVE_RANGE: usize = 67;
+pub const RESERVE_RANGE: usize = 73;
 
-pub const PRICE_RANGE: usize = 68;
+pub const PRICE_RANGE: usize = 74;
 
-pub const AMOUNT_RANGE: usize = 69;
+pub const AMOUNT_RANGE: usize = 75;
 
 // Bytes that are no call.
-pub const UNKNOWN: usize = 70;
+pub const UNKNOWN: usize = 76;
 
-pub const TOO_SHORT: usize = 71;
+pub const TOO_SHORT: usize = 77;
 
-pub const CUT_OFF: usize = 72;
+pub const CUT_OFF: usize = 78;
 
-pub const INCOMPLETE: usize = 73;
+pub const INCOMPLETE: usize = 79;
 
 // The tables.
-pub const NO_TABLES: usize = 74;
+pub const NO_TABLES: usize = 80;
 
-pub const POOLS_TITLE: usize = 75;
+pub const POOLS_TITLE: usize = 81;
 
-pub const POOLS_ROW: usize = 76;
+pub const POOLS_ROW: usize = 82;
 
-pub const POOLS_TOTAL: usize = 77;
+pub const POOLS_TOTAL: usize = 83;
 
-pub const SALES_TITLE: usize = 78;
+pub const SALES_TITLE: usize = 84;
 
-pub const SALES_ROW: usize = 79;
+pub const SALES_ROW: usize = 85;
 
-pub const SALES_TOTAL: usize = 80;
+pub const SALES_TOTAL: usize = 86;
 
-pub const LOSS: usize = 81;
+pub const BIDS_TITLE: usize = 87;
 
-pub const NOT_CHARGED: usize = 82;
+pub const STANDING_ROW: usize = 88;
 
-pub const LAYERS_TITLE: usize = 83;
+pub const WITHDRAWN_ROW: usize = 89;
 
-pub const LAYER: usize = 84;
+pub const LOSS: usize = 90;
 
-pub const LAYERS_TOTAL: usize = 90;
+pub const NOT_CHARGED: usize = 91;
 
-pub const UNCOVERED: usize = 91;
+pub const LAYERS_TITLE: usize = 92;
 
-pub const MEMBERS_TITLE: usize = 92;
+pub const LAYER: usize = 93;
 
-pub const MEMBERS_ROW: usize = 93;
+pub const LAYERS_TOTAL: usize = 99;
 
-pub const MEMBERS_TOTAL: usize = 94;
+pub const UNCOVERED: usize = 100;
 
-pub const EARLY_TITLE: usize = 95;
+pub const MEMBERS_TITLE: usize = 101;
 
-pub const EARLY_ROW: usize = 96;
+pub const MEMBERS_ROW: usize = 102;
 
-pub const LEFT_OUT: usize = 97;
+pub const MEMBERS_TOTAL: usize = 103;
 
-pub const HELD_TITLE: usize = 98;
+pub const EARLY_TITLE: usize = 104;
 
-pub const HELD_ROW: usize = 99;
+pub const EARLY_ROW: usize = 105;
 
-pub const HELD_SUM: usize = 100;
+pub const LEFT_OUT: usize = 106;
 
-pub const TORN_SUM: usize = 101;
+pub const HELD_TITLE: usize = 107;
 
-pub const PRICED_SUM: usize = 102;
+pub const HELD_ROW: usize = 108;
+
+pub const HELD_SUM: usize = 109;
+
+pub const TORN_SUM: usize = 110;
+
+pub const PRICED_SUM: usize = 111;
 
 // ---- lines
 
@@ -429,6 +449,7 @@ fn flush_if_full(out: &mut [u8], at: usize) -> usize {
 pub fn fill(out: &mut [u8], at: usize, line: Line) -> usize {
     let texts = b"\n\
         \x20   accepted\n\
+        \x20   accepted as bid #\n\
         ; \n\
         stage S\n\
         stage B, round #\n\
@@ -458,6 +479,11 @@ pub fn fill(out: &mut [u8], at: usize, line: Line) -> usize {
         \x20   refused #: a member owes\n\
         \x20   refused #: no unit is allocated or moved to the member\n\
         \x20   refused #: the loss with this sale passes margin and defaulter's fund\n\
+        \x20   refused #: no bid has the number (bids are numbered 0 to #)\n\
+        \x20   refused #: no bid has the number (no bid is kept)\n\
+        \x20   refused #: the bid is another member's (member #)\n\
+        \x20   refused #: the bid is of an earlier round (round #)\n\
+        \x20   refused #: the bid is withdrawn already (bid #)\n\
         \x20   refused #: wrong number of reserves\n\
         \x20   refused #: not the next pool\n\
         \x20   refused #: the member is given already\n\
@@ -508,6 +534,9 @@ pub fn fill(out: &mut [u8], at: usize, line: Line) -> usize {
         |Sold by agreement, counted as sold above|   pool     units  member          price         amount|\n\
         #......#.........#.......$..............$..............|\n\
         \x20 total#.........                       $..............|\n\
+        |Bids of round #|    bid  member    pool     units          price  stands|\n\
+        #......#.......#.......#.........$..............  yes|\n\
+        #......#.......#.......#.........$..............  withdrawn|\n\
         |Loss|  hedge loss                      $..............|\
         \x20 other loss                      $..............|\
         \x20 less prices of units not open   $..............|\
