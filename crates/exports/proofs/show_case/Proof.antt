@@ -43,7 +43,7 @@ returns c =
       c .before .before .sum-of-prices .ensures,
       c .before .requirement .ensures,
       c .prefunded .ensures,
-    ) (read-back (c .before .before .before .before .before .before .before .before .before .before .before .before .before .before .args .case)
+    ) (read-back (c .before .before .before .before .before .before .before .before .before .before .before .before .before .before .before .before .args .case)
     (subst (SFits w64) (c .before .before .sum-of-prices .ensures) (record { sfits = c .before .before .sum-of-prices .ok })))
 
 pub show-case-spec : {M : Type 1} → statement M
