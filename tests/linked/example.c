@@ -67,6 +67,7 @@ int main(void) {
         from = to;
     }
     wrong |= fields != calls || shown.stage != LEDGER_F;
+    wrong |= shown.bids != 4 || !shown.stands[0] || !shown.stands[3] || shown.stands[4];
 
     for (int pool = 0; pool < shown.pools; pool++) {
         number("p ", (uint64_t)pool);
@@ -88,6 +89,21 @@ int main(void) {
         number(" ", shown.payments[member]);
         line_end();
     }
+
+    /* Document 02, C-14: in front of CLOSE member 1 withdraws its bid, which has the number 1. A second time is declined by 18, and CLOSE sells 4 and 3 units. */
+    static const uint8_t more[] = {0x0f, 0x00, 0x03, 0x01, 0x00, 0x01, 0x0f, 0x00, 0x03, 0x01, 0x00, 0x01, 0x06, 0x00, 0x00};
+    const size_t bidden = sizeof input - 6;
+    uint8_t withdrawn[sizeof input + sizeof more];
+    memcpy(withdrawn, input, bidden);
+    memcpy(withdrawn + bidden, more, sizeof more);
+    size_t until[MOST];
+    memcpy(until, ends, sizeof until);
+    until[10] = bidden + 6;
+    until[11] = bidden + 12;
+    until[12] = bidden + 15;
+    struct ledger_shown after = ledger_calls(withdrawn, bidden + sizeof more, until, 13, answers, MOST);
+    wrong |= answers[10] != 0 || answers[11] != 18 || answers[12] != 0;
+    wrong |= after.bids != 4 || !after.stands[0] || after.stands[1] || !after.stands[2] || after.counts[0] != 3 || after.counts[1] != 7;
 
     /* What members 0 and 1 hold of pool 0 at -0.10 and at -0.20. */
     const uint8_t members[] = {0, 1, 1};

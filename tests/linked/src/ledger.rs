@@ -11,6 +11,8 @@ pub struct Shown {
     pub stage: u8,
     pub round: u8,
     pub pools: u8,
+    pub bids: usize,
+    pub stands: [bool; 256],
     pub counts: [u64; 20],
     pub prices: i64,
     pub requirement: u64,
@@ -115,6 +117,11 @@ impl Proved {
     /// What is shown, number by number.
     pub fn shown(&self) -> &Shown {
         &self.shown
+    }
+
+    /// Whether each bid kept stands, by its number.
+    pub fn stands(&self) -> &[bool] {
+        &self.shown.stands[..self.shown.bids]
     }
 
     /// The holdings asked for, each by member, pool and price in cents; a price that no unit can have is held by nobody.

@@ -56,6 +56,9 @@ fn moves_units(tag: u8) -> bool {
 fn compare(proved: &Proved, roll: &Roll, at: &str) {
     assert_eq!(proved.stage(), roll.stage(), "stage {at}");
     assert_eq!(proved.pools_given(), roll.pools_given(), "pools {at}");
+    let stands: Vec<bool> = roll.bids().iter().map(|bid| bid.stands).collect();
+    assert_eq!(proved.stands(), stands, "which bids stand {at}");
+    assert!(!proved.shown().stands[stands.len()..].contains(&true), "a bid that is not there stands {at}");
     assert_eq!(proved.sum_of_prices(), roll.sum_of_prices(), "sum of prices {at}");
     assert_eq!(proved.requirement(), roll.requirement(), "requirement {at}");
     assert_eq!(proved.prefunded(), roll.prefunded(), "prefunded {at}");
