@@ -202,6 +202,9 @@ fn main() {
     let round = set_up.with(one(write::round(&[-1000; 4])));
     time("BID, pool not in the case", &round, &write::bid(7, 1, 1, 0), false, DECLINED);
     time("BID", &round, &write::bid(0, 1, 1, -7), false, SMALL);
+    let bidden = round.with(one(write::bid(0, 1, 1, -7)));
+    time("WITHDRAW, another's bid", &bidden, &write::withdraw(2, 0), false, DECLINED);
+    time("WITHDRAW", &bidden, &write::withdraw(1, 0), false, MIDDLE);
     for (name, pools, prices) in [
         ("4 pools, 40 prices", 4, 40),
         ("1 pool, 40 prices", 1, 40),

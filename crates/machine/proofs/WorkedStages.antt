@@ -1,4 +1,4 @@
--- Worked answers: each of the thirteen calls and SALE (document 02, C-12) asked in each stage, by the column "stages" of document 01's table. "2. The stage
+-- Worked answers: each of the thirteen calls, SALE and WITHDRAW (document 02, C-12 and C-14) asked in each stage, by the column "stages" of document 01's table. "2. The stage
 -- doesn't allow the call." Where the stage allows it, the answer is 0 or a later number. Assumes nothing.
 use mathlib.Core.Path.{_≡_, refl}
 use mathlib.Core.List.{List, [], _∷_, _++_, map}
@@ -9,11 +9,11 @@ use Rattle.machine.specs.Table.{letterIn}
 use Rattle.machine.specs.Table as T
 use Rattle.machine.specs.Computing.{computing}
 use Rattle.machine.proofs.Examples.{answersAfter, Example, _says_, AllHold}
-use Rattle.machine.proofs.CallBytes.{−_, head, pool, member, round, bid, close, allocate, tear, call, pay, move, miss, finish, sale}
+use Rattle.machine.proofs.CallBytes.{−_, head, pool, member, round, bid, close, allocate, tear, call, pay, move, miss, finish, sale, withdraw}
 
 -- the calls in the order of their tags; no number in them is out of range
-abbrev fourteen : List (List ℕ)
-fourteen =
+abbrev everyCall : List (List ℕ)
+everyCall =
     head 1 1 1 5 0 0 0 0
     ∷ pool 0 2 0
     ∷ member 0 2 2 0 0 0
@@ -28,6 +28,7 @@ fourteen =
     ∷ miss 0 0
     ∷ finish
     ∷ sale 0 0 0
+    ∷ withdraw 0 0
     ∷ []
 
 -- ROUND with one to five reserves
@@ -80,21 +81,21 @@ letters-reached = refl
 abbrev pub stages : List Example
 stages =
     -- no case: HEAD
-    (answersAfter [] fourteen says 0 ∷ 2 ∷ 2 ∷ 2 ∷ 2 ∷ 2 ∷ 2 ∷ 2 ∷ 2 ∷ 2 ∷ 2 ∷ 2 ∷ 2 ∷ 2 ∷ [])
+    (answersAfter [] everyCall says 0 ∷ 2 ∷ 2 ∷ 2 ∷ 2 ∷ 2 ∷ 2 ∷ 2 ∷ 2 ∷ 2 ∷ 2 ∷ 2 ∷ 2 ∷ 2 ∷ 2 ∷ [])
     -- S: POOL, MEMBER, ROUND, which finds a pool and a member not given, and SALE, which finds no open unit
-    ∷ (answersAfter S fourteen says 2 ∷ 0 ∷ 0 ∷ 10 ∷ 2 ∷ 2 ∷ 2 ∷ 2 ∷ 2 ∷ 2 ∷ 2 ∷ 2 ∷ 2 ∷ 8 ∷ [])
-    -- B of round 1: BID, CLOSE
-    ∷ (answersAfter B1 fourteen says 2 ∷ 2 ∷ 2 ∷ 2 ∷ 0 ∷ 0 ∷ 2 ∷ 2 ∷ 2 ∷ 2 ∷ 2 ∷ 2 ∷ 2 ∷ 2 ∷ [])
+    ∷ (answersAfter S everyCall says 2 ∷ 0 ∷ 0 ∷ 10 ∷ 2 ∷ 2 ∷ 2 ∷ 2 ∷ 2 ∷ 2 ∷ 2 ∷ 2 ∷ 2 ∷ 8 ∷ 2 ∷ [])
+    -- B of round 1: BID, CLOSE, and WITHDRAW, which finds no bid
+    ∷ (answersAfter B1 everyCall says 2 ∷ 2 ∷ 2 ∷ 2 ∷ 0 ∷ 0 ∷ 2 ∷ 2 ∷ 2 ∷ 2 ∷ 2 ∷ 2 ∷ 2 ∷ 2 ∷ 18 ∷ [])
     -- A of round 1: ROUND, ALLOCATE, TEAR; CALL and FINISH find an open unit, MISS no unit of the member
-    ∷ (answersAfter A1 fourteen says 2 ∷ 2 ∷ 2 ∷ 0 ∷ 2 ∷ 2 ∷ 0 ∷ 0 ∷ 11 ∷ 2 ∷ 2 ∷ 16 ∷ 11 ∷ 2 ∷ [])
+    ∷ (answersAfter A1 everyCall says 2 ∷ 2 ∷ 2 ∷ 0 ∷ 2 ∷ 2 ∷ 0 ∷ 0 ∷ 11 ∷ 2 ∷ 2 ∷ 16 ∷ 11 ∷ 2 ∷ 2 ∷ [])
     -- B of round 2
-    ∷ (answersAfter B2 fourteen says 2 ∷ 2 ∷ 2 ∷ 2 ∷ 0 ∷ 0 ∷ 2 ∷ 2 ∷ 2 ∷ 2 ∷ 2 ∷ 2 ∷ 2 ∷ 2 ∷ [])
+    ∷ (answersAfter B2 everyCall says 2 ∷ 2 ∷ 2 ∷ 2 ∷ 0 ∷ 0 ∷ 2 ∷ 2 ∷ 2 ∷ 2 ∷ 2 ∷ 2 ∷ 2 ∷ 2 ∷ 18 ∷ [])
     -- A of round 2: the same without ROUND
-    ∷ (answersAfter A2 fourteen says 2 ∷ 2 ∷ 2 ∷ 2 ∷ 2 ∷ 2 ∷ 0 ∷ 0 ∷ 11 ∷ 2 ∷ 2 ∷ 16 ∷ 11 ∷ 2 ∷ [])
+    ∷ (answersAfter A2 everyCall says 2 ∷ 2 ∷ 2 ∷ 2 ∷ 2 ∷ 2 ∷ 0 ∷ 0 ∷ 11 ∷ 2 ∷ 2 ∷ 16 ∷ 11 ∷ 2 ∷ 2 ∷ [])
     -- C: PAY, MOVE, MISS; FINISH finds a member who owes
-    ∷ (answersAfter C fourteen says 2 ∷ 2 ∷ 2 ∷ 2 ∷ 2 ∷ 2 ∷ 2 ∷ 2 ∷ 2 ∷ 0 ∷ 0 ∷ 0 ∷ 15 ∷ 2 ∷ [])
+    ∷ (answersAfter C everyCall says 2 ∷ 2 ∷ 2 ∷ 2 ∷ 2 ∷ 2 ∷ 2 ∷ 2 ∷ 2 ∷ 0 ∷ 0 ∷ 0 ∷ 15 ∷ 2 ∷ 2 ∷ [])
     -- F: none
-    ∷ (answersAfter F fourteen says 2 ∷ 2 ∷ 2 ∷ 2 ∷ 2 ∷ 2 ∷ 2 ∷ 2 ∷ 2 ∷ 2 ∷ 2 ∷ 2 ∷ 2 ∷ 2 ∷ [])
+    ∷ (answersAfter F everyCall says 2 ∷ 2 ∷ 2 ∷ 2 ∷ 2 ∷ 2 ∷ 2 ∷ 2 ∷ 2 ∷ 2 ∷ 2 ∷ 2 ∷ 2 ∷ 2 ∷ 2 ∷ [])
     -- CALL and FINISH with nothing open: in either round's A the one or the other is accepted. Torn at 0 the requirement is 5, at 2 it is 1; prefunded 2
     ∷ (answersAfter (A1 ++ (tear 0 0 ∷ [])) (call ∷ finish ∷ []) says 0 ∷ 13 ∷ [])
     ∷ (answersAfter (A1 ++ (tear 0 2 ∷ [])) (call ∷ finish ∷ []) says 12 ∷ 0 ∷ [])
