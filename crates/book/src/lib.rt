@@ -386,9 +386,9 @@ impl Book {
         ensures { λ r. ⌜ r ≡ withdrawBook self n ⌝ }
     {
         let bids = self.bids;
-        let marked = bids.withdraw(n);
+        let fewer = bids.withdraw(n);
         let mut next = self;
-        next.bids = marked;
+        next.bids = fewer;
         next
     }
 
