@@ -43,6 +43,10 @@ putBid x round pool m units price =
 unfoldable pub inRoundAt : Bids → ℕ → ℕ → Bool
 inRoundAt x round i = ltb i (x .kept) && getD (x .stands) i false && eqb (getD (x .round) i 0) round
 
+-- whether it is also in the pool
+unfoldable pub inAuctionAt : Bids → ℕ → ℕ → ℕ → Bool
+inAuctionAt x round pool i = inRoundAt x round i && eqb (getD (x .pool) i 0) pool
+
 -- whether a bid of a member that stands in a round has the number
 unfoldable pub standsFor : Bids → ℕ → ℕ → ℕ → Bool
 standsFor x round m n = inRoundAt x round n && eqb (getD (x .member) n 0) m
@@ -60,10 +64,6 @@ withdrawBid x n =
       won = x .won;
       stands = set (x .stands) n false;
     }
-
--- whether it is in the pool too
-unfoldable pub inAuctionAt : Bids → ℕ → ℕ → ℕ → Bool
-inAuctionAt x round pool i = inRoundAt x round i && eqb (getD (x .pool) i 0) pool
 
 -- the units of the bids that stand in a round in a pool, and 0 for the others
 unfoldable pub unitsIn : Bids → ℕ → ℕ → List ℕ

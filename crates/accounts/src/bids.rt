@@ -146,8 +146,8 @@ impl Bids {
         let mut i: usize = 0;
         while i < 256 {
             let here = in_round(i < self.kept, self.stands[i], self.round[i] == round);
-            let bids = lists::both(here, self.pool[i] == pool);
-            out[i] = lists::number_if(bids, lists::wide16(self.units[i]));
+            let takes_part = lists::both(here, self.pool[i] == pool);
+            out[i] = lists::number_if(takes_part, lists::wide16(self.units[i]));
             i += 1;
         }
         out

@@ -386,9 +386,9 @@ impl Book {
         ensures { λ r. ⌜ r ≡ withdrawBook self n ⌝ }
     {
         let bids = self.bids;
-        let fewer = bids.withdraw(n);
+        let marked = bids.withdraw(n);
         let mut next = self;
-        next.bids = fewer;
+        next.bids = marked;
         next
     }
 

@@ -20,7 +20,7 @@ use Rattle.machine.specs.Calls.{reserve, inRound, bidsAfter, afterBid, afterClo
 use Rattle.machine.specs.Refusals.{tests, bidOk, noneStands}
 use Rattle.machine.proofs.Invariant.{CaseOk}
 use Rattle.machine.proofs.Bounds.{won-le-units, pool-ok, reserve-ok}
-use Rattle.machine.proofs.CallsKept.{stands-kept}
+use Rattle.machine.proofs.CallsKept.{stands-there}
 use Rattle.machine.proofs.Stages.{letter-is, bidding-stage}
 use Rattle.units.proofs.Kept.{Lent}
 use Rattle.units.proofs.Right.{bid-right, withdraw-right, close-right}
@@ -87,7 +87,7 @@ module _ (c : Case) (roll : List Entry) (s : Sound (c .stage) (c .book) roll) (o
       let x = b .bids in
       let found = getD (viewBids x) n noBid in
       let stands : found .stands ≡ true = and-left _ _ (and-left _ _ (not-false _ (t .1 .1 .0))) in
-      let kept : n < x .kept = omega (arith, Z.length-view x, stands-kept (view c roll) ok n stands) in
+      let kept : n < x .kept = omega (arith, Z.length-view x, stands-there (viewBids x) n stands) in
       shown-by c roll (Wire.WITHDRAW m n)
       (case-ext _ _ refl refl refl refl refl (Z.view-withdraw x n (s .bids) kept) refl)
       (record {

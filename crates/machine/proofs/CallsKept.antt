@@ -37,6 +37,12 @@ use Rattle.machine.proofs.Stages.{letter-some, letter-is, letter-AC, le
 use Rattle.machine.proofs.Shares.{allocation-le, call-le}
 use Rattle.machine.proofs.Setters.{Allowed, noMember-ok, none-open, all-shut, with-roll, with-members, with-member, with-stage, with-after, the-member}
 
+-- a bid that stands is there
+pub stands-there : (bids : List Bid) (n : ℕ) → getD bids n noBid .stands ≡ true → n < length bids
+stands-there bids n s =
+    ⊎-elim (λ l. l) (λ g. absurd (false≢true (ap (λ (b : Bid). b .stands) (sym (List·getD-eq-default bids noBid {n = n} g)) ∙ s)))
+    (lt-or-le n (length bids))
+
 -- ---- HEAD
 
 pub head-ranges : (h : Head) → headOk h ≡ true → HeadOk h
@@ -687,12 +693,6 @@ module _ (c : Case) (ok : CaseOk c) where
 
   -- ---- WITHDRAW
 
-  -- a standing bid is one of those kept
-  pub stands-kept : (n : ℕ) → getD (c .bids) n noBid .stands ≡ true → n < length (c .bids)
-  stands-kept n s =
-      ⊎-elim (λ l. l) (λ g. absurd (false≢true (ap (λ (b : Bid). b .stands) (sym (List·getD-eq-default (c .bids) noBid {n = n} g)) ∙ s)))
-      (lt-or-le n (length (c .bids)))
-
   -- what does not say whether a bid stands is as it was
   withdrawn-same : (n : ℕ) (g : Bid → ℕ) → ((b : Bid) → g (withdrawn b) ≡ g b) → map g (set (c .bids) n (withdrawn (getD (c .bids) n noBid))) ≡ map g (c .bids)
   withdrawn-same n g same =
@@ -707,8 +707,8 @@ module _ (c : Case) (ok : CaseOk c) where
       let b = getD (c .bids) n noBid in
       let new = withdrawn b in
       let stands = and-left _ _ (and-left _ _ (not-false _ (t .1 .1 .0))) in
-      let o = each-at (BidOk (c .head) (length (c .rounds))) (c .bids) n noBid (stands-kept n stands) (ok .bids .each) in
-      let none = each-at _ (c .bids) n noBid (stands-kept n stands) (ok .won .unsold (letter-is (c .stage) 2 (t .0)))
+      let o = each-at (BidOk (c .head) (length (c .rounds))) (c .bids) n noBid (stands-there (c .bids) n stands) (ok .bids .each) in
+      let none = each-at _ (c .bids) n noBid (stands-there (c .bids) n stands) (ok .won .unsold (letter-is (c .stage) 2 (t .0)))
       (eqb-true (b .round) (roundOf (c .stage)) (and-right (b .stands) _ (and-left _ _ (not-false _ (t .1 .1 .0))))) in
       record {
         head = ok .head;

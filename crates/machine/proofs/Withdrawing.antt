@@ -1,17 +1,16 @@
 -- Document 02, C-14: an accepted WITHDRAW changes one mark of one bid and nothing else, and the bid stays withdrawn, at its number, after any calls. Assumes nothing.
 use mathlib.Core.Path.{_≡_, refl, sym, ap, _∙_}
-use mathlib.Core.Logic.{⊎-elim}
 use mathlib.Core.Bool.{Bool, true, false, _&&_, not, false≢true}
 use mathlib.Core.List.{List, [], _∷_, _++_}
 use mathlib.Core.Option.{none, some}
 use Prim.Native.Nat.{ℕ, zero, suc, _<_}
 use native.Mathlib.Omega.{arith}
 use lib.Dec.{eqb}
-use lib.ListN.{length, getD, set, take, drop, length-set, length-append, List·getD-append, List·getD-eq-default}
+use lib.ListN.{length, getD, set, take, drop, length-set, length-append, List·getD-append}
 use lib.Seq.{getD-set-same, getD-set-other, getD-at}
 use borrow.Author.Tests.{not-false, eqb-true}
 use Rattle.lists.specs.Lists.{if_then_else_, keep, tab}
-use Rattle.lists.proofs.Bools.{by-test, and-left, and-right, lt-or-le}
+use Rattle.lists.proofs.Bools.{by-test, and-left, and-right}
 use Rattle.lists.proofs.Each.{set-cases, getD-mapFrom, length-mapFrom}
 use Rattle.lists.specs.Tests.{firstOf, Passed}
 use Rattle.machine.specs.Wire.{Call, HEAD, POOL, MEMBER, ROUND, BID, CLOSE, ALLOCATE, TEAR, CALL, PAY, MOVE, MISS, FINISH, SALE, WITHDRAW, decode}
@@ -24,6 +23,7 @@ use Rattle.machine.specs.Machine.{step}
 use Rattle.machine.specs.Run.{runFrom}
 use Rattle.machine.proofs.Answers.{accepted-passed, call-answer, call-accepted, step-cases}
 use Rattle.machine.proofs.Stages.{letter-some}
+use Rattle.machine.proofs.CallsKept.{stands-there}
 use Rattle.machine.proofs.AsThoughNotSent.{standingBids}
 
 abbrev pub bidsOf : State → List Bid
@@ -63,10 +63,8 @@ module _ (s : State) (bytes : List ℕ) (m n : ℕ) (is : decode bytes ≡ some 
       )
 
   -- a bid that stands is there
-  pub withdraw-there : n < length (bidsOf s)
-  withdraw-there =
-      ⊎-elim (λ l. l) (λ l. absurd (false≢true (sym (ap (λ (b : Bid). b .stands) (List·getD-eq-default (bidsOf s) noBid l)) ∙ withdraw-own .0)))
-      (lt-or-le n (length (bidsOf s)))
+  withdraw-there : n < length (bidsOf s)
+  withdraw-there = stands-there (bidsOf s) n (withdraw-own .0)
 
   -- and nothing but its mark changes
   pub withdraw-only : step s bytes .state ≡ some (withBids (theCase s) (set (bidsOf s) n (withdrawn (bidAt s n))))
@@ -76,7 +74,7 @@ module _ (s : State) (bytes : List ℕ) (m n : ℕ) (is : decode bytes ≡ some 
   after : bidsOf (step s bytes .state) ≡ set (bidsOf s) n (withdrawn (bidAt s n))
   after = ap bidsOf withdraw-only
 
-  pub withdraw-marks : bidAt (step s bytes .state) n ≡ withdrawn (bidAt s n)
+  withdraw-marks : bidAt (step s bytes .state) n ≡ withdrawn (bidAt s n)
   withdraw-marks = rw after (getD-set-same (bidsOf s) n (withdrawn (bidAt s n)) noBid withdraw-there)
 
   pub withdraw-others : (k : ℕ) → (k ≡ n → ⊥) → bidAt (step s bytes .state) k ≡ bidAt s k
