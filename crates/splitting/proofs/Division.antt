@@ -3,13 +3,13 @@ use mathlib.Core.Path.{_≡_, ap}
 use mathlib.Core.Logic.{⊎-elim}
 use mathlib.Core.List.{List}
 use Prim.Native.Nat.{ℕ, _+_, _*_, _≤_, _<_}
-use native.Mathlib.Nat.{eq-zero-or-pos, one-mul, mul-le-mul-left, mul-comm, add-mul, div-le-of-le-mul, div-add-mod', le-of-mul-le-mul-right, mod-lt}
+use native.Mathlib.Nat.{eq-zero-or-pos, one-mul, mul-le-mul-left, mul-le-mul-right, mul-comm, add-mul, div-le-of-le-mul, div-add-mod', le-of-mul-le-mul-right, mod-lt}
 use native.Mathlib.Omega.{arith}
 use lib.Dec.{ltb}
 use lib.ListN.{length, getD}
 use borrow.Author.Tests.{lt-ltb}
 use Rattle.lists.specs.Lists.{sum, sumTo, oneIf, countTo}
-use Rattle.lists.proofs.Bools.{one-true}
+use Rattle.lists.proofs.Bools.{lt-or-le, one-true}
 use Rattle.lists.proofs.Sums.{sumTo-ext, sumTo-le, sumTo-add, sumTo-mul, sumTo-times, sum-places, entry-le, count-small}
 use Rattle.splitting.specs.Split.{floorAt, remainderAt, left}
 
@@ -27,6 +27,14 @@ module _ (q : ℕ) (ws : List ℕ) where
   pub floor-remainder : (i : ℕ) → floorAt q ws i * sum ws + remainderAt q ws i ≡ q * getD ws i 0
   unfolding floorAt remainderAt
   floor-remainder i = div-add-mod' (q * getD ws i 0) (sum ws)
+
+  -- of the larger product the floor is no smaller
+  pub floor-most : (i j : ℕ) → 0 < sum ws → q * getD ws i 0 ≤ q * getD ws j 0 → floorAt q ws i ≤ floorAt q ws j
+  floor-most i j some le =
+      ⊎-elim
+      (λ l. absurd (omega (arith, floor-remainder i, floor-remainder j, remainder-lt j some, mul-le-mul-right (sum ws) l, add-mul (floorAt q ws j) 1 (sum ws), one-mul (sum ws))))
+      (λ g. g)
+      (lt-or-le (floorAt q ws j) (floorAt q ws i))
 
   -- the floors, W times, and the remainders make q × W
   division : sumTo (length ws) (floorAt q ws) * sum ws + sumTo (length ws) (remainderAt q ws) ≡ q * sum ws

@@ -25,10 +25,24 @@ pub odd-unit : split 1 (1 ∷ 3 ∷ []) ≡ 0 ∷ 1 ∷ []
 unfolding computing
 odd-unit = refl
 
--- "ties to the earlier in the list", and not to the larger weight: both remainders of 2 × w by 4 are 2
-pub tie-of-unequal : split 2 (1 ∷ 3 ∷ []) ≡ 1 ∷ 1 ∷ []
+-- C-15: both remainders of 2 × w by 4 are 2, and the tie goes to the larger weight, wherever it stands
+pub tie-to-larger : split 2 (1 ∷ 3 ∷ []) ≡ 0 ∷ 2 ∷ []
 unfolding computing
-tie-of-unequal = refl
+tie-to-larger = refl
+
+pub tie-to-larger-first : split 2 (3 ∷ 1 ∷ []) ≡ 2 ∷ 0 ∷ []
+unfolding computing
+tie-to-larger-first = refl
+
+-- "and only then to the earlier in the list": by 6 all remainders of 3 × w are 3, and the floors 0, 0, 0, 1 leave 2
+pub tie-then-earlier : split 3 (1 ∷ 1 ∷ 1 ∷ 3 ∷ []) ≡ 1 ∷ 0 ∷ 0 ∷ 2 ∷ []
+unfolding computing
+tie-then-earlier = refl
+
+-- a larger remainder comes before a larger weight: by 4 the remainders of 3 × w are 3 and 1
+pub remainder-before-weight : split 3 (1 ∷ 3 ∷ []) ≡ 1 ∷ 2 ∷ []
+unfolding computing
+remainder-before-weight = refl
 
 -- the answers: accepted; runs of different lengths, before a number out of range; a weight out of range
 pub answers-0 : splitInto 6 (5 ∷ 3 ∷ []) (9 ∷ 9 ∷ []) ≡ (0, 4 ∷ 2 ∷ [])

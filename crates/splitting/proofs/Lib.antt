@@ -1,5 +1,6 @@
 pub mod Division
 pub mod Shares
+pub mod Ties
 pub mod Weightless
 pub mod Among
 pub mod Answers

@@ -9,15 +9,20 @@ use native.Mathlib.Omega.{arith}
 use lib.Dec.{ltb, eqb}
 use lib.ListN.{length, getD, List·getD-eq-default, replicate, length-replicate, getD-replicate}
 use lib.Seq.{ext-getD}
-use borrow.Author.Tests.{ltb-true, le-ltb, eq-eqb, ne-eqb}
+use borrow.Author.Tests.{ltb-true, lt-ltb, le-ltb, eq-eqb, ne-eqb}
 use Rattle.lists.specs.Lists.{if_then_else_, sum, oneIf, countTo, tab}
 use Rattle.lists.specs.Order.{earlier}
 use Rattle.lists.proofs.Bools.{lt-or-le, oneIf-small, one-false}
 use Rattle.lists.proofs.Sums.{entry-le, sumTo-add, sumTo-zero}
 use Rattle.lists.proofs.Places.{length-tab, getD-tab, getD-tab-past, getD-same, sum-tab, tab-same}
-use Rattle.lists.proofs.Orders.{Strict, larger, earlier-strict, larger-strict, first, once, count-le}
-use Rattle.splitting.specs.Split.{floorAt, remainderAt, ahead, placesAhead, left, shareAt, split}
+use Rattle.lists.proofs.Orders.{Strict, larger, same, earlier-strict, larger-strict, first, once, count-le}
+use Rattle.splitting.specs.Split.{floorAt, remainderAt, atTie, ahead, placesAhead, left, shareAt, split}
 use Rattle.splitting.proofs.Division.{floor-remainder, floors-left, left-le, left-few}
+
+-- the order at a tie is a strict total order of the places
+pub tie-strict : (ws : List ℕ) → Strict (atTie ws)
+unfolding atTie
+tie-strict ws = larger-strict (λ k. getD ws k 0) earlier earlier-strict
 
 module _ (q : ℕ) (ws : List ℕ) where
   -- ---- the order of the hand-out
@@ -25,12 +30,22 @@ module _ (q : ℕ) (ws : List ℕ) where
   -- `ahead` is a strict total order of the places
   pub ahead-strict : Strict (ahead q ws)
   unfolding ahead
-  ahead-strict = larger-strict (remainderAt q ws) earlier earlier-strict
+  ahead-strict = larger-strict (remainderAt q ws) (atTie ws) (tie-strict ws)
 
   -- a place with a larger remainder is ahead
   pub ahead-larger : (j i : ℕ) → remainderAt q ws i < remainderAt q ws j → ahead q ws j i ≡ true
   unfolding ahead
-  ahead-larger j i h = larger (remainderAt q ws) earlier j i h
+  ahead-larger j i h = larger (remainderAt q ws) (atTie ws) j i h
+
+  -- of two places with the same remainder the one with the larger weight is ahead
+  pub ahead-heavier : (j i : ℕ) → remainderAt q ws j ≡ remainderAt q ws i → getD ws i 0 < getD ws j 0 → ahead q ws j i ≡ true
+  unfolding ahead atTie
+  ahead-heavier j i e h = same (remainderAt q ws) (atTie ws) j i e ∙ larger (λ k. getD ws k 0) earlier j i h
+
+  -- and of two with the same weight too the earlier
+  pub ahead-earlier : (j i : ℕ) → remainderAt q ws j ≡ remainderAt q ws i → getD ws j 0 ≡ getD ws i 0 → j < i → ahead q ws j i ≡ true
+  unfolding ahead atTie earlier
+  ahead-earlier j i e f l = same (remainderAt q ws) (atTie ws) j i e ∙ same (λ k. getD ws k 0) earlier j i f ∙ lt-ltb j i l
 
   -- how many places are ahead of a place ranks the places: each number below their count is that of exactly one place
   pub ranked-once : (m : ℕ) → m < length ws → countTo (length ws) (λ i. eqb (placesAhead q ws i) m) ≡ 1

@@ -13,7 +13,7 @@ use Rattle.lists.proofs.Bools.{one-false}
 use Rattle.lists.proofs.Sums.{sumTo-ext, sum-places}
 use Rattle.lists.proofs.Among.{place, passes, place-order, at-place, off-place, sumTo-among, among-is}
 use Rattle.lists.proofs.Orders.{smaller}
-use Rattle.splitting.specs.Split.{floorAt, remainderAt, ahead, placesAhead, left, shareAt, split}
+use Rattle.splitting.specs.Split.{floorAt, remainderAt, atTie, ahead, placesAhead, left, shareAt, split}
 use Rattle.splitting.proofs.Shares.{no-remainder, split-at, split-at-none, split-length, split-weightless}
 
 -- q is split by f among those that pass a test: the same as a weight of 0 for the others
@@ -75,13 +75,13 @@ module _ {A : Type 0} (q : ℕ) (p : A → Bool) (f : A → ℕ) (l : List A) wh
   same-left = omega (arith, sums (floorAt q all-weights) (floorAt q own-weights) floor-off (λ k h. floor-on k))
 
   ahead-on : (j k : ℕ) → ahead q all-weights (to j) (to k) ≡ ahead q own-weights j k
-  unfolding ahead largerFirst earlier
-  ahead-on j k = cc (remainder-on j, remainder-on k, place-order p l j k)
+  unfolding ahead atTie largerFirst earlier
+  ahead-on j k = cc (remainder-on j, remainder-on k, weight-on j, weight-on k, place-order p l j k)
 
   -- a place of weight 0 is behind every place that has a remainder
   ahead-off : (i k : ℕ) → passes p l i ≡ false → 0 < remainderAt q own-weights k → ahead q all-weights i (to k) ≡ false
   unfolding ahead
-  ahead-off i k e h = smaller (remainderAt q all-weights) earlier i (to k) (omega (arith, remainder-off i e, remainder-on k))
+  ahead-off i k e h = smaller (remainderAt q all-weights) (atTie all-weights) i (to k) (omega (arith, remainder-off i e, remainder-on k))
 
   same-ahead : (k : ℕ) → 0 < remainderAt q own-weights k → placesAhead q all-weights (to k) ≡ placesAhead q own-weights k
   unfolding placesAhead

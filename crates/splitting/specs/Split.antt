@@ -1,6 +1,7 @@
 -- Document 01, "Splitting": "To split q by a list of weights w with sum W: each share is floor(q × w / W). What is left goes one each to
 -- the largest remainders of q × w by W, ties to the earlier in the list. If W = 0 every share is 0. This is the only division of units or
--- money among members." W is `sum ws`.
+-- money among members." W is `sum ws`. Document 02, C-15: "an exact tie of remainders .. goes to the larger weight, and only then to the earlier in the list. This
+-- holds for allotments, allocations, calls and charges alike."
 use mathlib.Core.Bool.{Bool}
 use mathlib.Core.List.{List, map}
 use Prim.Native.Nat.{ℕ, _+_, _-_, _*_, _/_, _%_}
@@ -17,9 +18,13 @@ floorAt q ws i = q * getD ws i 0 / sum ws
 unfoldable pub remainderAt : ℕ → List ℕ → ℕ → ℕ
 remainderAt q ws i = q * getD ws i 0 % sum ws
 
--- place j comes before place i in the hand-out of what is left: "the largest remainders .., ties to the earlier in the list"
+-- place j comes before place i at a tie: "the larger weight, and only then .. the earlier in the list"
+unfoldable pub atTie : List ℕ → ℕ → ℕ → Bool
+atTie ws = largerFirst (λ k. getD ws k 0) earlier
+
+-- place j comes before place i in the hand-out of what is left: "the largest remainders"
 unfoldable pub ahead : ℕ → List ℕ → ℕ → ℕ → Bool
-ahead q ws = largerFirst (remainderAt q ws) earlier
+ahead q ws = largerFirst (remainderAt q ws) (atTie ws)
 
 -- how many places are ahead of place i
 unfoldable pub placesAhead : ℕ → List ℕ → ℕ → ℕ
