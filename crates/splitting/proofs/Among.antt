@@ -15,6 +15,7 @@ use Rattle.lists.proofs.Among.{among-first, padded}
 use Rattle.splitting.specs.Split.{split, splitAmong}
 use Rattle.splitting.proofs.Shares.{split-length, split-sum, split-sum-le, split-le, split-le-weight, split-weightless}
 use Rattle.splitting.proofs.Weightless.{split-among}
+use Rattle.splitting.proofs.Ties.{split-order}
 
 module _ (n : ℕ) (who : ℕ → Bool) (q : ℕ) (f : ℕ → ℕ) where
   -- the same as a weight of 0 for the others
@@ -80,6 +81,12 @@ module _ (n : ℕ) (who : ℕ → Bool) (q : ℕ) (f : ℕ → ℕ) where
 
   pub share-le-amount : (i : ℕ) → getD (splitAmong n who q f) i 0 ≤ q
   share-le-amount i = omega (arith, ap (λ (l : List ℕ). getD l i 0) split-masked, split-le q masked i)
+
+  -- of those that pass, none with a larger weight has a smaller share
+  pub shares-order : (j i : ℕ) → j < n → who j ≡ true → f i < f j → getD (splitAmong n who q f) i 0 ≤ getD (splitAmong n who q f) j 0
+  shares-order j i l on h =
+      let weight : getD masked j 0 ≡ f j = getD-tab n (λ i. if who i then f i else 0) j 0 l ∙ rw on in
+      rw split-masked (split-order q masked j i (omega (arith, masked-le i)))
 
 -- tests that agree on the places, and weights that agree where the test passes
 pub shares-ext : (n : ℕ) (who who' : ℕ → Bool) (q : ℕ) (f f' : ℕ → ℕ) → ((i : ℕ) → i < n → who i ≡ who' i) → ((i : ℕ) → i < n → who i ≡ true → f i ≡ f' i)
