@@ -1,6 +1,6 @@
 -- Larger weights (document 02, C-15): a place that is ahead of another gets one of what is left wherever the other does, and no share of a larger weight is below that
 -- of a smaller one. Assumes nothing.
-use mathlib.Core.Path.{_≡_, sym, ap}
+use mathlib.Core.Path.{_≡_, sym, ap, _∙_}
 use mathlib.Core.Logic.{⊎-elim}
 use mathlib.Core.Bool.{true}
 use mathlib.Core.List.{List}
@@ -26,11 +26,18 @@ module _ (q : ℕ) (ws : List ℕ) where
       oneIf-le (ltb (placesAhead q ws i) (left q ws)) (ltb (placesAhead q ws j) (left q ws))
       (λ t. lt-ltb (placesAhead q ws j) (left q ws) (omega (arith, ltb-true (placesAhead q ws i) (left q ws) t)))
 
+  odd-share : (j i : ℕ) → ahead q ws j i ≡ true → shareAt q ws i ≡ floorAt q ws i + 1 → shareAt q ws j ≡ floorAt q ws j + 1
+  unfolding shareAt
+  odd-share j i e odd = omega (arith, ahead-gets j i e, share-close q ws j)
+
   -- where a place gets one of what is left at a tie, so does each larger weight of that remainder
   pub tie-gets : (j i : ℕ) → remainderAt q ws j ≡ remainderAt q ws i → getD ws i 0 < getD ws j 0
-      → shareAt q ws i ≡ floorAt q ws i + 1 → shareAt q ws j ≡ floorAt q ws j + 1
-  unfolding shareAt
-  tie-gets j i e h odd = omega (arith, ahead-gets j i (ahead-heavier q ws j i e h), share-close q ws j)
+      → getD (split q ws) i 0 ≡ floorAt q ws i + 1 → getD (split q ws) j 0 ≡ floorAt q ws j + 1
+  tie-gets j i e h odd =
+      ⊎-elim
+      (λ none. absurd (omega (arith, split-at-none q ws i none)))
+      (λ some. split-at q ws j some ∙ odd-share j i (ahead-heavier q ws j i e h) (sym (split-at q ws i some) ∙ odd))
+      (eq-zero-or-pos (sum ws))
 
   -- of two places with the same floor the larger weight is ahead
   same-floor : (j i : ℕ) → floorAt q ws j ≡ floorAt q ws i → getD ws i 0 < getD ws j 0 → ahead q ws j i ≡ true
