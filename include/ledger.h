@@ -85,8 +85,9 @@ bool ledger_stream(void);
 
 /* ---- Splitting and the auction alone. `rt staticlib splitting` and `rt staticlib auction` write libsplitting.a and libauction.a, which have these. */
 
-/* Splits q by the weights into the shares and answers 0. It answers 1 where the runs differ in length or have more than 512 places, and 5 where q is above
- * 16,000,000,000 or a weight above 1,000,000,000; the shares are then as they were. */
+/* Splits q by the weights into the shares and answers 0: what the floors leave goes one each to the largest remainders of q * weight by the sum of the weights, a
+ * tie to the larger weight, and only then to the earlier place (document 02, C-15). It answers 1 where the runs differ in length or have more than 512 places, and 5
+ * where q is above 16,000,000,000 or a weight above 1,000,000,000; the shares are then as they were. */
 uint8_t ledger_split(uint64_t q, const uint64_t *weights, size_t weights_len, uint64_t *shares, size_t shares_len);
 
 /* What a ranking led to. */
@@ -96,7 +97,7 @@ struct ledger_ranked {
 };
 
 /* Ranks the places of the weights, 0 the first of them, in the order in which a split hands out what the floors leave (document 02, C-13): larger remainders of
- * q * weight by the sum of the weights first, ties to the earlier place. `places` is as long as the weights; where none is named it is as it was. */
+ * q * weight by the sum of the weights first, a tie to the larger weight, and only then to the earlier place (C-15). `places` is as long as the weights; where none is named it is as it was. */
 struct ledger_ranked ledger_ranking(uint64_t q, const uint64_t *weights, size_t weights_len, size_t *places, size_t places_len);
 
 /* A bid: its units, and its price in cents, positive paid to the house and negative by the house. */

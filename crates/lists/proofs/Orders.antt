@@ -33,6 +33,13 @@ module _ (f : ℕ → ℕ) (then : ℕ → ℕ → Bool) (j i : ℕ) where
   unfolding largerFirst
   same h = rw (le-ltb (f i) (f j) (omega arith), eq-eqb (f j) (f i) h)
 
+  pub unequal : (f j ≡ f i → ⊥) → largerFirst f then j i ≡ ltb (f i) (f j)
+  unequal h =
+      ⊎-elim
+      (λ l. smaller l ∙ sym (le-ltb (f i) (f j) (omega arith)))
+      (⊎-elim (λ e. absurd (h e)) (λ g. larger g ∙ sym (lt-ltb (f i) (f j) g)))
+      (order-of (f j) (f i))
+
   -- what a place that comes first tells
   pub larger-or-same : largerFirst f then j i ≡ true → (f i < f j) ⊎ ((f j ≡ f i) × (then j i ≡ true))
   larger-or-same e =
