@@ -109,6 +109,17 @@ equal-rank : chargesIn 7 (1 ∷ 1 ∷ 3 ∷ []) (20 ∷ 40 ∷ 10 ∷ []) 41 ≡
 unfolding computing
 equal-rank = refl
 
+-- document 02, C-15: "such a tie goes to the larger weight": 2 split by contributions of 10 and 30 after rank 3 has borne its 10. Floors 0 and 1, remainders 20
+-- and 20 by 40, and the odd cent goes to the contribution of 30
+equal-rank-tie : chargesIn 7 (1 ∷ 1 ∷ 3 ∷ []) (10 ∷ 30 ∷ 10 ∷ []) 12 ≡ 0 ∷ 2 ∷ 10 ∷ []
+unfolding computing
+equal-rank-tie = refl
+
+-- "and only then to the earlier in the list": 3 split by 20 and 20
+equal-contributions : chargesIn 7 (1 ∷ 1 ∷ 3 ∷ []) (20 ∷ 20 ∷ 10 ∷ []) 13 ≡ 2 ∷ 1 ∷ 10 ∷ []
+unfolding computing
+equal-contributions = refl
+
 -- Annexure 2 of document 000, bucket 1: 900.00 of losses charged to the slices of P to V by their ranks in it, in hundredths. V, of rank 3,
 -- bears what ranks 7, 6, 5 and 4 leave: 169.57 of its 208.70
 annexure-charges :
