@@ -46,10 +46,10 @@ pub tie-larger-earlier : allot 5 999_970 (3 ∷ 3 ∷ 1 ∷ []) (999_990 ∷ 999
 unfolding computing
 tie-larger-earlier = refl
 
--- equal bids: 3 split by 2, 2, floors 1 and 1, remainders 2 and 2 by 4, and the odd unit goes to the earlier
-pub tie-equal : allot 3 999_970 (2 ∷ 2 ∷ []) (999_980 ∷ 999_980 ∷ []) ≡ 2 ∷ 1 ∷ []
+-- 4 split by 1, 1, 4: floors 0, 0 and 2, remainders 4, 4 and 4 by 6, and of the two odd units one goes to the bid of 4, one to the earlier bid of 1
+pub tie-equal-earlier : allot 4 999_970 (1 ∷ 1 ∷ 4 ∷ []) (999_980 ∷ 999_980 ∷ 999_980 ∷ []) ≡ 1 ∷ 0 ∷ 3 ∷ []
 unfolding computing
-tie-equal = refl
+tie-equal-earlier = refl
 
 -- the answers of an auction run alone, and of one that is not: a bid of 0 units; runs of different lengths, before a number out of range
 pub alone-answers-5 : allotInto 1 256 10 999_970 (4 ∷ 0 ∷ []) (1_000_000 ∷ 1_000_000 ∷ []) (7 ∷ 7 ∷ []) ≡ (5, 7 ∷ 7 ∷ [])

@@ -102,7 +102,8 @@ module _ (c : Case) (round pool : ℕ) where
 
 module _ (c : Case) where
   -- of two bids that stand in the round, in one pool and at one price, the one for more units has won no fewer
-  pub close-order : (pool j i : ℕ) → inAuction (roundOf (c .stage)) pool (getD (c .bids) j noBid) ≡ true → inAuction (roundOf (c .stage)) pool (getD (c .bids) i noBid) ≡ true
+  pub close-order : (pool j i : ℕ)
+      → inAuction (roundOf (c .stage)) pool (getD (c .bids) j noBid) ≡ true → inAuction (roundOf (c .stage)) pool (getD (c .bids) i noBid) ≡ true
       → getD (c .bids) i noBid .price ≡ getD (c .bids) j noBid .price → getD (c .bids) i noBid .units < getD (c .bids) j noBid .units
       → getD (afterClose c .bids) i noBid .won ≤ getD (afterClose c .bids) j noBid .won
   unfolding afterClose
@@ -119,7 +120,8 @@ module _ (c : Case) where
     unfolding calls
     calls-order = shares-order 32 (inSet (c .head)) (min (requirement c - prefunded c) (contributions c)) (contributionOf c) j i l on
 
-    pub on-contribution-order : rank c i ≡ rank c j → memberAt (c .members) i .contribution < memberAt (c .members) j .contribution → onContribution c i ≤ onContribution c j
+    pub on-contribution-order : rank c i ≡ rank c j → memberAt (c .members) i .contribution < memberAt (c .members) j .contribution
+        → onContribution c i ≤ onContribution c j
     unfolding onContribution
     on-contribution-order = charge-order (c .head .set) (rank c) (contributionOf c) (charge c 3) j i l on
 

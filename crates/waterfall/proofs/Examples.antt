@@ -1,5 +1,5 @@
--- Ranks and charges computed: document 01's example, annexure 1 of document 000, a member that won nothing, and a tie after which ranks
--- skip. Assumes nothing.
+-- Ranks and charges computed: document 01's example, annexure 1 of document 000, a member that won nothing, a tie after which ranks skip, and ties of document 02,
+-- C-15. Assumes nothing.
 use mathlib.Core.Path.{_≡_, refl}
 use mathlib.Core.List.{List, [], _∷_, map}
 use Prim.Native.Nat.{ℕ, _+_, _*_, _-_}
@@ -115,8 +115,9 @@ equal-rank-tie : chargesIn 7 (1 ∷ 1 ∷ 3 ∷ []) (10 ∷ 30 ∷ 10 ∷ []) 12
 unfolding computing
 equal-rank-tie = refl
 
--- "and only then to the earlier in the list": 3 split by 20 and 20
-equal-contributions : chargesIn 7 (1 ∷ 1 ∷ 3 ∷ []) (20 ∷ 20 ∷ 10 ∷ []) 13 ≡ 2 ∷ 1 ∷ 10 ∷ []
+-- "and only then to the earlier in the list": 4 split by contributions of 10, 10 and 40. Floors 0, 0 and 2, remainders 40, 40 and 40 by 60, and of the two odd
+-- cents one goes to the contribution of 40, one to the earlier of 10
+equal-contributions : chargesIn 15 (1 ∷ 1 ∷ 1 ∷ 4 ∷ []) (10 ∷ 10 ∷ 40 ∷ 10 ∷ []) 14 ≡ 1 ∷ 0 ∷ 3 ∷ 10 ∷ []
 unfolding computing
 equal-contributions = refl
 
