@@ -1,4 +1,5 @@
--- K4, K5 and the allotment of the worked example of document 01, by computation, with prices held as cents + 1,000,000. Assumes nothing.
+-- K4, K5 and the allotment of the worked example of document 01, and the ties of document 02, C-15, by computation, with prices held as cents + 1,000,000.
+-- Assumes nothing.
 use mathlib.Core.Path.{_≡_, refl}
 use mathlib.Core.Bool.{true, false}
 use mathlib.Core.List.{[], _∷_, map}
@@ -34,6 +35,21 @@ worked-example = refl
 pub odd-unit : allot 1 999_970 (1 ∷ 3 ∷ []) (999_980 ∷ 999_980 ∷ []) ≡ 0 ∷ 1 ∷ []
 unfolding computing
 odd-unit = refl
+
+-- document 02, C-15: "such a tie goes to the larger weight, and only then to the earlier in the list". Of 5 open the bid at −10 wins 3, and 2 are split by 1, 3:
+-- floors 0 and 1, remainders 2 and 2 by 4, and the odd unit goes to the bid of 3, whether it was sent later or earlier
+pub tie-larger-later : allot 5 999_970 (3 ∷ 1 ∷ 3 ∷ []) (999_990 ∷ 999_980 ∷ 999_980 ∷ []) ≡ 3 ∷ 0 ∷ 2 ∷ []
+unfolding computing
+tie-larger-later = refl
+
+pub tie-larger-earlier : allot 5 999_970 (3 ∷ 3 ∷ 1 ∷ []) (999_990 ∷ 999_980 ∷ 999_980 ∷ []) ≡ 3 ∷ 2 ∷ 0 ∷ []
+unfolding computing
+tie-larger-earlier = refl
+
+-- 4 split by 1, 1, 4: floors 0, 0 and 2, remainders 4, 4 and 4 by 6, and of the two odd units one goes to the bid of 4, one to the earlier bid of 1
+pub tie-equal-earlier : allot 4 999_970 (1 ∷ 1 ∷ 4 ∷ []) (999_980 ∷ 999_980 ∷ 999_980 ∷ []) ≡ 1 ∷ 0 ∷ 3 ∷ []
+unfolding computing
+tie-equal-earlier = refl
 
 -- the answers of an auction run alone, and of one that is not: a bid of 0 units; runs of different lengths, before a number out of range
 pub alone-answers-5 : allotInto 1 256 10 999_970 (4 ∷ 0 ∷ []) (1_000_000 ∷ 1_000_000 ∷ []) (7 ∷ 7 ∷ []) ≡ (5, 7 ∷ 7 ∷ [])

@@ -1,5 +1,5 @@
 -- What holds of `allot`, for every list of bids, every reserve and any number of open units. Assumes nothing.
-use mathlib.Core.Path.{_≡_, sym, _∙_}
+use mathlib.Core.Path.{_≡_, refl, sym, _∙_}
 use mathlib.Core.Logic.{⊎-elim}
 use mathlib.Core.Bool.{Bool, false}
 use mathlib.Core.List.{List, map}
@@ -7,12 +7,12 @@ use Prim.Native.Nat.{ℕ, _+_, _-_, _≤_, _<_}
 use native.Mathlib.Omega.{arith}
 use lib.Dec.{ltb, leb, eqb}
 use lib.ListN.{length, getD, List·getD-eq-default}
-use borrow.Author.Tests.{le-leb, lt-leb, ne-eqb}
+use borrow.Author.Tests.{le-leb, lt-leb, eq-eqb, ne-eqb}
 use Rattle.lists.specs.Lists.{if_then_else_, sum, places, keep}
 use Rattle.lists.proofs.Bools.{same-choice, lt-or-le}
 use Rattle.lists.proofs.Places.{length-tab, getD-tab, getD-tab-past}
 use Rattle.lists.proofs.Keep.{sum-kept}
-use Rattle.splitting.proofs.Among.{shares-length, share-off, share-past, shares-sum, share-le, share-le-amount}
+use Rattle.splitting.proofs.Among.{shares-length, share-off, share-past, shares-sum, share-le, share-le-amount, shares-order}
 use Rattle.auction.specs.Auction.{validAt, validUnits, sharesAt, wonAt, allot}
 use Rattle.auction.specs.Edge.{from}
 use Rattle.auction.proofs.Levels.{level, from-le, from-step, valid-at-or-above, valid-above}
@@ -44,6 +44,15 @@ module _ (us ps : List ℕ) (p balance : ℕ) where
   pub at-le-balance : (i : ℕ) → getD (sharesAt p balance us ps) i 0 ≤ balance
   unfolding sharesAt
   at-le-balance = share-le-amount (length us) here balance units
+
+  -- of two of them the one for more units has no smaller share
+  pub at-order : (j i : ℕ) → getD ps j 0 ≡ p → getD us i 0 < getD us j 0 → getD (sharesAt p balance us ps) i 0 ≤ getD (sharesAt p balance us ps) j 0
+  unfolding sharesAt
+  at-order j i e h =
+      ⊎-elim
+      (λ l. shares-order (length us) here balance units j i l (eq-eqb (getD ps j 0) p e) h)
+      (λ g. absurd (omega (arith, List·getD-eq-default us 0 {n = j} g)))
+      (lt-or-le j (length us))
 
   module _ (most : balance ≤ level us ps p) where
     pub at-sum : sum (sharesAt p balance us ps) ≡ balance
@@ -189,3 +198,15 @@ module _ (n r : ℕ) (us ps : List ℕ) where
   allot-higher i j w l =
       let e = winner i w in
       won-all n r us ps j (omega arith) (omega (arith, from-le us ps (getD ps i 0 + 1) (getD ps j 0) (omega arith)))
+
+  -- document 02, C-15: of two bids at one price the one for more units never wins fewer
+  pub won-order : (j i : ℕ) → getD ps i 0 ≡ getD ps j 0 → getD us i 0 < getD us j 0 → getD (allot n r us ps) i 0 ≤ getD (allot n r us ps) j 0
+  won-order j i e h =
+      let p = getD ps j 0 in
+      won-cases n r us ps i (λ x. x ≤ getD (allot n r us ps) j 0) (omega arith)
+      (λ v le. omega (arith, won-all n r us ps j (omega arith) (rw e at le)))
+      (λ v lt le. rw e (omega (
+        arith,
+        won-share n r us ps j (omega arith) (rw e at lt) (rw e at le),
+        at-order us ps p (n - from us ps (p + 1)) j i refl h,
+      )))

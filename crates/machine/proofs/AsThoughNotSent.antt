@@ -191,7 +191,7 @@ module _ (round : ℕ) (wins : List (List ℕ)) where
 
 -- ---- CLOSE
 
-in-stands : (round pool : ℕ) (b : Bid) → inAuction round pool b ≡ true → b .stands ≡ true
+pub in-stands : (round pool : ℕ) (b : Bid) → inAuction round pool b ≡ true → b .stands ≡ true
 unfolding inAuction inRound
 in-stands round pool b e = and-left _ _ (and-left _ _ e)
 

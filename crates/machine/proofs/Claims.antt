@@ -41,6 +41,7 @@ use Rattle.machine.proofs.Bytes as Y
 use Rattle.machine.proofs.Prices as P
 use Rattle.machine.proofs.Later as L
 use Rattle.machine.proofs.Finish as F
+use Rattle.machine.proofs.LargerWeights as Q
 
 -- ---- answers, in any state
 
@@ -399,6 +400,34 @@ module _ (c : Case) where
 
   pub call-le : (m : ℕ) → getD (calls c) m 0 ≤ memberAt (c .members) m .contribution
   call-le = H.call-le c
+
+-- ---- document 02, C-15: "such a tie goes to the larger weight .. This holds for allotments, allocations, calls and charges alike": a share of a larger weight is
+-- never below that of a smaller one, of any case
+
+module _ (c : Case) where
+  -- CLOSE: of two bids that stand in the round, in one pool and at one price, the one for more units has won no fewer
+  pub close-order : (pool larger smaller : ℕ)
+      → inAuction (roundOf (c .stage)) pool (getD (c .bids) larger noBid) ≡ true → inAuction (roundOf (c .stage)) pool (getD (c .bids) smaller noBid) ≡ true
+      → getD (c .bids) smaller noBid .price ≡ getD (c .bids) larger noBid .price → getD (c .bids) smaller noBid .units < getD (c .bids) larger noBid .units
+      → getD (afterClose c .bids) smaller noBid .won ≤ getD (afterClose c .bids) larger noBid .won
+  close-order = Q.close-order c
+
+  module _ (larger smaller : ℕ) (l : larger < 32) (on : inSet (c .head) larger ≡ true) where
+    -- ALLOCATE: no member of the set that is short of more is allocated fewer units
+    pub allocation-order : (pool : ℕ) → shortfall c pool smaller < shortfall c pool larger → getD (allocation c pool) smaller 0 ≤ getD (allocation c pool) larger 0
+    allocation-order = Q.allocation-order c larger smaller l on
+
+    -- CALL: none that contributed more is called for less
+    pub calls-order : memberAt (c .members) smaller .contribution < memberAt (c .members) larger .contribution → getD (calls c) smaller 0 ≤ getD (calls c) larger 0
+    calls-order = Q.calls-order c larger smaller l on
+
+    -- FINISH: in one rank none that contributed more is charged less on its contribution, and none that paid more is charged less on its payments
+    pub on-contribution-order : rank c smaller ≡ rank c larger → memberAt (c .members) smaller .contribution < memberAt (c .members) larger .contribution
+        → onContribution c smaller ≤ onContribution c larger
+    on-contribution-order = Q.on-contribution-order c larger smaller l on
+
+    pub on-payments-order : memberAt (c .members) smaller .paid < memberAt (c .members) larger .paid → onPayments c smaller ≤ onPayments c larger
+    on-payments-order = Q.on-payments-order c larger smaller l on
 
 -- ---- the result: of any case, and so of the one that an accepted FINISH leaves
 

@@ -7,6 +7,7 @@ pub mod WorkedStages
 pub mod WorkedRanges
 pub mod WorkedSales
 pub mod WorkedWithdrawals
+pub mod WorkedTies
 pub mod Answers
 pub mod Tables
 pub mod RollChanges
@@ -30,4 +31,5 @@ pub mod Later
 pub mod Bytes
 pub mod Prices
 pub mod Finish
+pub mod LargerWeights
 pub mod Claims

@@ -521,7 +521,7 @@ callsStay =
           ∷ (6 ∷ 0 ∷ 0 ∷ [])
           -- ALLOCATE 0, −10: two to member 0
           ∷ (7 ∷ 0 ∷ 5 ∷ 0 ∷ 255 ∷ 255 ∷ 255 ∷ 246 ∷ [])
-          -- CALL: 50 − 45 = 5 split by 20, 20: 3 and 2, the tie to the earlier
+          -- CALL: 50 − 45 = 5 split by 20, 20: 3 and 2, equal weights: the odd cent to the earlier
           ∷ (9 ∷ 0 ∷ 0 ∷ [])
           -- MISS 0, −20: both torn: the requirement is 70
           ∷ (12 ∷ 0 ∷ 5 ∷ 0 ∷ 255 ∷ 255 ∷ 255 ∷ 236 ∷ [])
@@ -618,7 +618,7 @@ cutPrice =
           ∷ (5 ∷ 0 ∷ 8 ∷ 0 ∷ 2 ∷ 0 ∷ 3 ∷ 0 ∷ 0 ∷ 0 ∷ 5 ∷ [])
           -- BID 0, 0, 3 at 4
           ∷ (5 ∷ 0 ∷ 8 ∷ 0 ∷ 0 ∷ 0 ∷ 3 ∷ 0 ∷ 0 ∷ 0 ∷ 4 ∷ [])
-          -- CLOSE: 2 at 10; the balance of 3 is split by 3, 3: 2 and 1, the tie to the earlier bid; at 4 nothing
+          -- CLOSE: 2 at 10; the balance of 3 is split by 3, 3: 2 and 1, equal weights: the odd unit to the earlier; at 4 nothing
           ∷ (6 ∷ 0 ∷ 0 ∷ [])
           -- ROUND 0: declined by 8
           ∷ (4 ∷ 0 ∷ 4 ∷ 0 ∷ 0 ∷ 0 ∷ 0 ∷ [])
@@ -743,7 +743,7 @@ paymentsShared =
           -- FINISH
           ∷ (13 ∷ 0 ∷ 0 ∷ [])
           ∷ [];
-      -- 7 split by 5, 5, 0: 3.5 each, the tie to the earlier. Member 1: ΔP × excess = 2; members 0 and 2 won none of none, and rank equal.
+      -- 7 split by 5, 5, 0: 3.5 each, equal weights: the odd cent to the earlier. Member 1: ΔP × excess = 2; members 0 and 2 won none of none, and rank equal.
       shows =
           (0 ∷ 0 ∷ 0 ∷ 0 ∷ 0 ∷ 0 ∷ 0 ∷ 0 ∷ 0 ∷ 0 ∷ 0 ∷ 0 ∷ 0 ∷ [])
           ∷ (p ∷ 0 ∷ 0 ∷ 0 ∷ 0 ∷ 1 ∷ 0 ∷ [])

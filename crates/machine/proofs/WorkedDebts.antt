@@ -8,30 +8,6 @@ use Rattle.machine.proofs.Worked.{Worked, AllShow, p, l, m}
 
 -- ---- CALL
 
--- "What is left goes one each to the largest remainders of q × w by W, ties to the earlier in the list": not to the larger weight.
-abbrev pub tieOfUnequal : Worked
-tieOfUnequal =
-    record {
-      calls =
-          -- members 0 and 1
-          head 1 1 3 0 0 0 0 0
-          ∷ pool 0 2 0
-          ∷ member 0 1 0 0 0 0
-          ∷ member 1 3 0 0 0 0
-          ∷ round ((− 3) ∷ [])
-          ∷ close
-          ∷ tear 0 (− 3)
-          -- requirement 2 × 3 = 6, prefunded 4: 2 split by 1, 3. Floors 2 / 4 = 0 and 6 / 4 = 1, both remainders 2: 1 and 1
-          ∷ call
-          -- member 0 owes the odd cent; called for 0 it would be declined by 14
-          ∷ pay 0 1
-          ∷ [];
-      shows =
-          (0 ∷ 0 ∷ 0 ∷ 0 ∷ 0 ∷ 0 ∷ 0 ∷ 0 ∷ 0 ∷ [])
-          ∷ (p ∷ 0 ∷ 0 ∷ 0 ∷ 0 ∷ 0 ∷ 2 ∷ [])
-          ∷ [];
-    }
-
 -- "11. CALL or FINISH finds an open unit" comes before "12. CALL finds prefunded at or above the requirement", and both hold here.
 abbrev pub openBeforePrefunded : Worked
 openBeforePrefunded =
@@ -243,8 +219,7 @@ trancheBeforePayments =
 
 abbrev pub debts : List Worked
 debts =
-    tieOfUnequal
-    ∷ openBeforePrefunded
+    openBeforePrefunded
     ∷ callOfNothing
     ∷ priceBeforePool
     ∷ tornStays
@@ -256,4 +231,4 @@ debts =
 
 pub debts-hold : AllShow debts
 unfolding computing
-debts-hold = (refl, (refl, (refl, (refl, (refl, (refl, (refl, (refl, (refl, tt)))))))))
+debts-hold = (refl, (refl, (refl, (refl, (refl, (refl, (refl, (refl, tt))))))))

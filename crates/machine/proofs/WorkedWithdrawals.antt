@@ -84,7 +84,7 @@ balance =
           ∷ bid 0 1 4 (− 5)
           ∷ bid 0 2 4 (− 5)
           ∷ withdraw 1 1
-          -- 5 by 4, 4: 2 each, and the odd unit to the earlier: 3 and 2 (by 4, 4, 4 it were 2, 2 and 1)
+          -- 5 by 4, 4: 2 each, equal weights: the odd unit to the earlier, so 3 and 2 (by 4, 4, 4 it were 2, 2 and 1)
           ∷ close
           ∷ finish
           ∷ [];

@@ -1,22 +1,23 @@
 -- What is claimed of every run of days holds. Assumes nothing.
 use mathlib.Core.Path.{_≡_, refl, ap, _∙_}
-use mathlib.Core.Bool.{true}
+use mathlib.Core.Bool.{Bool, true, false}
 use mathlib.Core.List.{List, _++_, append-nil}
 use mathlib.Core.Logic.{⊎-elim}
-use Prim.Native.Nat.{ℕ, zero, suc, _+_}
+use Prim.Native.Nat.{ℕ, zero, suc, _+_, _≤_, _<_}
 use native.Mathlib.Omega.{arith}
-use lib.ListN.{length, take, replicate, drop-of-length-le}
+use lib.ListN.{length, getD, take, replicate, drop-of-length-le}
 use lib.Seq.{sets-eq}
 use borrow.Author.Tests.{lt-ltb, le-ltb}
-use Rattle.lists.specs.Lists.{sum, all, joined}
+use Rattle.lists.specs.Lists.{if_then_else_, sum, countTo, all, joined}
 use Rattle.lists.proofs.Bools.{cases, lt-or-le}
 use Rattle.lists.proofs.Counts.{each-all}
 use Rattle.lists.proofs.Each.{each-both, each-take}
-use Rattle.lists.proofs.Places.{length-tab}
-use Rattle.sets.specs.Set.{members, ofMembers}
+use Rattle.lists.proofs.Places.{length-tab, getD-tab, getD-tab-past}
+use Rattle.sets.specs.Set.{member, members, ofMembers}
 use Rattle.sets.proofs.Members.{members-few}
 use Rattle.splitting.specs.Split.{split}
 use Rattle.splitting.proofs.Shares.{split-none, split-length, split-sum}
+use Rattle.splitting.proofs.Ties.{split-order}
 use Rattle.positions.specs.Days.{daysOf, inRange, byMember}
 use Rattle.positions.specs.Keeping.{Kept, Taken, noDays, keptAfter}
 use Rattle.positions.specs.Claim.{EveryDay, EveryPart, AddsUp, WritesAll, Claim}
@@ -68,6 +69,32 @@ writes-all set xs shares e =
     sets-eq ys shares 0 (omega arith)
     ∙ ap (λ (l : List ℕ). ys ++ l) (drop-of-length-le shares {i = 0 + length ys} (omega arith))
     ∙ append-nil ys
+
+-- document 02, C-15: of two members the one with the larger sum is never expected to take fewer units
+pub sums-order : (set units : ℕ) (sums : List ℕ) (j i : ℕ) → getD (byMember set sums) i 0 < getD (byMember set sums) j 0
+    → getD (byMember set (split units sums)) i 0 ≤ getD (byMember set (split units sums)) j 0
+unfolding byMember ofMembers
+sums-order set units sums j i h =
+    ⊎-elim
+    (λ k. ⊎-elim
+    (λ l. rw (getD-tab 32 (placed set shares) i 0 l, getD-tab 32 (placed set shares) j 0 k)
+    (go (member set j) (member set i) (rw (getD-tab 32 (placed set sums) i 0 l, getD-tab 32 (placed set sums) j 0 k) at h)))
+    (λ g. omega (arith, getD-tab-past 32 (placed set shares) i g))
+    (lt-or-le i 32))
+    (λ g. absurd (omega (arith, getD-tab-past 32 (placed set sums) j g)))
+    (lt-or-le j 32)
+  where
+    shares : List ℕ
+    shares = split units sums
+
+    place : ℕ → ℕ
+    place m = countTo m (member set)
+
+    go : (a b : Bool) → (if b then getD sums (place i) 0 else 0) < (if a then getD sums (place j) 0 else 0)
+        → (if b then getD shares (place i) 0 else 0) ≤ (if a then getD shares (place j) 0 else 0)
+    go true true h = split-order units sums (place j) (place i) h
+    go false b h = absurd (omega arith)
+    go true false h = omega arith
 
 pub claim : Claim
 claim = record { every-day = every-day; every-part = every-part; cut-anywhere = cut-anywhere; adds-up = adds-up; writes-all = writes-all }

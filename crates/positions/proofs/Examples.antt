@@ -24,7 +24,17 @@ pub split-by-sums : expectedUnits 5 10 twoDays before ≡ (0, of02 4 6)
 unfolding computing
 split-by-sums = refl
 
--- the same run in parts that are cut within a position
+-- two days of members 0 and 2: positions 0, 1 and 1, 2
+abbrev tiedDays : List ℕ
+tiedDays = 0 ∷ 0 ∷ 0 ∷ 0 ∷ 0 ∷ 0 ∷ 0 ∷ 1 ∷ 0 ∷ 0 ∷ 0 ∷ 1 ∷ 0 ∷ 0 ∷ 0 ∷ 2 ∷ []
+
+-- C-15: "such a tie goes to the larger weight": 10 units by the sums 1 and 3, 2.5 and 7.5. Floors 2 and 7, remainders 2 and 2 by 4, and the odd unit goes to
+-- member 2
+pub tie-to-larger : expectedUnits 5 10 tiedDays before ≡ (0, of02 2 8)
+unfolding computing
+tie-to-larger = refl
+
+-- the first run in parts that are cut within a position
 pub in-parts : inParts 5 10 (take 3 twoDays ∷ [] ∷ drop 3 twoDays ∷ []) before ≡ (0, of02 4 6)
 unfolding computing
 in-parts = refl

@@ -1,5 +1,5 @@
 -- What charging by rank does, for any set, ranks, holdings and amount: the members' charges add up to the amount, or to all that they hold;
--- none is above what its member holds; the ranks are charged in turn, the most junior first. Assumes nothing.
+-- none is above what its member holds; the ranks are charged in turn, the most junior first; in a rank no larger holding is charged less. Assumes nothing.
 use mathlib.Core.Path.{_≡_, refl, sym, ap, _∙_}
 use mathlib.Core.Bool.{Bool, true, false, _&&_}
 use mathlib.Core.Logic.{⊎-elim}
@@ -17,7 +17,7 @@ use Rattle.lists.proofs.Keep.{keep-and, keep-all, keep-ext, sum-keep, sum-keep-
 use Rattle.sets.specs.Set.{member, members}
 use Rattle.sets.proofs.Members.{sum-members-ext}
 use Rattle.splitting.specs.Split.{splitAmong}
-use Rattle.splitting.proofs.Among.{share-off, share-past, share-le, share-le-amount, shares-kept-sum, shares-ext}
+use Rattle.splitting.proofs.Among.{share-off, share-past, share-le, share-le-amount, shares-kept-sum, shares-order, shares-ext}
 use Rattle.waterfall.specs.Charging.{charged, heldBy, rankCharge, chargedByRank}
 use Rattle.waterfall.proofs.Layers.{charged-length, charge-at}
 
@@ -143,6 +143,14 @@ module _ (set : ℕ) (rank holds : ℕ → ℕ) where
     pub charge-within : (m : ℕ) → chargedByRank set rank holds amount m ≤ holds m
     unfolding chargedByRank
     charge-within m = share-le 32 (equals (rank m)) (ofRank (rank m)) holds (reaches (rank m)) m
+
+    -- document 02, C-15: of two members of one rank the one that holds more is never charged less
+    pub charge-order : (j i : ℕ) → j < 32 → member set j ≡ true → rank i ≡ rank j → holds i < holds j
+        → chargedByRank set rank holds amount i ≤ chargedByRank set rank holds amount j
+    unfolding chargedByRank
+    charge-order j i l on e h =
+        rw e (shares-order 32 (equals (rank j)) (ofRank (rank j)) holds j i l
+        (and-both (member set j) (eqb (rank j) (rank j)) on (eq-eqb (rank j) (rank j) refl)) h)
 
     -- the charges of the members of a rank add up to the rank's
     pub rank-charge-sum : (r : ℕ)

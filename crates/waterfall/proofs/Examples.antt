@@ -1,5 +1,5 @@
--- Ranks and charges computed: document 01's example, annexure 1 of document 000, a member that won nothing, and a tie after which ranks
--- skip. Assumes nothing.
+-- Ranks and charges computed: document 01's example, annexure 1 of document 000, a member that won nothing, a tie after which ranks skip, and ties of document 02,
+-- C-15. Assumes nothing.
 use mathlib.Core.Path.{_≡_, refl}
 use mathlib.Core.List.{List, [], _∷_, map}
 use Prim.Native.Nat.{ℕ, _+_, _*_, _-_}
@@ -108,6 +108,18 @@ example-charges = refl
 equal-rank : chargesIn 7 (1 ∷ 1 ∷ 3 ∷ []) (20 ∷ 40 ∷ 10 ∷ []) 41 ≡ 10 ∷ 21 ∷ 10 ∷ []
 unfolding computing
 equal-rank = refl
+
+-- document 02, C-15: "such a tie goes to the larger weight": 2 split by contributions of 10 and 30 after rank 3 has borne its 10. Floors 0 and 1, remainders 20
+-- and 20 by 40, and the odd cent goes to the contribution of 30
+equal-rank-tie : chargesIn 7 (1 ∷ 1 ∷ 3 ∷ []) (10 ∷ 30 ∷ 10 ∷ []) 12 ≡ 0 ∷ 2 ∷ 10 ∷ []
+unfolding computing
+equal-rank-tie = refl
+
+-- "and only then to the earlier in the list": 4 split by contributions of 10, 10 and 40. Floors 0, 0 and 2, remainders 40, 40 and 40 by 60, and of the two odd
+-- cents one goes to the contribution of 40, one to the earlier of 10
+equal-contributions : chargesIn 15 (1 ∷ 1 ∷ 1 ∷ 4 ∷ []) (10 ∷ 10 ∷ 40 ∷ 10 ∷ []) 14 ≡ 1 ∷ 0 ∷ 3 ∷ 10 ∷ []
+unfolding computing
+equal-contributions = refl
 
 -- Annexure 2 of document 000, bucket 1: 900.00 of losses charged to the slices of P to V by their ranks in it, in hundredths. V, of rank 3,
 -- bears what ranks 7, 6, 5 and 4 leave: 169.57 of its 208.70
