@@ -20,7 +20,7 @@ use Rattle.splitting.proofs.Shares.{split-none, split-length, split-sum}
 use Rattle.splitting.proofs.Ties.{split-order}
 use Rattle.positions.specs.Days.{daysOf, inRange, byMember}
 use Rattle.positions.specs.Keeping.{Kept, Taken, noDays, keptAfter}
-use Rattle.positions.specs.Claim.{EveryDay, EveryPart, AddsUp, WritesAll, Claim}
+use Rattle.positions.specs.Claim.{EveryDay, EveryPart, AddsUp, NoLess, WritesAll, Claim}
 use Rattle.positions.proofs.Days.{days-long}
 use Rattle.positions.proofs.Records.{taken-all, taken-bad}
 use Rattle.positions.proofs.Reached.{sums-afresh}
@@ -70,11 +70,9 @@ writes-all set xs shares e =
     ∙ ap (λ (l : List ℕ). ys ++ l) (drop-of-length-le shares {i = 0 + length ys} (omega arith))
     ∙ append-nil ys
 
--- document 02, C-15: of two members the one with the larger sum is never expected to take fewer units
-pub sums-order : (set units : ℕ) (sums : List ℕ) (j i : ℕ) → getD (byMember set sums) i 0 < getD (byMember set sums) j 0
-    → getD (byMember set (split units sums)) i 0 ≤ getD (byMember set (split units sums)) j 0
+no-less : NoLess
 unfolding byMember ofMembers
-sums-order set units sums j i h =
+no-less set units sums j i h =
     ⊎-elim
     (λ k. ⊎-elim
     (λ l. rw (getD-tab 32 (placed set shares) i 0 l, getD-tab 32 (placed set shares) j 0 k)
@@ -97,4 +95,4 @@ sums-order set units sums j i h =
     go true false h = omega arith
 
 pub claim : Claim
-claim = record { every-day = every-day; every-part = every-part; cut-anywhere = cut-anywhere; adds-up = adds-up; writes-all = writes-all }
+claim = record { every-day = every-day; every-part = every-part; cut-anywhere = cut-anywhere; adds-up = adds-up; no-less = no-less; writes-all = writes-all }

@@ -2,9 +2,9 @@
 use mathlib.Core.Path.{_≡_}
 use mathlib.Core.Bool.{true}
 use mathlib.Core.List.{List, [], foldl}
-use Prim.Native.Nat.{ℕ, _<_}
+use Prim.Native.Nat.{ℕ, _≤_, _<_}
 use lib.Dec.{ltb}
-use lib.ListN.{length, take}
+use lib.ListN.{length, getD, take}
 use lib.Seq.{sets}
 use Rattle.lists.specs.Lists.{if_then_else_, sum, all, joined}
 use Rattle.sets.specs.Set.{members}
@@ -38,6 +38,12 @@ AddsUp =
     (set units : ℕ) (sums : List ℕ) → length sums ≡ length (members set)
     → sum (byMember set (split units sums)) ≡ (if ltb 0 (sum sums) then units else 0)
 
+-- document 02, C-15: of two members the one with the larger sum is never expected to take fewer units
+abbrev pub NoLess : Type 0
+NoLess =
+    (set units : ℕ) (sums : List ℕ) (larger smaller : ℕ) → getD (byMember set sums) smaller 0 < getD (byMember set sums) larger 0
+    → getD (byMember set (split units sums)) smaller 0 ≤ getD (byMember set (split units sums)) larger 0
+
 -- the lent shares have 32 places, and all of them are written
 abbrev pub WritesAll : Type 0
 WritesAll = (set : ℕ) (xs shares : List ℕ) → length shares ≡ 32 → sets shares 0 (byMember set xs) ≡ byMember set xs
@@ -47,4 +53,5 @@ pub record Claim : Type 0 where
   pub every-part : EveryPart
   pub cut-anywhere : CutAnywhere
   pub adds-up : AddsUp
+  pub no-less : NoLess
   pub writes-all : WritesAll
