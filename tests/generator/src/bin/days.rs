@@ -559,7 +559,11 @@ fn bad_line(rng: &mut Rng, text: &Text, members: usize) -> Bad {
     let mut end: &'static [u8] = if rng.chance(text.carriage) { b"\r\n" } else { b"\n" };
     let number = "expected a whole number".to_string();
     let comma = "expected a comma".to_string();
-    let wanted = if members == 1 { "1 member, and so 1 position".to_string() } else { format!("{members} members, and so {members} positions") };
+    let wanted = if members == 1 {
+        "1 member, and so 1 position".to_string()
+    } else {
+        format!("{members} members, and so {members} positions")
+    };
     let complete = format!("the day is complete: {wanted}");
     let ends = format!("the line ends before the day does: {wanted}");
     let returned = "a carriage return stands only at the line's end".to_string();
