@@ -1,10 +1,10 @@
 //! Where an exact tie of remainders decides who gets an odd unit or cent (C-15), by the call that splits.
 
 use crate::situations::Situations;
+use generator::Tie;
 use model::field::{price_at, u16_at, u32_at};
 use model::roll::Bid;
-use model::split::{floors, odd_cents};
-use model::{Ledger, Roll, ranking, write};
+use model::{Ledger, Roll, write};
 use std::collections::BTreeMap;
 
 /// What is split and by what: the amount, and the weights in list order.
@@ -84,10 +84,11 @@ impl Fields {
             _ => {}
         }
         for split in self.splits(bytes, before, after) {
-            if goes_to_the_larger(split.q, &split.weights) {
+            let tie = Tie::of(split.q, &split.weights);
+            if tie.to_the_larger {
                 *found.entry(split.by.to_the_larger()).or_default() += 1;
             }
-            if goes_to_the_earlier(split.q, &split.weights) {
+            if tie.to_the_earlier {
                 *found.entry(split.by.to_the_earlier()).or_default() += 1;
             }
         }
@@ -153,63 +154,11 @@ impl Fields {
     }
 }
 
-/// The places by remainder, the largest first, ties to the earlier: what splitting went by before C-15.
-fn by_remainder(q: u64, weights: &[u64]) -> Vec<usize> {
-    let mut places: Vec<usize> = (0..weights.len()).collect();
-    places.sort_by_key(|&place| std::cmp::Reverse(remainder(q, weights, place)));
-    places
-}
-
-fn remainder(q: u64, weights: &[u64], place: usize) -> u128 {
-    let sum: u128 = weights.iter().map(|&weight| u128::from(weight)).sum();
-    u128::from(q) * u128::from(weights[place]) % sum
-}
-
-/// How many are left, where the weights are not all 0.
-fn left(q: u64, weights: &[u64]) -> usize {
-    if weights.iter().all(|&weight| weight == 0) { 0 } else { odd_cents(q, &floors(q, weights)) }
-}
-
-fn goes_to_the_larger(q: u64, weights: &[u64]) -> bool {
-    let left = left(q, weights);
-    if left == 0 {
-        return false;
-    }
-    let (mut now, mut old) = (ranking(q, weights), by_remainder(q, weights));
-    now[..left].sort_unstable();
-    old[..left].sort_unstable();
-    now[..left] != old[..left]
-}
-
-fn goes_to_the_earlier(q: u64, weights: &[u64]) -> bool {
-    let left = left(q, weights);
-    if left == 0 {
-        return false;
-    }
-    let places = ranking(q, weights);
-    let (last, next) = (places[left - 1], places[left]);
-    remainder(q, weights, last) == remainder(q, weights, next) && weights[last] == weights[next]
-}
-
 #[cfg(test)]
 mod tests {
     use super::*;
     use crate::situations::of;
     use model::write::{Head, allocate, bid, call, close, finish, head, member, miss, pay, pool, round, tear};
-
-    #[test]
-    fn a_tie_is_told_by_what_decides_it() {
-        // 2 by 1 and 3, in both orders: only behind the smaller is the larger helped by its weight.
-        assert!(goes_to_the_larger(2, &[1, 3]) && !goes_to_the_earlier(2, &[1, 3]));
-        assert!(!goes_to_the_larger(2, &[3, 1]) && !goes_to_the_earlier(2, &[3, 1]));
-        assert!(!goes_to_the_larger(3, &[2, 2]) && goes_to_the_earlier(3, &[2, 2]));
-        // Two of four: the 3, and of the others the first.
-        assert!(goes_to_the_larger(3, &[1, 1, 3, 1]) && goes_to_the_earlier(3, &[1, 1, 3, 1]));
-        // The remainders differ, nothing is left, or there is no weight.
-        for (q, weights) in [(6, vec![5, 3]), (4, vec![1, 3]), (0, vec![1, 3]), (2, vec![0, 0]), (0, Vec::new())] {
-            assert!(!goes_to_the_larger(q, &weights) && !goes_to_the_earlier(q, &weights), "{q} by {weights:?}");
-        }
-    }
 
     /// The situations of a case with a pool of so many units, and of each member the contribution and expected units.
     fn found(loss: u32, units: u16, members: [(u32, u16); 2], rest: &[Vec<u8>]) -> Vec<&'static str> {

@@ -7,6 +7,7 @@ mod plan;
 mod profile;
 mod rng;
 mod suit;
+mod tie;
 mod ties;
 mod timing;
 mod withdraw;
@@ -15,6 +16,8 @@ mod writer;
 pub use describe::{describe, fields};
 pub use profile::Profile;
 pub use rng::Rng;
+pub use tie::Tie;
+pub use ties::simple_part;
 pub use timing::{accepted, refused, timing};
 
 use writer::Writer;

@@ -1,7 +1,5 @@
 //! Random inputs of splitting and of the auction, in range and out of it.
 use crate::Random;
-use model::split::{floors, odd_cents};
-use std::cmp::Reverse;
 
 /// What stands in a lent run before a call.
 pub const OLD: u64 = 0xdead_beef;
@@ -53,42 +51,6 @@ pub fn simple_part(r: &mut Random, whole: u64) -> u64 {
     let parts = [2, 2, 3, 4][r.below(4) as usize];
     let part = whole / parts * (1 + r.below(parts - 1));
     if r.once_in(8) { part.saturating_add(whole) } else { part }
-}
-
-/// Which ties decide who gets one of what is left.
-#[derive(Clone, Copy, Debug, Default, PartialEq, Eq)]
-pub struct Tie {
-    /// The last that gets one and the first that gets none have one remainder.
-    pub decides: bool,
-    /// Ties to the earlier, whatever the weights, give other shares.
-    pub to_the_larger: bool,
-    /// The last that gets one and the first that gets none have one remainder and one weight.
-    pub to_the_earlier: bool,
-}
-
-impl Tie {
-    pub fn of(q: u64, weights: &[u64]) -> Tie {
-        let sum: u128 = weights.iter().map(|&weight| u128::from(weight)).sum();
-        if sum == 0 {
-            return Tie::default();
-        }
-        let left = odd_cents(q, &floors(q, weights));
-        let remainder = |place: usize| u128::from(q) * u128::from(weights[place]) % sum;
-        let mut now: Vec<usize> = (0..weights.len()).collect();
-        // The sort is stable, so places of one remainder stay in list order.
-        now.sort_by_cached_key(|&place| Reverse(remainder(place)));
-        let mut old = now[..left].to_vec();
-        now.sort_by_cached_key(|&place| (Reverse(remainder(place)), Reverse(weights[place]), place));
-        if left == 0 {
-            return Tie::default();
-        }
-        let (last, next) = (now[left - 1], now[left]);
-        let tie = remainder(last) == remainder(next);
-        now.truncate(left);
-        now.sort_unstable();
-        old.sort_unstable();
-        Tie { decides: tie, to_the_larger: now != old, to_the_earlier: tie && weights[last] == weights[next] }
-    }
 }
 
 /// Many of them small, so that remainders tie; some all equal or all 0, and some with one out of range.

@@ -1,6 +1,7 @@
 //! `parts [N]`: the proved split and both auctions against the model, on N random inputs each (100,000), refusals among them. Ends with 1 where over 1,000
 //! inputs or more a kind that it counts never came.
-use linked::inputs::{OLD, Splitting, Tie, length, other_length, simple_part};
+use generator::Tie;
+use linked::inputs::{OLD, Splitting, length, other_length, simple_part};
 use linked::tally::tell;
 use linked::{BidRecord, Random};
 use std::process::ExitCode;

@@ -1,8 +1,9 @@
 //! `positions [RUNS [SEED]]`: the proved part for daily positions against the model, on random runs (100,000) from consecutive seeds, damaged ones among
 //! them: each at once and in parts, with the kept sums after every part. Ends with 1 at a difference, and where over 1,000 runs or more one of the
 //! answers or one of the situations that it counts never came.
+use generator::Tie;
 use linked::Random;
-use linked::inputs::{Tie, simple_part};
+use linked::inputs::simple_part;
 use linked::positions::{Kept, expected};
 use linked::tally::tell;
 use model::positions::{POSITION_LIMIT, WINDOW};

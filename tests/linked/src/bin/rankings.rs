@@ -1,7 +1,8 @@
 //! `rankings [N [SEED]]`: the proved ranking (C-13 of document 02) against the model's on N random inputs (100,000), refusals among them, and the proved
 //! split against the proved ranking: floors, and one more at as many of its first places as are left. Ends with 1 where over 1,000 inputs or more a
 //! kind that it counts never came.
-use linked::inputs::{OLD, Splitting, Tie};
+use generator::Tie;
+use linked::inputs::{OLD, Splitting};
 use linked::tally::tell;
 use linked::{Random, Ranked};
 use model::split::{AMOUNT_LIMIT, WEIGHT_LIMIT, floors, odd_cents, swept_by};
