@@ -1,4 +1,5 @@
-"""Deliberate mistakes in the counts model, a few in the roll, and in the model's ranking: name, file, the text that is there once, and what stands there instead."""
+"""Deliberate mistakes in the counts model, a few in the roll, and in the model's ranking, auction alone and expected units: name, file, the text that is there once, and what
+stands there instead."""
 
 COUNTS = "model/src/counts.rs"
 ROLL = "model/src/roll.rs"
@@ -6,6 +7,7 @@ SPLIT = "model/src/split.rs"
 AUCTION = "model/src/auction.rs"
 TEXT = "model/src/text.rs"
 FIELD = "model/src/field.rs"
+POSITIONS = "model/src/positions.rs"
 
 # The number of the first bid of the round, for the mistakes that go by it.
 ROUND_BEGINS = (
@@ -22,18 +24,74 @@ NUMBER = "let (member, number) = (usize::from(value[0]), usize::from(u16_at(valu
 MEMBER_OF_WITHDRAW = "        if !self.has_member(member) {\n            return 4;\n        }\n        let Ok(place)"
 KEPT = "        self.bids.push(Bid { pool, member, units, price, won: 0, sold: 0 });\n        self.to_allot.push(self.bids.len() - 1);\n"
 
+# What a split goes by where remainders tie, and the keys of a sort that does so: C-15 has the larger weight and then the earlier.
+BY_TIE = "Reverse((product(weights[i]) % sum, weights[i]))"
+OTHER_TIES = [
+    ("to the earlier, whatever the weights", "(Reverse(remainder(i)), i)"),
+    ("to the smaller weight", "(Reverse(remainder(i)), weights[i])"),
+    ("of like weights to the later", "(Reverse(remainder(i)), Reverse(weights[i]), Reverse(i))"),
+]
+USES_SPLIT = "use crate::split::split;\n"
+
+
+def other_split(key):
+    """A split of the file's own, with ties by the key."""
+    return (USES_SPLIT, USES_SPLIT + f"""
+fn other_split(q: u64, weights: &[u64]) -> Vec<u64> {{
+    use std::cmp::Reverse;
+    let sum: u128 = weights.iter().map(|&w| u128::from(w)).sum();
+    if sum == 0 {{
+        return vec![0; weights.len()];
+    }}
+    let mut shares = crate::split::floors(q, weights);
+    let left = crate::split::odd_cents(q, &shares);
+    let remainder = |i: usize| u128::from(q) * u128::from(weights[i]) % sum;
+    let mut order: Vec<usize> = (0..weights.len()).collect();
+    order.sort_by_key(|&i| {key});
+    order[..left].iter().for_each(|&i| shares[i] += 1);
+    shares
+}}
+""")
+
+
+def other_ties(name, file, *splits):
+    """The mistakes of one split alone: its calls go to the other split."""
+    for ties, key in OTHER_TIES:
+        edits = [edit for call in splits for edit in (call, call.replace("split(", "other_split(", 1))]
+        yield (f"ties {ties}, {name} alone", file, *other_split(key), *edits)
+
+
+def other_auction(name, call):
+    """The mistakes of the auction run alone: CLOSE's rule with the split that is handed to it."""
+    for ties, key in OTHER_TIES:
+        yield (f"ties {ties}, {name}", AUCTION, *other_split(key),
+               "pub fn allot(open: u64, reserve: i64, bids: &[(u64, i64)]) -> Vec<u64> {\n",
+               "pub fn allot(open: u64, reserve: i64, bids: &[(u64, i64)]) -> Vec<u64> {\n    allot_by(open, reserve, bids, split)\n}\n\n"
+               "fn allot_by(open: u64, reserve: i64, bids: &[(u64, i64)], by: fn(u64, &[u64]) -> Vec<u64>) -> Vec<u64> {\n",
+               "zip(split(left, &units))", "zip(by(left, &units))",
+               call, call.replace("allot(", "allot_by(")[:-1] + ", other_split)")
+
+
 # Each of these shows in the program's text.
 IN_TEXT = [
     # Splitting and the auction
-    ("ties of a split to the later", SPLIT,
+    ("ties of a split to the earlier, whatever the weights", SPLIT, BY_TIE, "Reverse(product(weights[i]) % sum)"),
+    ("ties of a split to the smaller weight", SPLIT, BY_TIE, "(Reverse(product(weights[i]) % sum), weights[i])"),
+    ("ties of a split of like weights to the later", SPLIT,
      "let mut order: Vec<usize> = (0..weights.len()).collect();",
      "let mut order: Vec<usize> = (0..weights.len()).rev().collect();"),
-    ("what is left to the first, not to the largest remainder", SPLIT,
-     "Reverse(product(weights[i]) % sum)", "Reverse(product(weights[i]) % 1)"),
-    ("what is left to the smallest remainder", SPLIT,
-     "|&i| Reverse(product(weights[i]) % sum)", "|&i| product(weights[i]) % sum"),
-    ("what is left to the largest weight", SPLIT,
-     "Reverse(product(weights[i]) % sum)", "Reverse(weights[i])"),
+    ("ties of a split to the later, whatever the weights", SPLIT,
+     "let mut order: Vec<usize> = (0..weights.len()).collect();",
+     "let mut order: Vec<usize> = (0..weights.len()).rev().collect();",
+     BY_TIE, "Reverse(product(weights[i]) % sum)"),
+    ("what is left to the first, not to the largest remainder", SPLIT, BY_TIE, "Reverse(product(weights[i]) % 1)"),
+    ("what is left to the smallest remainder", SPLIT, BY_TIE, "(product(weights[i]) % sum, Reverse(weights[i]))"),
+    ("what is left to the largest weight", SPLIT, BY_TIE, "Reverse((weights[i], product(weights[i]) % sum))"),
+    *other_ties("CLOSE", AUCTION, "split(left, &units)"),
+    *other_ties("ALLOCATE", COUNTS, "split(placed, &shortfalls)"),
+    *other_ties("CALL", COUNTS, "split(called, &weights)"),
+    *other_ties("FINISH by contributions", COUNTS, "split(charged, &weights)"),
+    *other_ties("FINISH by payments", COUNTS, "split(outcome.charges[5], &payments)"),
     ("a bid at the reserve is not valid", AUCTION, "bids[i].1 >= reserve", "bids[i].1 > reserve"),
     ("bids at the cut-off win all or nothing", AUCTION, "won[i] = share;", "won[i] = 0 * share;"),
     ("what is left at the cut-off goes to lower prices", AUCTION,
@@ -468,6 +526,9 @@ IN_TEXT = [
 
 # These show only in what the models can be asked, or are mistakes in the roll, which the texts are held to.
 IN_HOLDINGS = [
+    ("ties of a split of the roll to the earlier, whatever the weights", ROLL, "find(|&i| Some(w[i]) == heaviest)", "find(|&i| Some(w[i]) <= heaviest)"),
+    ("ties of a split of the roll to the smaller weight", ROLL, "tied.iter().map(|&i| w[i]).max()", "tied.iter().map(|&i| w[i]).min()"),
+    ("ties of a split of the roll of like weights to the later", ROLL, "tied.into_iter().find(", "tied.into_iter().rfind("),
     ("WITHDRAW: a declined one leaves a trace", COUNTS, NOT_FOUND, "binary_search(&number) else {\n            self.least_bid = 1;\n            return 18;\n"),
     ("WITHDRAW: the roll allots the bid", ROLL, "        bid.stands && usize::from(bid.round)", "        usize::from(bid.round)"),
     ("WITHDRAW: the roll counts the bid among the valid units", ROLL, "        bid.stands && usize::from(bid.round)", "        usize::from(bid.round)", "        if !self.is_valid(bid) {", "        if !bid.stands || !self.is_valid(bid) {"),
@@ -493,10 +554,25 @@ IN_HOLDINGS = [
 
 # These show only in the ranking, which no call shows: `rankings` of `linked` holds the proved one to it.
 IN_RANKING = [
-    ("ranking: ties to the later", SPLIT, "Ordering::Equal => one < other,", "Ordering::Equal => one > other,"),
+    ("ranking: ties to the earlier, whatever the weights", SPLIT, "Ordering::Equal => weights[one] > weights[other],", "Ordering::Equal => one < other,"),
+    ("ranking: ties to the smaller weight", SPLIT, "Ordering::Equal => weights[one] > weights[other],", "Ordering::Equal => weights[one] < weights[other],"),
+    ("ranking: ties of like weights to the later", SPLIT, "weights[one] == weights[other] => one < other,", "weights[one] == weights[other] => one > other,"),
+    ("ranking: the weight before the remainder", SPLIT, "remainders[one].cmp(&remainders[other])", "weights[one].cmp(&weights[other])"),
     ("ranking: a place of weight 0 left out", SPLIT, "    }\n    places\n}\n", "    }\n    places.retain(|&place| weights[place] > 0);\n    places\n}\n"),
     ("ranking: there where W = 0", SPLIT, "return Vec::new();", "return (0..weights.len()).collect();"),
     ("ranking: none where nothing is left", SPLIT,
      "    let before = ", "    if remainders.iter().all(|&remainder| remainder == 0) {\n        return Vec::new();\n    }\n    let before = "),
     ("ranking: smaller remainders first", SPLIT, "remainders[one].cmp(&remainders[other])", "remainders[other].cmp(&remainders[one])"),
 ]
+
+# These show only in a split or an auction that is run alone: `parts` of `linked` holds the proved ones to them.
+IN_PARTS = [
+    *[(f"ties {ties}, a split run alone", SPLIT, "shares.copy_from_slice(&split(q, weights));", f"shares.copy_from_slice(&other_split(q, weights));",
+       "/// The public entry: the answer, and the shares", other_split(key)[1].removeprefix(USES_SPLIT).replace("use std::cmp::Reverse;", "") + "\n/// The public entry: the answer, and the shares")
+      for ties, key in OTHER_TIES],
+    *other_auction("the auction over lent records", "allot(u64::from(open_units), i64::from(reserve), &pairs)"),
+    *other_auction("the auction over flat runs", "allot(open_units, cents(reserve), &bids)"),
+]
+
+# These show only in expected units: `positions` of `linked` holds the proved ones to them.
+IN_POSITIONS = [*other_ties("expected units", POSITIONS, "split(units, &sums[..members.len()])")]

@@ -1,9 +1,9 @@
 #!/usr/bin/env python3
-"""Tries the generator's sharpness: builds the counts model with one mistake at a time and lets `compare` look for it. Mistakes in the model's ranking
-are looked for by `rankings` of `linked`, beside the proved one.
+"""Tries the generator's sharpness: builds the counts model with one mistake at a time and lets `compare` look for it. Mistakes in the model's ranking, in its
+split and auction run alone and in its expected units are looked for by `rankings`, `parts` and `positions` of `linked`, beside the proved ones.
 
 usage: mutants/run.py [--inputs N] [--seed S] [WORD ...]     only the mistakes whose name holds a WORD
-Run from the tests folder, after `cargo build --release --offline`, and for the ranking after `rt staticlib` of what `linked` links.
+Run from the tests folder, after `cargo build --release --offline`, and for those that `linked` looks for after `rt staticlib` of what it links.
 """
 
 import re
@@ -13,7 +13,7 @@ import sys
 import tempfile
 from pathlib import Path
 
-from mistakes import IN_HOLDINGS, IN_RANKING, IN_TEXT
+from mistakes import IN_HOLDINGS, IN_PARTS, IN_POSITIONS, IN_RANKING, IN_TEXT
 
 TESTS = Path(__file__).resolve().parent.parent
 COMPARE = TESTS / "target/release/compare"
@@ -56,18 +56,33 @@ def look_in_holdings(copy, inputs, seed):
     return look([copy / "target/debug/compare", "--self"], inputs, seed)
 
 
-def look_in_ranking(copy, inputs, seed):
-    build(copy / "linked", "--bin", "rankings")
-    done = subprocess.run([copy / "linked/target/debug/rankings", inputs, seed], capture_output=True, text=True)
-    found = re.search(r"ranking (\d+ by \[.*?\]) .*, the model", done.stderr)
+def look_beside(copy, program, arguments, pattern):
+    """A program of `linked`, which stops at a difference that the pattern tells of."""
+    build(copy / "linked", "--bin", program)
+    done = subprocess.run([copy / "linked/target/debug" / program, *arguments], capture_output=True, text=True)
+    found = re.search(pattern, done.stderr + done.stdout)
     if (done.returncode != 0) != bool(found):
         raise SystemExit(done.stdout[-3000:] + done.stderr[-3000:])
     return found and f"found at {found.group(1)}"
 
 
+def look_in_ranking(copy, inputs, seed):
+    return look_beside(copy, "rankings", [inputs, seed], r"ranking (\d+ by \[.*?\]) .*, the model")
+
+
+def look_in_parts(copy, inputs, seed):
+    return look_beside(copy, "parts", [inputs], r"((?:split|lent|flat) -?\d+ .{,60}).*, the model")
+
+
+def look_in_positions(copy, inputs, seed):
+    return look_beside(copy, "positions", [inputs, seed], r"(run \d+) from seed \d+ differs")
+
+
 LOOKS = [(mistake, look_in_text) for mistake in IN_TEXT]
 LOOKS += [(mistake, look_in_holdings) for mistake in IN_HOLDINGS]
 LOOKS += [(mistake, look_in_ranking) for mistake in IN_RANKING]
+LOOKS += [(mistake, look_in_parts) for mistake in IN_PARTS]
+LOOKS += [(mistake, look_in_positions) for mistake in IN_POSITIONS]
 
 
 def main():

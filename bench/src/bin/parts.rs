@@ -81,7 +81,7 @@ fn split_of(name: &str, r: &mut Random, places: usize, weights: Weights) {
 }
 
 /// The ranking by a sort, since the model's counts for each place how many come before it; a remainder is computed at each comparison, as in the model's split, or
-/// once.
+/// once. The sort is stable, so places of one remainder and weight stay in list order (C-15).
 fn sorted<const ONCE: bool>(q: u64, weights: &[u64], places: &mut [usize]) -> Ranked {
     let answer = refusal(q, weights, places.len());
     let sum: u128 = weights.iter().map(|&w| u128::from(w)).sum();
@@ -89,11 +89,11 @@ fn sorted<const ONCE: bool>(q: u64, weights: &[u64], places: &mut [usize]) -> Ra
         return Ranked { answer, named: 0 };
     }
     let mut order: Vec<usize> = (0..weights.len()).collect();
-    let remainder = |&i: &usize| Reverse(u128::from(q) * u128::from(weights[i]) % sum);
+    let standing = |&i: &usize| Reverse((u128::from(q) * u128::from(weights[i]) % sum, weights[i]));
     if ONCE {
-        order.sort_by_cached_key(remainder);
+        order.sort_by_cached_key(standing);
     } else {
-        order.sort_by_key(remainder);
+        order.sort_by_key(standing);
     }
     places.copy_from_slice(&order);
     Ranked { answer, named: order.len() }

@@ -7,6 +7,7 @@ mod program;
 mod shrink;
 mod situations;
 mod tally;
+mod ties;
 
 use generator::{Profile, calls, describe, fields, input, profile_of};
 use model::{Counts, Ledger, Roll};
@@ -51,7 +52,7 @@ fn main() -> ExitCode {
         return ExitCode::FAILURE;
     }
     if options.cover && missed.situations > 0 {
-        println!("FAILED: a situation with a withdrawn bid never came");
+        println!("FAILED: a situation with a withdrawn bid or a tie of remainders never came");
         return ExitCode::FAILURE;
     }
     println!("no difference");

@@ -1,5 +1,6 @@
-//! What lists with WITHDRAWs go through, counted so that a run shows whether it compared what matters there.
+//! What lists with WITHDRAWs go through and where remainders tie, counted so that a run shows whether it compared what matters there.
 
+use crate::ties;
 use model::field::u16_at;
 use model::roll::Bid;
 use model::{Ledger, Roll, Stage, write};
@@ -22,8 +23,8 @@ pub const ANOTHERS: &str = "WITHDRAW 18 of another member's standing bid";
 pub const TWICE: &str = "WITHDRAW 18 of a bid withdrawn before";
 pub const OLD_ROUND: &str = "WITHDRAW 18 of the member's standing bid of the first round";
 
-/// All that has to occur.
-pub const ALL: [&str; 16] = [
+/// All that has to occur with bids taken back.
+pub const TAKEN_BACK: [&str; 16] = [
     CLOSE_WITHOUT,
     WOULD_HAVE_WON,
     OTHERS_WIN_OTHERWISE,
@@ -47,18 +48,22 @@ pub type Situations = BTreeMap<&'static str, u64>;
 /// The situations of a list of calls.
 pub fn of(calls: &[Vec<u8>]) -> Situations {
     let mut found = Situations::new();
-    if !calls.iter().any(|bytes| bytes.first() == Some(&write::WITHDRAW)) {
-        return found;
-    }
     let mut roll = Roll::default();
+    let mut fields = ties::Fields::default();
     let mut opened = 0;
     for (call, bytes) in calls.iter().enumerate() {
-        let before = roll.stage();
+        let splits = matches!(bytes.first(), Some(&(write::CLOSE | write::ALLOCATE | write::CALL | write::FINISH)));
+        // Only a call that splits is looked at from before.
+        let before = if splits { roll.clone() } else { Roll::default() };
+        let stage = roll.stage();
         let answer = roll.call(bytes);
+        if answer == 0 {
+            fields.count(bytes, &before, &roll, &mut found);
+        }
         if answer == 0 && bytes[0] == write::ROUND {
             opened = call;
         }
-        let Some(Stage::Bidding(round)) = before else {
+        let Some(Stage::Bidding(round)) = stage else {
             continue;
         };
         let names = match (bytes.first(), answer) {
@@ -155,7 +160,8 @@ mod tests {
     fn found(rest: &[Vec<u8>]) -> Vec<&'static str> {
         let h = Head { pools: 1, least_bid: 1, set: 3, hedge_loss: 0, other_loss: 0, margin: 0, fund: 0, house: 0 };
         let given = [head(&h), pool(0, 3, 0), member(0, 0, [0; 4]), member(1, 0, [0; 4]), round(&[-9])];
-        of(&[&given, rest].concat()).into_keys().collect()
+        let found = of(&[&given, rest].concat()).into_keys();
+        found.filter(|name| TAKEN_BACK.contains(name)).collect()
     }
 
     #[test]

@@ -2,6 +2,7 @@
 
 use crate::pairs::{PLACES, Place, REACHABLE, UNKNOWN, UNREACHABLE, UNREACHABLE_IN, place_name, tag_name};
 use crate::situations::{self, Situations};
+use crate::ties;
 use std::collections::{BTreeMap, BTreeSet};
 
 #[derive(Default)]
@@ -34,7 +35,7 @@ impl Tally {
         self.calls += 1;
     }
 
-    /// Counts what a list with WITHDRAWs goes through.
+    /// Counts what a list goes through with WITHDRAWs, and where remainders tie.
     pub fn count_situations(&mut self, calls: &[Vec<u8>]) {
         self.add_situations(situations::of(calls));
     }
@@ -84,11 +85,15 @@ impl Tally {
     fn report_situations(&self) -> usize {
         let count = |name| self.situations.get(name).copied().unwrap_or(0);
         println!("with bids taken back:");
-        for name in situations::ALL {
+        for name in situations::TAKEN_BACK {
             println!("  {name}: {}", count(name));
         }
-        let missed = situations::ALL.into_iter().filter(|name| count(name) == 0);
-        let missed: Vec<_> = missed.collect();
+        println!("where remainders tie:");
+        for name in ties::ALL {
+            println!("  {name}: {}", count(name));
+        }
+        let all = situations::TAKEN_BACK.into_iter().chain(ties::ALL);
+        let missed: Vec<_> = all.filter(|name| count(name) == 0).collect();
         for name in &missed {
             println!("MISSED {name}");
         }

@@ -7,6 +7,8 @@ mod plan;
 mod profile;
 mod rng;
 mod suit;
+mod tie;
+mod ties;
 mod timing;
 mod withdraw;
 mod writer;
@@ -14,6 +16,8 @@ mod writer;
 pub use describe::{describe, fields};
 pub use profile::Profile;
 pub use rng::Rng;
+pub use tie::Tie;
+pub use ties::simple_part;
 pub use timing::{accepted, refused, timing};
 
 use writer::Writer;
@@ -23,11 +27,12 @@ pub fn profile_of(seed: u64) -> Profile {
     Profile::draw(&mut Rng::new(seed ^ 0x70726F66696C65))
 }
 
-/// Which calls of document 02 a list has among its own.
+/// Which calls of document 02 a list has among its own, and whether remainders are to tie in it.
 #[derive(Clone, Copy, Default)]
 struct Requests {
     sales: bool,
     withdrawals: bool,
+    ties: bool,
 }
 
 impl Requests {
@@ -35,12 +40,15 @@ impl Requests {
     const WITH_SALES: u64 = 45;
     /// Percent of the seeds whose lists have WITHDRAWs among their calls.
     const WITH_WITHDRAWALS: u64 = 40;
+    /// Percent of the seeds in whose lists remainders are to tie.
+    const WITH_TIES: u64 = 50;
 
-    /// Each is drawn by itself, so that the lists without the later calls stay as they were.
+    /// Each is drawn by itself, so that the lists without what a request brings stay as they were.
     fn of(seed: u64) -> Requests {
         Requests {
             sales: Rng::new(seed ^ 0x73616C6573).chance(Requests::WITH_SALES),
             withdrawals: Rng::new(seed ^ 0x7769746864726177).chance(Requests::WITH_WITHDRAWALS),
+            ties: Rng::new(seed ^ 0x74696573).chance(Requests::WITH_TIES),
         }
     }
 }

@@ -81,6 +81,12 @@ pub struct Plan {
     pub emptied: u8,
     /// The first round in which they are.
     pub emptied_from: usize,
+    /// Whether remainders are to tie in the list.
+    pub has_ties: bool,
+    /// Percent of the pools whose bids in a round are drawn so.
+    pub tied_bids: u64,
+    /// The pools that get no bid, as a set.
+    pub without_bids: u8,
     /// The list ends with this many calls at the latest.
     pub limit: usize,
     /// Calls written after FINISH.
@@ -127,6 +133,9 @@ impl Plan {
             send_again: 0,
             emptied: 0,
             emptied_from: 1,
+            has_ties: false,
+            tied_bids: 0,
+            without_bids: 0,
             limit: 600,
             tail: if rng.chance(20) { rng.between(1, 15) as usize } else { 0 },
             cut: rng.chance(15),

@@ -4,6 +4,7 @@ use crate::Requests;
 use crate::plan::{Demand, Plan, Target, members_of};
 use crate::profile::Profile;
 use crate::rng::Rng;
+use crate::ties::simple_part;
 use model::roll::Entry;
 use model::write::{self, Head};
 use model::{Ledger, Roll, Stage, field, split};
@@ -36,6 +37,9 @@ impl Writer {
         }
         if requests.withdrawals {
             plan.suit_withdrawals(&mut rng, profile);
+        }
+        if requests.ties {
+            plan.suit_ties_of_remainders(&mut rng, profile);
         }
         Writer {
             plan,
@@ -295,6 +299,13 @@ impl Writer {
     }
 
     fn draw_pool_bids(&mut self, pool: u8, round: usize, open: u64, bids: &mut Vec<Vec<u8>>) {
+        if self.plan.without_bids >> pool & 1 == 1 {
+            return;
+        }
+        let tied = self.plan.tied_bids > 0 && self.rng.chance(self.plan.tied_bids);
+        if tied && self.draw_tied_bids(pool, round, open, bids) {
+            return;
+        }
         let demand = self.plan.demand[round][usize::from(pool)];
         let wanted = match demand {
             Demand::Nothing => self.rng.below(2),
@@ -401,7 +412,7 @@ impl Writer {
     }
 
     /// Members to whom units are allocated or moved, with how many and their sum of prices.
-    fn holders(&self) -> Vec<(u8, i64, i64)> {
+    pub fn holders(&self) -> Vec<(u8, i64, i64)> {
         let mut holders = vec![(0, 0); 32];
         for entry in (0..4).flat_map(|pool| self.model.entries(pool)) {
             match *entry {
@@ -444,11 +455,10 @@ impl Writer {
         price.clamp(-1_000_000, 1_000_000) as i32
     }
 
-    /// All payments that were accepted.
-    fn paid(&self) -> u64 {
-        let accepted = self.calls.iter().zip(&self.answers).filter(|(_, answer)| **answer == 0);
-        let payments = accepted.filter(|(bytes, _)| bytes[0] == write::PAY);
-        payments.map(|(bytes, _)| u64::from(field::u32_at(bytes, 4))).sum()
+    /// The calls that were accepted.
+    pub fn accepted(&self) -> impl Iterator<Item = &Vec<u8>> {
+        let answered = self.calls.iter().zip(&self.answers);
+        answered.filter(|(_, answer)| **answer == 0).map(|(bytes, _)| bytes)
     }
 
     /// After a round with no unit open: on to FINISH or CALL, now and then the wrong one first.
@@ -471,6 +481,11 @@ impl Writer {
         let mut owing = self.plan.members();
         owing.retain(|&member| self.model.owes(member) > 0);
         if self.rng.chance(if owing.is_empty() { self.plan.miss } else { self.plan.miss / 3 }) && self.miss() {
+            return;
+        }
+        if owing.is_empty() && self.plan.has_ties && self.rng.chance(90) {
+            self.miss_for_a_tie();
+            self.put(write::finish());
             return;
         }
         if owing.is_empty() || self.rng.chance(4) {
@@ -542,6 +557,10 @@ impl Writer {
             (head.margin, head.fund, head.house) = (0, 0, 0);
             losses = self.wanted_losses(&head).unwrap_or(0);
         }
+        if losses < 0 && self.plan.has_ties && self.plan.target != Target::Zero {
+            // As much more margin bears what the units cost, so that the layers behind it are charged as wanted.
+            head.margin = (i64::from(head.margin) - losses).min(4_000_000_000) as u32;
+        }
         self.give_losses(&mut head, losses.clamp(0, 4_000_000_000));
         let mut calls = self.calls.clone();
         calls[at] = write::head(&head);
@@ -586,11 +605,21 @@ impl Writer {
         let mut house = self.rng.between(0, left / 2);
         let mut contributions = match self.plan.target {
             Target::Free => return,
+            Target::Prefunded if self.plan.has_ties && self.rng.chance(60) => {
+                // Contributions bear all that margin and fund leave, which is half of them.
+                house = 0;
+                2 * left
+            }
             Target::Zero | Target::Prefunded => {
                 house = self.rng.between(0, 2 * left);
                 self.rng.between(0, 2 * left)
             }
             Target::Verge => left - house + self.rng.between(-1, 1),
+            Target::Called if self.plan.has_ties && left >= 3 => {
+                // What is called is then half of the contributions.
+                house -= (house - left).rem_euclid(3).min(house);
+                (left - house) / 3 * 2
+            }
             Target::Called => self.rng.between((left - house) / 2, left - house - 1),
             Target::Uncovered => self.rng.between(0, (left - house) / 2),
         };
@@ -627,6 +656,9 @@ impl Writer {
             Target::Zero => -self.rng.between(0, 50),
             Target::Prefunded => self.within_a_layer(head),
             Target::Verge => prefunded + self.rng.between(-1, 1),
+            Target::Called if self.plan.has_ties && self.rng.chance(70) => {
+                prefunded + simple_part(&mut self.rng, contributions as u64).unwrap_or(1) as i64
+            }
             Target::Called if self.rng.chance(10) => prefunded + contributions,
             Target::Called => prefunded + self.rng.between(1, contributions.max(1)),
             Target::Uncovered => prefunded + contributions + self.rng.between(0, contributions + 20),
@@ -638,7 +670,13 @@ impl Writer {
     fn within_a_layer(&mut self, head: &Head) -> i64 {
         let first_tranche = i64::from(head.house) * 3 / 5;
         let mut limits = vec![head.margin.into(), head.fund.into(), first_tranche];
-        limits.extend(self.contributions_by_rank());
+        if self.plan.has_ties
+            && self.rng.chance(85)
+            && let Some(amount) = self.part_of_a_rank(limits.iter().sum())
+        {
+            return amount;
+        }
+        limits.extend(self.ranks_from_the_most_junior().iter().map(|(sum, _)| sum));
         limits.push(i64::from(head.house) - first_tranche);
         let layer = self.rng.below(limits.len() as u64) as usize;
         let before: i64 = limits[..layer].iter().sum();
@@ -649,8 +687,8 @@ impl Writer {
         }
     }
 
-    /// The contributions of each rank together, the most junior rank first.
-    fn contributions_by_rank(&self) -> Vec<i64> {
+    /// The contributions of each rank together and how many members have it, the most junior rank first; without those that have nothing.
+    pub fn ranks_from_the_most_junior(&self) -> Vec<(i64, usize)> {
         let mut calls = self.calls.clone();
         if let Some(at) = self.head_at {
             let rich = Head { margin: 4_000_000_000, hedge_loss: 0, other_loss: 0, ..self.plan.head };
@@ -664,11 +702,13 @@ impl Writer {
         let Some(outcome) = model.result() else {
             return Vec::new();
         };
-        let mut by_rank = vec![0; 33];
+        let mut by_rank = vec![(0, 0); 33];
         for m in outcome.members {
-            by_rank[m.rank as usize] += i64::from(self.plan.contributions[usize::from(m.member)]);
+            let (sum, members) = &mut by_rank[m.rank as usize];
+            *sum += i64::from(self.plan.contributions[usize::from(m.member)]);
+            *members += 1;
         }
-        by_rank.into_iter().rev().filter(|&sum| sum > 0).collect()
+        by_rank.into_iter().rev().filter(|&(sum, _)| sum > 0).collect()
     }
 }
 

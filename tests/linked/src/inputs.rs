@@ -31,17 +31,26 @@ impl Splitting {
     pub fn draw(r: &mut Random) -> Splitting {
         let weights = weights(r);
         let whole = weights.iter().fold(0, |sum: u64, w| sum.saturating_add(*w));
-        let q = match r.below(8) {
+        let q = match r.below(12) {
             0 => 0,
             1 => whole,
             2 => r.below(16_000_000_001),
             3 => 16_000_000_000 + r.below(2),
             4 => whole.saturating_add(1),
+            5..9 => simple_part(r, whole),
             _ => r.below(whole.saturating_add(1).max(1)),
         };
         let room = other_length(r, weights.len());
         Splitting { q, weights, room }
     }
+}
+
+/// A half, a third, a quarter or three quarters of the whole, where it can be parted so, at times that and the whole once more; so remainders of different weights
+/// tie, as with 2 by 1 and 3.
+pub fn simple_part(r: &mut Random, whole: u64) -> u64 {
+    let parts = [2, 2, 3, 4][r.below(4) as usize];
+    let part = whole / parts * (1 + r.below(parts - 1));
+    if r.once_in(8) { part.saturating_add(whole) } else { part }
 }
 
 /// Many of them small, so that remainders tie; some all equal or all 0, and some with one out of range.

@@ -1,6 +1,6 @@
 //! The ledger held as counts only: no list of units, and no call that sweeps over units.
 //!
-//! It is the speed baseline, and a second writing of document 01 and of C-12 and C-14 against which the roll is compared. Refusals are checked call by
+//! It is the speed baseline, and a second writing of document 01 and of C-12, C-14 and C-15 against which the roll is compared. Refusals are checked call by
 //! call in the order of their numbers.
 
 use crate::auction::allot;

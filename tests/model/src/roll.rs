@@ -1,4 +1,4 @@
-//! The ledger as an explicit unit roll, one entry a unit, by the letter of document 01 and C-12 and C-14 of document 02, and as plain as it can be.
+//! The ledger as an explicit unit roll, one entry a unit, by the letter of document 01 and C-12, C-14 and C-15 of document 02, and as plain as it can be.
 //!
 //! This is the model to believe: above each function stands the sentence that it follows. It uses no code of `split`, `auction`
 //! or `counts`.
@@ -201,7 +201,8 @@ fn is_out_of_range(call: &Call, pools: u8) -> bool {
 }
 
 /// "To split q by a list of weights w with sum W: each share is floor(q × w / W). What is left goes one each to the largest
-/// remainders of q × w by W, ties to the earlier in the list. If W = 0 every share is 0."
+/// remainders of q × w by W, ties to the earlier in the list. If W = 0 every share is 0." C-15: "From now on such a tie goes to
+/// the larger weight, and only then to the earlier in the list. This holds for allotments, allocations, calls and charges alike."
 fn split(q: u64, weights: &[u64]) -> Vec<u64> {
     let q = u128::from(q);
     let w: Vec<u128> = weights.iter().map(|&w| w.into()).collect();
@@ -213,15 +214,12 @@ fn split(q: u64, weights: &[u64]) -> Vec<u64> {
     let mut remainders: Vec<Option<u128>> = w.iter().map(|w| Some(q * w % sum)).collect();
     let left = q - shares.iter().sum::<u128>();
     for _ in 0..left {
-        let mut largest = None;
-        for (i, remainder) in remainders.iter().enumerate() {
-            if remainder.is_some() && largest.is_none_or(|best: usize| *remainder > remainders[best]) {
-                largest = Some(i);
-            }
-        }
-        let largest = largest.expect("less is left than there are weights");
-        shares[largest] += 1;
-        remainders[largest] = None;
+        let largest = remainders.iter().flatten().max().expect("less is left than there are weights");
+        let tied: Vec<usize> = (0..w.len()).filter(|&i| remainders[i] == Some(*largest)).collect();
+        let heaviest = tied.iter().map(|&i| w[i]).max();
+        let first = tied.into_iter().find(|&i| Some(w[i]) == heaviest).expect("one of those tied is the heaviest");
+        shares[first] += 1;
+        remainders[first] = None;
     }
     shares.iter().map(|&share| share as u64).collect()
 }

@@ -1,4 +1,4 @@
-//! Splitting by largest remainder, and the ranking of C-13 of document 02.
+//! Splitting by largest remainder with the ties of C-15 of document 02, and the ranking of C-13.
 
 use std::cmp::{Ordering, Reverse};
 
@@ -10,7 +10,8 @@ pub const AMOUNT_LIMIT: u64 = 16_000_000_000;
 pub const WEIGHT_LIMIT: u64 = 1_000_000_000;
 
 /// "To split q by a list of weights w with sum W: each share is floor(q × w / W). What is left goes one each to the largest
-/// remainders of q × w by W, ties to the earlier in the list. If W = 0 every share is 0."
+/// remainders of q × w by W, ties to the earlier in the list. If W = 0 every share is 0." C-15: "From now on such a tie goes to
+/// the larger weight, and only then to the earlier in the list."
 pub fn split(q: u64, weights: &[u64]) -> Vec<u64> {
     let sum: u128 = weights.iter().map(|&w| u128::from(w)).sum();
     if sum == 0 {
@@ -21,8 +22,8 @@ pub fn split(q: u64, weights: &[u64]) -> Vec<u64> {
     let mut shares: Vec<u64> = weights.iter().map(|&w| (product(w) / sum) as u64).collect();
     let left = q - shares.iter().sum::<u64>();
     let mut order: Vec<usize> = (0..weights.len()).collect();
-    // The sort is stable, so equal remainders stay in list order.
-    order.sort_by_key(|&i| Reverse(product(weights[i]) % sum));
+    // The sort is stable, so equal remainders of equal weights stay in list order.
+    order.sort_by_key(|&i| Reverse((product(weights[i]) % sum, weights[i])));
     for &i in order.iter().take(left as usize) {
         shares[i] += 1;
     }
@@ -30,7 +31,8 @@ pub fn split(q: u64, weights: &[u64]) -> Vec<u64> {
 }
 
 /// "The ranking names each place of the weights exactly once, larger remainders first, ties as splitting has them." "If W = 0
-/// there is no ranking and no sweep." `split` sorts; here each place is put behind as many as come before it.
+/// there is no ranking and no sweep." By C-15 the weight stands between remainder and place. `split` sorts; here each place is put
+/// behind as many as come before it.
 pub fn ranking(q: u64, weights: &[u64]) -> Vec<usize> {
     let sum = sum_of(weights);
     if sum == 0 {
@@ -39,7 +41,8 @@ pub fn ranking(q: u64, weights: &[u64]) -> Vec<usize> {
     let remainders: Vec<u128> = weights.iter().map(|&weight| u128::from(weight) * u128::from(q) % sum).collect();
     let before = |one: usize, other: usize| match remainders[one].cmp(&remainders[other]) {
         Ordering::Greater => true,
-        Ordering::Equal => one < other,
+        Ordering::Equal if weights[one] == weights[other] => one < other,
+        Ordering::Equal => weights[one] > weights[other],
         Ordering::Less => false,
     };
     let all = 0..weights.len();

@@ -1,4 +1,4 @@
-//! C-13 of document 02: rankings worked by hand, the sweep against the split, and the limits of the entry.
+//! C-13 of document 02, with the ties of C-15: rankings worked by hand, the sweep against the split, and the limits of the entry.
 
 #[path = "common/random.rs"]
 mod random;
@@ -25,27 +25,27 @@ fn larger_remainders_come_first() {
 }
 
 #[test]
-fn a_tie_goes_to_the_earlier_place() {
+fn a_tie_goes_to_the_larger_weight_and_then_to_the_earlier_place() {
     // The remainders by 6 are 2, 4, 2 and 4.
     assert_eq!(ranking(4, &[2, 1, 2, 1]), [1, 3, 0, 2]);
-    // The remainders by 4 are 2 and 2, whichever of the weights is the larger.
+    // The remainders by 4 are 2 and 2, so that the larger weight comes first, wherever it stands (C-15).
     assert_eq!(ranking(2, &[3, 1]), [0, 1]);
-    assert_eq!(ranking(2, &[1, 3]), [0, 1]);
-    assert_eq!(swept(2, &[1, 3]), [1, 1]);
+    assert_eq!(ranking(2, &[1, 3]), [1, 0]);
+    assert_eq!(swept(2, &[1, 3]), [0, 2]);
 }
 
 #[test]
 fn a_place_of_weight_0_is_named() {
     assert_eq!(ranking(6, &[0, 5, 3, 0]), [1, 2, 0, 3]);
-    // A remainder of 0 with a weight ties with that of no weight.
-    assert_eq!(ranking(1, &[0, 1]), [0, 1]);
+    // A remainder of 0 with a weight ties with that of no weight, and the weight decides.
+    assert_eq!(ranking(1, &[0, 1]), [1, 0]);
     assert_eq!(swept(1, &[0, 1]), [0, 1]);
 }
 
 #[test]
 fn the_ranking_is_there_where_nothing_is_left() {
     assert_eq!(ranking(8, &[5, 3]), [0, 1]);
-    assert_eq!(ranking(0, &[1, 9, 1]), [0, 1, 2]);
+    assert_eq!(ranking(0, &[1, 9, 1]), [1, 0, 2]);
     assert_eq!(swept(8, &[5, 3]), [5, 3]);
 }
 

@@ -1,5 +1,6 @@
 //! The inputs of the program crate `cases`, and what the model prints for them: K9, annexure 1 of document 000, the example of document 01 cut off at
-//! every byte, lists that give every answer to every call of document 01 that can get it, lists of sales by agreement and lists of bids taken back.
+//! every byte, lists that give every answer to every call of document 01 that can get it, lists of sales by agreement, lists of bids taken back and lists in which
+//! remainders tie.
 
 use generator::{calls_of_01, fields, profile_of};
 use model::write::{
@@ -47,6 +48,7 @@ fn inputs() -> Vec<Vec<u8>> {
     all.extend(every_pair(seen));
     all.extend(sales());
     all.extend(withdrawals());
+    all.extend(ties());
     all
 }
 
@@ -198,6 +200,50 @@ fn places_stay_taken() -> Vec<Vec<u8>> {
     all.extend([withdraw(0, 256), withdraw(0, 255), close(), round(&[-1]), bid(0, 0, 1, -1), withdraw(0, 0), close()]);
     all.extend([tear(0, 0), finish()]);
     all
+}
+
+/// Exact ties of remainders (C-15) that decide at CLOSE, ALLOCATE, CALL and FINISH; the text of each is another where ties go to the earlier, whatever the weights.
+fn ties() -> Vec<Vec<u8>> {
+    [tied_bids(), tied_shortfalls(), tied_calls(), tied_charges(), tied_payments()].map(|list| list.concat()).to_vec()
+}
+
+/// 2 units by bids of 1 and 3 at one price: 0 and 2. So the ranks are 2 1, where 1 and 1 would make both rank 1.
+fn tied_bids() -> Vec<Vec<u8>> {
+    let given = [head(&head_of(1, 2)), pool(0, 2, 0), member(0, 9, [0; 4]), member(1, 9, [0; 4]), round(&[-9])];
+    [&given[..], &[bid(0, 0, 1, -5), bid(0, 1, 3, -5), close(), finish()]].concat()
+}
+
+/// HEAD with a loss, one pool and members 0 to 3 with weights of 1, 1, 3 and 1, by which 3 are split 1, 0, 2 and 0: the 3 has the first that is left and member 0
+/// the second.
+fn four_members(loss: u32, units: u16, contributions: [u32; 4], expected: [u16; 4]) -> Vec<Vec<u8>> {
+    let mut all = vec![head(&Head { hedge_loss: loss, ..head_of(1, 4) }), pool(0, units, 0)];
+    all.extend((0..4).map(|m| member(m, contributions[usize::from(m)], [expected[usize::from(m)], 0, 0, 0])));
+    all.extend([round(&[-9]), close()]);
+    all
+}
+
+/// Shortfalls of 1, 1, 3 and 1: a MISS finds units of members 0 and 2 only.
+fn tied_shortfalls() -> Vec<Vec<u8>> {
+    let misses = [miss(1, 0), miss(3, 0), miss(2, 0), miss(0, 0)];
+    [&four_members(0, 3, [0; 4], [1, 1, 3, 1])[..], &[allocate(0, -1)], &misses, &[finish()]].concat()
+}
+
+/// Contributions of 1, 1, 3 and 1, and 3 above prefunded: members 0 and 2 owe 1 and 2.
+fn tied_calls() -> Vec<Vec<u8>> {
+    let payments = [pay(1, 1), pay(3, 1), pay(2, 3), pay(2, 2), pay(0, 1)];
+    [&four_members(9, 1, [1, 1, 3, 1], [0; 4])[..], &[tear(0, 0), call()], &payments, &[finish()]].concat()
+}
+
+/// One rank with contributions of 1, 1, 3 and 1 bears 3: the charges are 1, 0, 2 and 0.
+fn tied_charges() -> Vec<Vec<u8>> {
+    [&four_members(3, 1, [1, 1, 3, 1], [0; 4])[..], &[tear(0, 0), finish()]].concat()
+}
+
+/// Payments of 1, 1, 3 and 1, of which a MISS at 3 leaves 3 to bear: 1, 0, 2 and 0.
+fn tied_payments() -> Vec<Vec<u8>> {
+    let payments = [pay(0, 1), pay(1, 1), pay(2, 3), pay(3, 1)];
+    let rest = [miss(0, 3), finish()];
+    [&four_members(12, 1, [1, 1, 3, 1], [1, 0, 0, 0])[..], &[allocate(0, 0), call()], &payments, &rest].concat()
 }
 
 /// Every reason to decline a SALE in turn, and the limit of 17: 30 lost, and 90 for both pools, are margin and fund together. One cent more is declined.

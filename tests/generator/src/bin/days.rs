@@ -3,9 +3,9 @@
 //! and for words that are no call of it, and for long runs. It ends with 1 at the first difference, and where over 1,000 runs or more one of the
 //! situations that it counts never came. Run R of seed S is the first run of seed S + R.
 
-use generator::Rng;
+use generator::{Rng, Tie, simple_part};
 use model::positions::{POSITION_LIMIT, UNITS_LIMIT, WINDOW};
-use model::{Ring, expected, first_declined};
+use model::{Ring, expected, first_declined, sums_afresh};
 use std::collections::BTreeMap;
 use std::io::Write;
 use std::process::{Child, ChildStdin, Command, ExitCode, Stdio};
@@ -21,9 +21,11 @@ const JOBS: usize = 2;
 type Tally = BTreeMap<&'static str, u64>;
 
 /// Must come in 1,000 runs.
-const SITUATIONS: [&str; 35] = [
+const SITUATIONS: [&str; 37] = [
     "bytes: shares",
     "bytes: shares, all 0",
+    "bytes: a tie goes to a larger sum behind a smaller",
+    "bytes: a tie of like sums goes to the earlier",
     "bytes: units out of range",
     "bytes: declined by 1",
     "bytes: declined by 5",
@@ -321,6 +323,15 @@ fn run_of(seed: u64) -> Run {
     if rng.chance(35) {
         damage(rng, members.len(), &mut days, &mut marks);
     }
+    let sums = sums_afresh(set, &days);
+    let sum: u64 = sums.iter().sum();
+    // A simple part of small sums, so that remainders tie.
+    let units = if sum <= 1_000 && rng.chance(60) { simple_part(rng, sum).unwrap_or(units) } else { units };
+    if (1..=UNITS_LIMIT).contains(&units) && first_declined(set, &days).is_none() {
+        let tie = Tie::of(units, &sums[..members.len()]);
+        marks.extend(tie.to_the_larger.then_some("bytes: a tie goes to a larger sum behind a smaller"));
+        marks.extend(tie.to_the_earlier.then_some("bytes: a tie of like sums goes to the earlier"));
+    }
     Run { set, list, units, days, marks }
 }
 
@@ -559,7 +570,11 @@ fn bad_line(rng: &mut Rng, text: &Text, members: usize) -> Bad {
     let mut end: &'static [u8] = if rng.chance(text.carriage) { b"\r\n" } else { b"\n" };
     let number = "expected a whole number".to_string();
     let comma = "expected a comma".to_string();
-    let wanted = if members == 1 { "1 member, and so 1 position".to_string() } else { format!("{members} members, and so {members} positions") };
+    let wanted = if members == 1 {
+        "1 member, and so 1 position".to_string()
+    } else {
+        format!("{members} members, and so {members} positions")
+    };
     let complete = format!("the day is complete: {wanted}");
     let ends = format!("the line ends before the day does: {wanted}");
     let returned = "a carriage return stands only at the line's end".to_string();
@@ -936,6 +951,23 @@ fn main() -> ExitCode {
         Err(difference) => {
             println!("FAILED: {difference}");
             ExitCode::FAILURE
+        }
+    }
+}
+
+#[cfg(test)]
+mod tests {
+    use super::*;
+
+    #[test]
+    fn what_days_as_bytes_have_to_show_comes_in_1000_runs() {
+        let mut tally = Tally::new();
+        for seed in 1..=1_000 {
+            bytes_case(seed, &mut tally);
+        }
+        for name in SITUATIONS.into_iter().filter(|name| name.starts_with("bytes: ")) {
+            let count = tally.get(name).copied().unwrap_or(0);
+            assert!(count >= 5, "{count} {name}");
         }
     }
 }

@@ -1,24 +1,76 @@
-//! `parts [N]`: the proved split and both auctions against the model, on N random inputs each (100,000), refusals among them.
-use linked::inputs::{OLD, Splitting, length, other_length};
+//! `parts [N]`: the proved split and both auctions against the model, on N random inputs each (100,000), refusals among them. Ends with 1 where over 1,000
+//! inputs or more a kind that it counts never came.
+use generator::Tie;
+use linked::inputs::{OLD, Splitting, length, other_length, simple_part};
+use linked::tally::tell;
 use linked::{BidRecord, Random};
+use std::process::ExitCode;
 
-fn splits(r: &mut Random, n: u64) -> (u64, [u64; 6]) {
-    let mut answers = [0u64; 6];
+/// How often each answer was given, and how often a tie of remainders decided.
+#[derive(Default)]
+struct Tally {
+    answers: [u64; 6],
+    to_the_larger: u64,
+    to_the_earlier: u64,
+    cut: u64,
+}
+
+impl Tally {
+    fn count_tie(&mut self, q: u64, weights: &[u64]) {
+        let tie = Tie::of(q, weights);
+        self.to_the_larger += u64::from(tie.to_the_larger);
+        self.to_the_earlier += u64::from(tie.to_the_earlier);
+    }
+
+    /// The kinds of which each has to come.
+    fn counted(&self) -> Vec<(&'static str, u64)> {
+        vec![
+            ("answered 0", self.answers[0]),
+            ("1", self.answers[1]),
+            ("5", self.answers[5]),
+            ("a tie goes to a larger weight behind a smaller", self.to_the_larger),
+            ("a tie of like weights goes to the earlier", self.to_the_earlier),
+        ]
+    }
+}
+
+fn splits(r: &mut Random, n: u64) -> Tally {
+    let mut tally = Tally::default();
     for _ in 0..n {
         let Splitting { q, weights, room } = Splitting::draw(r);
         let mut mine = vec![OLD; room];
         let mut theirs = vec![OLD; room];
         let a = linked::split(q, &weights, &mut mine);
         let b = model::split_alone(q, &weights, &mut theirs);
-        assert!(a == b && mine == theirs, "split {q} by {weights:?} into {room}: {a} {mine:?}, the model {b} {theirs:?}");
-        answers[a as usize] += 1;
+        assert!(
+            a == b && mine == theirs,
+            "split {q} by {weights:?} into {room}: {a} {mine:?}, the model {b} {theirs:?}"
+        );
+        tally.answers[a as usize] += 1;
+        if a == 0 {
+            tally.count_tie(q, &weights);
+        }
     }
-    (n, answers)
+    tally
 }
 
-fn auctions(r: &mut Random, n: u64) -> (u64, [u64; 6], u64) {
-    let mut answers = [0u64; 6];
-    let mut cut = 0;
+/// The units of the bids at the price where the open units run out, and the balance there, by the sentence of CLOSE.
+fn balance(records: &[BidRecord], open: u64, reserve: i32) -> Option<(u64, Vec<u64>)> {
+    let units = |counts: &dyn Fn(i32) -> bool| -> Vec<u64> {
+        records.iter().filter(|bid| bid.price >= reserve && counts(bid.price)).map(|bid| bid.units.into()).collect()
+    };
+    let prices = records.iter().map(|bid| bid.price).filter(|&price| price >= reserve);
+    let runs_out = |&price: &i32| {
+        let above: u64 = units(&|other| other > price).iter().sum();
+        above < open && above + units(&|other| other == price).iter().sum::<u64>() > open
+    };
+    let price = prices.clone().find(runs_out)?;
+    let above: u64 = units(&|other| other > price).iter().sum();
+    Some((open - above, units(&|other| other == price)))
+}
+
+fn auctions(r: &mut Random, n: u64) -> Tally {
+    let mut tally = Tally::default();
     for _ in 0..n {
         let bids = length(r, 256);
         let spread = [1, 2, 3, 10, 40, 2_000][r.below(6) as usize];
@@ -47,10 +99,13 @@ fn auctions(r: &mut Random, n: u64) -> (u64, [u64; 6], u64) {
             2 => -1_000_000,
             _ => (base + r.below(spread + 2) as i64 - 1) as i32,
         };
+        let whole: u64 = records.iter().map(|bid| u64::from(bid.units)).sum();
         let open = match r.below(20) {
             0 => 1_001,
             1 => 0,
             2 => 1_000,
+            // Where all bids stand at one price, remainders tie.
+            3..10 => simple_part(r, whole).min(1_000),
             _ => r.below(bids as u64 * most / 2 + 3).min(1_000),
         };
         let room = other_length(r, bids);
@@ -59,9 +114,13 @@ fn auctions(r: &mut Random, n: u64) -> (u64, [u64; 6], u64) {
         let a = linked::alone_lent(&records, open as u16, reserve, &mut mine);
         let b = model::alone_lent(&records, open as u16, reserve, &mut theirs);
         assert!(a == b && mine == theirs, "lent {open} {reserve} {records:?}: {a} {mine:?}, the model {b} {theirs:?}");
-        answers[a as usize] += 1;
-        if a == 0 && mine.iter().zip(&records).any(|(won, bid)| *won > 0 && *won < bid.units as u64) {
-            cut += 1;
+        tally.answers[a as usize] += 1;
+        if a == 0 {
+            let is_cut = |(won, bid): (&u64, &BidRecord)| *won > 0 && *won < bid.units.into();
+            tally.cut += u64::from(mine.iter().zip(&records).any(is_cut));
+            if let Some((q, weights)) = balance(&records, open, reserve) {
+                tally.count_tie(q, &weights);
+            }
         }
 
         let units: Vec<u64> = records.iter().map(|bid| bid.units as u64).collect();
@@ -72,16 +131,21 @@ fn auctions(r: &mut Random, n: u64) -> (u64, [u64; 6], u64) {
         let mut theirs = vec![OLD; room];
         let a = linked::alone(open, flat, &units, &prices, &mut mine);
         let b = model::alone_flat(open, flat, &units, &prices, &mut theirs);
-        assert!(a == b && mine == theirs, "flat {open} {flat} {units:?} {prices:?}: {a} {mine:?}, the model {b} {theirs:?}");
+        assert!(
+            a == b && mine == theirs,
+            "flat {open} {flat} {units:?} {prices:?}: {a} {mine:?}, the model {b} {theirs:?}"
+        );
     }
-    (n, answers, cut)
+    tally
 }
 
-fn main() {
+fn main() -> ExitCode {
     let n: u64 = std::env::args().nth(1).map_or(100_000, |s| s.parse().expect("a number"));
     let mut r = Random(1);
-    let (count, a) = splits(&mut r, n);
-    println!("split: {count} inputs alike; answered 0: {}, 1: {}, 5: {}", a[0], a[1], a[5]);
-    let (count, a, cut) = auctions(&mut r, n);
-    println!("auction, lent and flat: {count} inputs alike each; answered 0: {}, 1: {}, 5: {}; {cut} with a bid cut", a[0], a[1], a[5]);
+    let split = tell(&format!("split: {n} inputs alike; "), n, &splits(&mut r, n).counted());
+    let tally = auctions(&mut r, n);
+    let mut counted = tally.counted();
+    counted.push(("a bid cut", tally.cut));
+    let auction = tell(&format!("auction, lent and flat: {n} inputs alike each; "), n, &counted);
+    if split == ExitCode::SUCCESS { auction } else { split }
 }

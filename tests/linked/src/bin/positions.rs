@@ -1,7 +1,9 @@
 //! `positions [RUNS [SEED]]`: the proved part for daily positions against the model, on random runs (100,000) from consecutive seeds, damaged ones among
 //! them: each at once and in parts, with the kept sums after every part. Ends with 1 at a difference, and where over 1,000 runs or more one of the
 //! answers or one of the situations that it counts never came.
+use generator::Tie;
 use linked::Random;
+use linked::inputs::simple_part;
 use linked::positions::{Kept, expected};
 use linked::tally::tell;
 use model::positions::{POSITION_LIMIT, WINDOW};
@@ -147,6 +149,9 @@ fn run_of(r: &mut Random) -> Run {
     let (set, units, count) = (set_of(r), units_of(r), count_of(r));
     let members = set.count_ones() as usize;
     let mut days = days_of(r, members, count);
+    let sum: u64 = sums_afresh(set, &days).iter().sum();
+    // A simple part of small sums, or the sums and it, so that remainders tie; of large ones no units are.
+    let units = if sum > 0 && sum <= 1_000 && r.once_in(2) { simple_part(r, sum).clamp(1, 1_000) } else { units };
     if r.once_in(3) {
         damage(r, members, count, &mut days);
     }
@@ -194,6 +199,8 @@ struct Tally {
     in_cut_record: u64,
     before_cut_record: u64,
     sums_of_0: u64,
+    to_the_larger: u64,
+    to_the_earlier: u64,
 }
 
 /// The whole run at once: its answer and shares, and that the shares are left alone where the answer is not 0.
@@ -270,7 +277,11 @@ fn count(run: &Run, answer: u8, tally: &mut Tally) {
     match first_declined(run.set, &run.days) {
         None => {
             tally.past_window += u64::from(days > WINDOW);
-            tally.sums_of_0 += u64::from(sums_afresh(run.set, &run.days) == [0; 32]);
+            let sums = sums_afresh(run.set, &run.days);
+            tally.sums_of_0 += u64::from(sums == [0; 32]);
+            let tie = Tie::of(run.units, &sums[..run.set.count_ones() as usize]);
+            tally.to_the_larger += u64::from(tie.to_the_larger);
+            tally.to_the_earlier += u64::from(tie.to_the_earlier);
         }
         Some((_, 1)) => tally.in_cut_record += u64::from((cut..run.days.len()).step_by(4).any(above)),
         Some(_) => {
@@ -320,6 +331,8 @@ fn main() -> ExitCode {
         ("5 before a cut record", tally.before_cut_record),
         ("1 with a position out of range in the cut record", tally.in_cut_record),
         ("cut into single days", tally.single_days),
+        ("a tie goes to a larger sum behind a smaller", tally.to_the_larger),
+        ("a tie of like sums goes to the earlier", tally.to_the_earlier),
     ];
     let before = format!("positions: {n} runs from seed {first} alike, at once and in {} parts; ", tally.parts);
     tell(&before, n, &counted)

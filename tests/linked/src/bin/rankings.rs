@@ -1,6 +1,7 @@
 //! `rankings [N [SEED]]`: the proved ranking (C-13 of document 02) against the model's on N random inputs (100,000), refusals among them, and the proved
 //! split against the proved ranking: floors, and one more at as many of its first places as are left. Ends with 1 where over 1,000 inputs or more a
 //! kind that it counts never came.
+use generator::Tie;
 use linked::inputs::{OLD, Splitting};
 use linked::tally::tell;
 use linked::{Random, Ranked};
@@ -17,6 +18,8 @@ struct Tally {
     above_weights: u64,
     longest: u64,
     ties: u64,
+    to_the_larger: u64,
+    to_the_earlier: u64,
 }
 
 /// The proved ranking of the whole lent run, alike with the model's and untouched where nothing is named.
@@ -30,13 +33,6 @@ fn ranking(input: &Splitting) -> (Ranked, Vec<usize>) {
     assert!(same, "ranking {q} by {weights:?} into {room}: {ranked:?} {mine:?}, the model {answer} {named} {theirs:?}");
     assert!(named > 0 || mine == old, "ranking {q} by {weights:?} into {room} names nothing and writes {mine:?}");
     (ranked, mine)
-}
-
-/// Whether the first place that gets none has the remainder of the last that gets one.
-fn tie_decides(input: &Splitting, places: &[usize], left: usize) -> bool {
-    let sum: u128 = input.weights.iter().map(|&weight| u128::from(weight)).sum();
-    let remainder = |place: usize| u128::from(input.q) * u128::from(input.weights[place]) % sum;
-    left > 0 && left < places.len() && remainder(places[left - 1]) == remainder(places[left])
 }
 
 fn compare(input: &Splitting, tally: &mut Tally) {
@@ -58,7 +54,10 @@ fn compare(input: &Splitting, tally: &mut Tally) {
         tally.none_left += u64::from(left == 0);
         tally.above_weights += u64::from(*q > weights.iter().sum());
         tally.longest += u64::from(named == 512);
-        tally.ties += u64::from(tie_decides(input, &places, left));
+        let tie = Tie::of(*q, weights);
+        tally.ties += u64::from(tie.decides);
+        tally.to_the_larger += u64::from(tie.to_the_larger);
+        tally.to_the_earlier += u64::from(tie.to_the_earlier);
     }
 }
 
@@ -81,6 +80,8 @@ fn main() -> ExitCode {
         ("q above W", tally.above_weights),
         ("512 places", tally.longest),
         ("a tie decides", tally.ties),
+        ("a tie goes to a larger weight behind a smaller", tally.to_the_larger),
+        ("a tie of like weights goes to the earlier", tally.to_the_earlier),
     ];
     tell(&format!("ranking: {n} inputs alike, and the split sweeps it; "), n, &counted)
 }
