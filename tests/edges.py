@@ -349,6 +349,11 @@ printed = [line for name in ('withdrawals', 'open-round') for line in open('exam
 quoted = [line[4:] for text in texts for line in text.splitlines() if line.startswith('    ')]
 tell('docs/USING.md quotes the examples with WITHDRAW', len(quoted) > 12 and all(line in printed for line in quoted), [line for line in quoted if line not in printed])
 
+ties = [section for section in sections if section.startswith('Odd units and cents')]
+printed = open('examples/ties.out').read().splitlines()
+quoted = [line[4:] for text in ties for line in text.splitlines() if line.startswith('    ')]
+tell('docs/USING.md quotes the example with ties', len(quoted) > 5 and all(line in printed for line in quoted), [line for line in quoted if line not in printed])
+
 # ---- the scripts, with an `rt` that says what they are told
 
 SAYS = '''#!/bin/sh
