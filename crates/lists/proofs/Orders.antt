@@ -33,6 +33,7 @@ module _ (f : ℕ → ℕ) (then : ℕ → ℕ → Bool) (j i : ℕ) where
   unfolding largerFirst
   same h = rw (le-ltb (f i) (f j) (omega arith), eq-eqb (f j) (f i) h)
 
+  -- where the two differ by f, this decides
   pub unequal : (f j ≡ f i → ⊥) → largerFirst f then j i ≡ ltb (f i) (f j)
   unequal h =
       ⊎-elim

@@ -14,7 +14,7 @@ use Rattle.lists.specs.Lists.{sum, oneIf}
 use Rattle.lists.proofs.Bools.{lt-or-le, order-of, oneIf-le}
 use Rattle.lists.proofs.Orders.{count-le}
 use Rattle.splitting.specs.Split.{floorAt, remainderAt, ahead, placesAhead, left, shareAt, split}
-use Rattle.splitting.proofs.Division.{floor-remainder, floor-most}
+use Rattle.splitting.proofs.Division.{floor-remainder, floor-order}
 use Rattle.splitting.proofs.Shares.{ahead-strict, ahead-larger, ahead-heavier, share-close, split-at, split-at-none}
 
 module _ (q : ℕ) (ws : List ℕ) where
@@ -54,7 +54,7 @@ module _ (q : ℕ) (ws : List ℕ) where
   unfolding shareAt
   share-order j i some h =
       let most : q * getD ws i 0 ≤ q * getD ws j 0 = mul-le-mul-left q (omega arith) in
-      let floors : floorAt q ws i ≤ floorAt q ws j = floor-most q ws i j some most in
+      let floors : floorAt q ws i ≤ floorAt q ws j = floor-order q ws i j some most in
       ⊎-elim
       (λ l. omega (arith, share-close q ws i))
       (λ g. omega (arith, ahead-gets j i (same-floor j i (omega arith) h)))

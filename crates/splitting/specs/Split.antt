@@ -1,7 +1,7 @@
 -- Document 01, "Splitting": "To split q by a list of weights w with sum W: each share is floor(q × w / W). What is left goes one each to
 -- the largest remainders of q × w by W, ties to the earlier in the list. If W = 0 every share is 0. This is the only division of units or
--- money among members." W is `sum ws`. Document 02, C-15: "an exact tie of remainders .. goes to the larger weight, and only then to the earlier in the list. This
--- holds for allotments, allocations, calls and charges alike."
+-- money among members." W is `sum ws`. Document 02, C-15, of "an exact tie of remainders": "From now on such a tie goes to the larger weight, and only then to the
+-- earlier in the list. This holds for allotments, allocations, calls and charges alike."
 use mathlib.Core.Bool.{Bool}
 use mathlib.Core.List.{List, map}
 use Prim.Native.Nat.{ℕ, _+_, _-_, _*_, _/_, _%_}
