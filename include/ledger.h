@@ -97,7 +97,8 @@ struct ledger_ranked {
 };
 
 /* Ranks the places of the weights, 0 the first of them, in the order in which a split hands out what the floors leave (document 02, C-13): larger remainders of
- * q * weight by the sum of the weights first, a tie to the larger weight, and only then to the earlier place (C-15). `places` is as long as the weights; where none is named it is as it was. */
+ * q * weight by the sum of the weights first, a tie to the larger weight, and only then to the earlier place (C-15). `places` is as long as the weights; where none
+ * is named it is as it was. */
 struct ledger_ranked ledger_ranking(uint64_t q, const uint64_t *weights, size_t weights_len, size_t *places, size_t places_len);
 
 /* A bid: its units, and its price in cents, positive paid to the house and negative by the house. */

@@ -1,7 +1,7 @@
 -- Document 02, C-15: in every split of the machine a share of a larger weight is never below that of a smaller one, of any case. Assumes nothing.
-use mathlib.Core.Path.{_≡_, refl, sym, ap, _∙_}
+use mathlib.Core.Path.{_≡_, sym, ap, _∙_}
 use mathlib.Core.Logic.{⊎-elim}
-use mathlib.Core.Bool.{Bool, true, false≢true}
+use mathlib.Core.Bool.{Bool, true}
 use mathlib.Core.List.{List, [], map}
 use Prim.Native.Nat.{ℕ, _-_, _≤_, _<_, min}
 use native.Mathlib.Nat.{zero-add}
@@ -9,14 +9,13 @@ use native.Mathlib.Omega.{arith}
 use lib.Dec.{eqb}
 use lib.ListN.{getD, List·getD-map, List·getD-eq-default}
 use borrow.Author.Tests.{eqb-true}
-use Rattle.lists.specs.Lists.{keep, tab}
+use Rattle.lists.specs.Lists.{if_then_else_, tab}
 use Rattle.lists.proofs.Bools.{lt-or-le, and-left, and-right}
 use Rattle.lists.proofs.Places.{length-tab}
-use Rattle.lists.proofs.Among.{place, passes, place-cases, at-place, among-on, among-off}
 use Rattle.lists.proofs.Each.{getD-mapFrom}
 use Rattle.splitting.proofs.Among.{shares-order}
-use Rattle.auction.specs.Auction.{allot}
 use Rattle.auction.proofs.Laws.{won-order}
+use Rattle.auction.proofs.Absent.{allot-among}
 use Rattle.waterfall.proofs.ByRank.{charge-order}
 use Rattle.machine.specs.Roll.{Bid, noBid, openUnits}
 use Rattle.machine.specs.State.{Case, inSet, memberAt, roundOf}
@@ -48,34 +47,21 @@ module _ (c : Case) (round pool : ℕ) where
   abbrev price : Bid → ℕ
   price b = b .price
 
-  -- the bid at place i wins no more than the one at place j, if it is for fewer units at the same price
-  abbrev InOrder : ℕ → ℕ → Type 0
-  InOrder j i =
-      passes counts bids j ≡ true → getD (map price bids) i 0 ≡ getD (map price bids) j 0 → getD (map units bids) i 0 < getD (map units bids) j 0
+  -- its units, or 0 for a bid that does not count
+  abbrev weight : Bid → ℕ
+  weight b = if counts b then units b else 0
+
+  won-in-order : (j i : ℕ) → counts (bid j) ≡ true → counts (bid i) ≡ true → bid i .price ≡ bid j .price → bid i .units < bid j .units
       → getD (wonIn c round pool) i 0 ≤ getD (wonIn c round pool) j 0
-
-  -- what is read at the place of the k-th bid that counts
-  at : (g : Bid → ℕ) (k : ℕ) → getD (map g bids) (place counts bids k) 0 ≡ getD (map g (keep counts bids)) k 0
-  at g = at-place counts 0 g g (λ b e. refl) bids
-
-  won-in-order : (j i : ℕ) → InOrder j i
-  unfolding wonIn
-  won-in-order =
+  unfolding wonIn inAuction inRound
+  won-in-order j i on-j on-i e h =
       let n = openUnits (c .roll) pool in
       let r = reserve (c .rounds) round pool in
-      let allotted : List Bid → List ℕ = λ bs. allot n r (map units bs) (map price bs) in
-      let us = map units (keep counts bids) in
-      let ps = map price (keep counts bids) in
-      place-cases counts (λ j. (i : ℕ) → InOrder j i) bids
-      (λ j l. place-cases counts (InOrder (place counts bids j)) bids
-      (λ i k on e h. omega (
-        arith,
-        among-on counts allotted bids j l,
-        among-on counts allotted bids i k,
-        won-order n r us ps j i (sym (at price i) ∙ e ∙ at price j) (omega (arith, h, at units i, at units j)),
-      ))
-      (λ i off on e h. omega (arith, among-off counts allotted bids i off)))
-      (λ j off i on e h. absurd (false≢true (sym off ∙ on)))
+      let weight-at : (k : ℕ) → counts (bid k) ≡ true → getD (map weight bids) k 0 ≡ bid k .units = λ k on. List·getD-map weight bids k noBid ∙ rw on in
+      rw (sym (allot-among n r counts units price bids))
+      (won-order n r (map weight bids) (map price bids) j i
+      (List·getD-map price bids i noBid ∙ e ∙ sym (List·getD-map price bids j noBid))
+      (omega (arith, weight-at i on-i, weight-at j on-j)))
 
   -- a bid that counts has won what the table of the pools says
   won-is : (i : ℕ) → counts (bid i) ≡ true → getD (bidsAfter c round) i noBid .won ≡ getD (getD wins pool []) i 0
@@ -89,14 +75,15 @@ module _ (c : Case) (round pool : ℕ) where
 
   bids-order : (j i : ℕ) → counts (bid j) ≡ true → counts (bid i) ≡ true → bid i .price ≡ bid j .price → bid i .units < bid j .units
       → getD (bidsAfter c round) i noBid .won ≤ getD (bidsAfter c round) j noBid .won
-  unfolding inAuction inRound
   bids-order j i on-j on-i e h =
-      let won = won-in-order j i (List·getD-map counts bids j noBid ∙ on-j)
-      (List·getD-map price bids i noBid ∙ e ∙ sym (List·getD-map price bids j noBid))
-      (omega (arith, List·getD-map units bids i noBid, List·getD-map units bids j noBid)) in
       rw (won-is i on-i, won-is j on-j)
       (⊎-elim
-      (λ l. omega (arith, won, wins-at c round (c .head .pools) pool l i, wins-at c round (c .head .pools) pool l j))
+      (λ l. omega (
+        arith,
+        won-in-order j i on-j on-i e h,
+        wins-at c round (c .head .pools) pool l i,
+        wins-at c round (c .head .pools) pool l j,
+      ))
       (λ g. rw (List·getD-eq-default wins [] {n = pool} (omega (arith, length-tab (c .head .pools) (wonIn c round)))) (omega arith))
       (lt-or-le pool (c .head .pools)))
 

@@ -28,11 +28,20 @@ module _ (q : ℕ) (ws : List ℕ) where
   unfolding floorAt remainderAt
   floor-remainder i = div-add-mod' (q * getD ws i 0) (sum ws)
 
-  -- the floor of a larger product is no smaller
-  pub floor-order : (i j : ℕ) → 0 < sum ws → q * getD ws i 0 ≤ q * getD ws j 0 → floorAt q ws i ≤ floorAt q ws j
+  -- the floor of a larger weight is no smaller
+  pub floor-order : (i j : ℕ) → 0 < sum ws → getD ws i 0 ≤ getD ws j 0 → floorAt q ws i ≤ floorAt q ws j
   floor-order i j some le =
       ⊎-elim
-      (λ l. absurd (omega (arith, floor-remainder i, floor-remainder j, remainder-lt j some, mul-le-mul-right (sum ws) l, add-mul (floorAt q ws j) 1 (sum ws), one-mul (sum ws))))
+      (λ l. absurd (omega (
+        arith,
+        mul-le-mul-left q le,
+        floor-remainder i,
+        floor-remainder j,
+        remainder-lt j some,
+        mul-le-mul-right (sum ws) l,
+        add-mul (floorAt q ws j) 1 (sum ws),
+        one-mul (sum ws),
+      )))
       (λ g. g)
       (lt-or-le (floorAt q ws j) (floorAt q ws i))
 

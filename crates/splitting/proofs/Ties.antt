@@ -53,8 +53,7 @@ module _ (q : ℕ) (ws : List ℕ) where
   share-order : (j i : ℕ) → 0 < sum ws → getD ws i 0 < getD ws j 0 → shareAt q ws i ≤ shareAt q ws j
   unfolding shareAt
   share-order j i some h =
-      let most : q * getD ws i 0 ≤ q * getD ws j 0 = mul-le-mul-left q (omega arith) in
-      let floors : floorAt q ws i ≤ floorAt q ws j = floor-order q ws i j some most in
+      let floors : floorAt q ws i ≤ floorAt q ws j = floor-order q ws i j some (omega arith) in
       ⊎-elim
       (λ l. omega (arith, share-close q ws i))
       (λ g. omega (arith, ahead-gets j i (same-floor j i (omega arith) h)))
