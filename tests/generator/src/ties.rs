@@ -185,13 +185,13 @@ impl Writer {
         true
     }
 
-    /// A MISS after which payments bear a simple part of what was paid; false where no price brings that about.
-    pub fn miss_for_a_tie(&mut self) -> bool {
+    /// A MISS after which payments bear a simple part of what was paid, where a price brings that about.
+    pub fn miss_for_a_tie(&mut self) {
         let required = self.model.requirement().unwrap_or(0) as i64;
         let prefunded = self.model.prefunded().unwrap_or(0) as i64;
         // A requirement held at 0 does not tell by how much it would change.
         if required == 0 {
-            return false;
+            return;
         }
         let paid = self.paid();
         let mut misses = Vec::new();
@@ -204,12 +204,10 @@ impl Writer {
                 }
             }
         }
-        if misses.is_empty() {
-            return false;
+        if !misses.is_empty() {
+            let (member, price) = self.rng.pick(&misses);
+            self.put(write::miss(member, price));
         }
-        let (member, price) = self.rng.pick(&misses);
-        self.put(write::miss(member, price));
-        true
     }
 
     /// An amount within the contributions of a rank of several members that is a simple part of them, above all before it; none where no rank has one.
