@@ -31,5 +31,6 @@ pub mod Later
 pub mod Bytes
 pub mod Prices
 pub mod Finish
+pub mod Running
 pub mod LargerWeights
 pub mod Claims
