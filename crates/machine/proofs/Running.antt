@@ -416,7 +416,7 @@ module _ (q : ℕ) (c : Case) (ok : CaseOk c) where
       let bs = keep (inAuction round q) new in
       let enough = close-sold c ok bidding in
       let sold-for : (f : UnitState → ℕ) (w : Bid → ℕ) → ((i : ℕ) → f (Sold i) ≡ w (getD new i noBid))
-          → total q f (sell round 0 new (c .roll)) ≡ total q f (c .roll) + sum (map (λ (b : Bid). b .won * w b) bs) =
+      → total q f (sell round 0 new (c .roll)) ≡ total q f (c .roll) + sum (map (λ (b : Bid). b .won * w b) bs) =
       λ f w at. sell-total q f w new at round 0 new (c .roll) refl enough ∙ ap (λ (k : ℕ). total q f (c .roll) + k) (sales-in q f w new at round new) in
       let priceAt : Bid → ℕ = λ b. b .price in
       let same = bids-same new (λ i. sym (List·getD-map priceAt new i noBid)
