@@ -8,6 +8,7 @@ pub mod WorkedRanges
 pub mod WorkedSales
 pub mod WorkedWithdrawals
 pub mod WorkedTies
+pub mod WorkedRequirement
 pub mod Answers
 pub mod Tables
 pub mod RollChanges
