@@ -1,4 +1,4 @@
-// A call as its line, and its answer in words: one sentence for each number, the value at fault where there is one, and the stage and the open units after the call.
+// A call as its line, and its answer in words: one sentence for each number, the value at fault where there is one, and the stage, the open units and the requirement after the call.
 use crate::texts;
 use crate::texts::Line;
 use crate::texts::fill;
@@ -7,6 +7,7 @@ use crate::texts::one;
 use crate::texts::plain;
 use crate::texts::two;
 use accounts::bids::Bids;
+use accounts::pools::Pools;
 use book::Book;
 use book::Stage;
 use case::Case;
@@ -176,9 +177,9 @@ fn early_fault(present: bool, book: Book, tag: u8, first: u8, answer: u8) -> Lin
     }
 }
 
-// The requirement, and what is prefunded.
-fn cover_fault(book: Book) -> Line {
-    two(texts::COVER_FAULT, book.requirement(), book.prefunded())
+// A text with the requirement and what is prefunded.
+fn cover_line(text: usize, book: Book) -> Line {
+    two(text, book.requirement(), book.prefunded())
 }
 
 // What a member owes.
@@ -208,8 +209,8 @@ fn late_fault(book: Book, tag: u8, first: u8, price: u32, answer: u8) -> Line {
     match answer {
         10 => short_fault(book, tag, first),
         11 => one(texts::OPEN_FAULT, all_open(book)),
-        12 => cover_fault(book),
-        13 => cover_fault(book),
+        12 => cover_line(texts::COVER_FAULT, book),
+        13 => cover_line(texts::COVER_FAULT, book),
         14 => owed_fault(book, first),
         15 => owing_fault(book),
         16 => one(texts::MEMBER_FAULT, first as u64),
@@ -290,8 +291,27 @@ fn units_line(book: Book) -> Line {
     }
 }
 
-// The stage and the open units.
-pub fn write_state(present: bool, case: Case, out: &mut [u8], at: usize) -> usize {
+// All units put up.
+fn all_units(pools: Pools) -> u64 {
+    let units = pools.units;
+    let first = units[0] as u64 + units[1] as u64;
+    let last = units[2] as u64 + units[3] as u64;
+    first + last
+}
+
+// The requirement after an accepted call, once a unit has left the house: it is not open any more.
+fn requirement_line(answer: u8, book: Book) -> Line {
+    if answer != 0 {
+        return plain(texts::NOTHING);
+    }
+    if all_open(book) < all_units(book.pools) {
+        return cover_line(texts::REQUIREMENT, book);
+    }
+    plain(texts::NOTHING)
+}
+
+// The stage, the open units and the requirement after a call with this answer.
+pub fn write_state(answer: u8, present: bool, case: Case, out: &mut [u8], at: usize) -> usize {
     if !present {
         return fill(out, at, plain(texts::NO_CASE));
     }
@@ -300,7 +320,8 @@ pub fn write_state(present: bool, case: Case, out: &mut [u8], at: usize) -> usiz
     let rounds = book.rounds;
     let named = fill(out, at, plain(texts::THEN));
     let said = fill(out, named, stage_line(stage, rounds.held));
-    fill(out, said, units_line(book))
+    let counted = fill(out, said, units_line(book));
+    fill(out, counted, requirement_line(answer, book))
 }
 
 // ---- the answer
