@@ -7,7 +7,6 @@ use crate::texts::one;
 use crate::texts::plain;
 use crate::texts::two;
 use accounts::bids::Bids;
-use accounts::pools::Pools;
 use book::Book;
 use book::Stage;
 use case::Case;
@@ -291,20 +290,18 @@ fn units_line(book: Book) -> Line {
     }
 }
 
-// All units put up.
-fn all_units(pools: Pools) -> u64 {
+// Whether a unit has left the house: a pool has fewer open units than were put up.
+fn any_left(book: Book) -> bool {
+    let pools = book.pools;
     let units = pools.units;
-    let first = units[0] as u64 + units[1] as u64;
-    let last = units[2] as u64 + units[3] as u64;
-    first + last
+    let first = lists::either(book.open_units(0) < units[0], book.open_units(1) < units[1]);
+    let last = lists::either(book.open_units(2) < units[2], book.open_units(3) < units[3]);
+    lists::either(first, last)
 }
 
-// The requirement after an accepted call, once a unit has left the house: it is not open any more.
+// The requirement after an accepted call, once a unit has left the house.
 fn requirement_line(answer: u8, book: Book) -> Line {
-    if answer != 0 {
-        return plain(texts::NOTHING);
-    }
-    if all_open(book) < all_units(book.pools) {
+    if lists::both(answer == 0, any_left(book)) {
         return cover_line(texts::REQUIREMENT, book);
     }
     plain(texts::NOTHING)
