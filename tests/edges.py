@@ -287,6 +287,13 @@ r = run(['bin/explain'], bytes([99, 0, 1, 5, 5, 0, 0, 14, 0, 5, 0, 0, 0, 0, 0, 1
 reason = b'    refused 1: not a call: unknown tag or wrong length; no case\n'
 tell('bin/explain, fields that are no calls', r.stdout == b'tag 99, bytes 1\n' + reason + b'tag 5, bytes 0\n' + reason + b'tag 14, bytes 5\n' + reason + b'tag 15, bytes 2\n' + reason + b'no case\n', r)
 
+# the requirement is shown from the first unit that has left on, whichever pool it leaves
+text = [b'HEAD pools 4 least 1 members 0 hedge 2.00 other 1.00 margin 9.00 fund 0.00 house 0.00'] + [b'POOL pool %d units 1 mark 0' % pool for pool in range(4)]
+text += [b'MEMBER member 0 contribution 4.00 expected 0,0,0,0', b'SALE pool 3 member 0 price 0.50']
+r = run(['bin/run'], b'\n'.join(text))
+said = [line for line in r.stdout.splitlines() if line.startswith(b'    requirement ')]
+tell('bin/run, the first unit leaves the last pool', said == [b'    requirement 2.50, prefunded 13.00'] and b'\n' + text[-1] + b'\n    accepted; stage S; open units 1 + 1 + 1 + 0 = 3\n' + said[0] + b'\n\n' in r.stdout, r)
+
 # ---- a pool sold by agreement, where the case is not finished: the tables of no example
 
 text = open('examples/agreed.txt', 'rb').read().splitlines()
