@@ -86,10 +86,10 @@ Program = collections.namedtuple('Program', 'cmd name calls whole after large no
 
 
 def by_lines(cmd, lines):
-    """A program that writes so many lines for each call, and more at the end."""
+    """A program that writes so many lines for each call in turn, and more at the end."""
     whole = open('crates/%s/stdout' % cmd, 'rb').read()
     text = whole.splitlines(keepends=True)
-    return Program(['bin/' + cmd], cmd.encode(), list(fields_of(WORKED)), whole, lambda k: b''.join(text[:k * lines]), b'\0\0\0' * 80000, b'')
+    return Program(['bin/' + cmd], cmd.encode(), list(fields_of(WORKED)), whole, lambda k: b''.join(text[:sum(lines[:k])]), b'\0\0\0' * 80000, b'')
 
 
 def by_calls(cmd, calls, one, nothing):
@@ -99,8 +99,9 @@ def by_calls(cmd, calls, one, nothing):
 
 
 PROGRAMS = [
-    by_lines('ledger', 1),
-    by_lines('explain', 2),
+    by_lines('ledger', [1] * 12),
+    # CLOSE and FINISH, the last two calls, have the line of the requirement
+    by_lines('explain', [2] * 10 + [3] * 2),
     # a text that cannot be read ends in a field that is cut off
     by_calls(['bin/fields'], HOUSE.splitlines(keepends=True), b'MOVE member 1\n', b'\0\xff\xffthe text could not be read to its end'),
     by_calls(['bin/fields', '--text'], list(fields_of(WORKED)), b'\x06\0\0', b''),
@@ -286,6 +287,13 @@ r = run(['bin/explain'], bytes([99, 0, 1, 5, 5, 0, 0, 14, 0, 5, 0, 0, 0, 0, 0, 1
 reason = b'    refused 1: not a call: unknown tag or wrong length; no case\n'
 tell('bin/explain, fields that are no calls', r.stdout == b'tag 99, bytes 1\n' + reason + b'tag 5, bytes 0\n' + reason + b'tag 14, bytes 5\n' + reason + b'tag 15, bytes 2\n' + reason + b'no case\n', r)
 
+# the requirement is shown from the first unit that has left on, whichever pool it leaves
+text = [b'HEAD pools 4 least 1 members 0 hedge 2.00 other 1.00 margin 9.00 fund 0.00 house 0.00'] + [b'POOL pool %d units 1 mark 0' % pool for pool in range(4)]
+text += [b'MEMBER member 0 contribution 4.00 expected 0,0,0,0', b'SALE pool 3 member 0 price 0.50']
+r = run(['bin/run'], b'\n'.join(text))
+said = [line for line in r.stdout.splitlines() if line.startswith(b'    requirement ')]
+tell('bin/run, the first unit leaves the last pool', said == [b'    requirement 2.50, prefunded 13.00'] and b'\n' + text[-1] + b'\n    accepted; stage S; open units 1 + 1 + 1 + 0 = 3\n' + said[0] + b'\n\n' in r.stdout, r)
+
 # ---- a pool sold by agreement, where the case is not finished: the tables of no example
 
 text = open('examples/agreed.txt', 'rb').read().splitlines()
@@ -331,28 +339,38 @@ Units held, by pool and price
   total, units not open                 2        -200.00
 ''', end)
 
-# ---- what docs/USING.md quotes is what the example prints
+# ---- what docs/USING.md quotes is what the examples print
 
-printed = open('examples/one-default.out').read().splitlines()
-blocks = open('docs/USING.md').read().split('```')[1::2]
-quoted = [line for block in blocks for line in block.splitlines() if line]
-tell('docs/USING.md quotes examples/one-default.out', len(quoted) > 80 and all(line in printed for line in quoted), [line for line in quoted if line not in printed])
+def entries(lines):
+    """The calls and tables of lines: each line that is not indented, with the indented ones behind it."""
+    found = []
+    for line in lines:
+        if found and line.startswith(' '):
+            found[-1].append(line)
+        elif line:
+            found.append([line])
+    return found
 
-sold = open('docs/USING.md').read().split('\n## 2. A small pool sold first\n')[1].split('\n## ')[0]
-printed = [line for name in ('agreed', 'sales') for line in open('examples/%s.out' % name).read().splitlines()]
-quoted = [line[4:] for line in sold.splitlines() if line.startswith('    ')]
-tell('docs/USING.md quotes the examples with SALE', len(quoted) > 20 and all(line in printed for line in quoted), [line for line in quoted if line not in printed])
 
-sections = open('docs/USING.md').read().split('\n## ')
-texts = [block for section in sections if section.startswith(('3. The auctions', '7. The tables')) for block in section.split('```')[::2]]
-printed = [line for name in ('withdrawals', 'open-round') for line in open('examples/%s.out' % name).read().splitlines()]
-quoted = [line[4:] for text in texts for line in text.splitlines() if line.startswith('    ')]
-tell('docs/USING.md quotes the examples with WITHDRAW', len(quoted) > 12 and all(line in printed for line in quoted), [line for line in quoted if line not in printed])
+def quotes(lines, least, *names):
+    """Each call or table quoted stands in one of the examples, with all its lines."""
+    printed = [entry for name in names for entry in entries(open('examples/%s.out' % name).read().splitlines())]
+    strange = [entry for entry in entries(lines) if entry not in printed]
+    tell('docs/USING.md quotes the examples ' + ', '.join(names), len(lines) > least and not strange, (len(lines), strange))
 
-ties = [section for section in sections if section.startswith('Odd units and cents')]
-printed = open('examples/ties.out').read().splitlines()
-quoted = [line[4:] for text in ties for line in text.splitlines() if line.startswith('    ')]
-tell('docs/USING.md quotes the example with ties', len(quoted) > 5 and all(line in printed for line in quoted), [line for line in quoted if line not in printed])
+
+def indented(*starts):
+    """The indented lines of the sections that start with these words, but for commands."""
+    texts = [text for section in PAGE.split('\n## ') if section.startswith(starts) for text in section.split('```')[::2]]
+    return [line[4:] for text in texts for line in text.splitlines() if line.startswith('    ') and not line.startswith('    bin/')]
+
+
+PAGE = open('docs/USING.md').read()
+quotes([line for block in PAGE.split('```')[1::2] for line in block.splitlines() if line], 80, 'one-default')
+quotes(indented('2. A small pool sold first'), 20, 'agreed', 'sales')
+quotes(indented('3. The auctions', '7. The tables'), 12, 'withdrawals', 'open-round')
+quotes(indented('Watching the requirement'), 20, 'requirement')
+quotes(indented('Odd units and cents'), 5, 'ties')
 
 # ---- the scripts, with an `rt` that says what they are told
 

@@ -1,4 +1,4 @@
-// A call as its line, and its answer in words: one sentence for each number, the value at fault where there is one, and the stage and the open units after the call.
+// A call as its line, and its answer in words: one sentence for each number, the value at fault where there is one, and the stage, the open units and the requirement after the call.
 use crate::texts;
 use crate::texts::Line;
 use crate::texts::fill;
@@ -176,9 +176,9 @@ fn early_fault(present: bool, book: Book, tag: u8, first: u8, answer: u8) -> Lin
     }
 }
 
-// The requirement, and what is prefunded.
-fn cover_fault(book: Book) -> Line {
-    two(texts::COVER_FAULT, book.requirement(), book.prefunded())
+// A text with the requirement and what is prefunded.
+fn cover_line(text: usize, book: Book) -> Line {
+    two(text, book.requirement(), book.prefunded())
 }
 
 // What a member owes.
@@ -208,8 +208,8 @@ fn late_fault(book: Book, tag: u8, first: u8, price: u32, answer: u8) -> Line {
     match answer {
         10 => short_fault(book, tag, first),
         11 => one(texts::OPEN_FAULT, all_open(book)),
-        12 => cover_fault(book),
-        13 => cover_fault(book),
+        12 => cover_line(texts::COVER_FAULT, book),
+        13 => cover_line(texts::COVER_FAULT, book),
         14 => owed_fault(book, first),
         15 => owing_fault(book),
         16 => one(texts::MEMBER_FAULT, first as u64),
@@ -290,8 +290,25 @@ fn units_line(book: Book) -> Line {
     }
 }
 
-// The stage and the open units.
-pub fn write_state(present: bool, case: Case, out: &mut [u8], at: usize) -> usize {
+// Whether a unit has left the house: a pool has fewer open units than were put up.
+fn any_left(book: Book) -> bool {
+    let pools = book.pools;
+    let units = pools.units;
+    let first = lists::either(book.open_units(0) < units[0], book.open_units(1) < units[1]);
+    let last = lists::either(book.open_units(2) < units[2], book.open_units(3) < units[3]);
+    lists::either(first, last)
+}
+
+// The requirement after an accepted call, once a unit has left the house.
+fn requirement_line(answer: u8, book: Book) -> Line {
+    if lists::both(answer == 0, any_left(book)) {
+        return cover_line(texts::REQUIREMENT, book);
+    }
+    plain(texts::NOTHING)
+}
+
+// The stage, the open units and the requirement after a call with this answer.
+pub fn write_state(answer: u8, present: bool, case: Case, out: &mut [u8], at: usize) -> usize {
     if !present {
         return fill(out, at, plain(texts::NO_CASE));
     }
@@ -300,7 +317,8 @@ pub fn write_state(present: bool, case: Case, out: &mut [u8], at: usize) -> usiz
     let rounds = book.rounds;
     let named = fill(out, at, plain(texts::THEN));
     let said = fill(out, named, stage_line(stage, rounds.held));
-    fill(out, said, units_line(book))
+    let counted = fill(out, said, units_line(book));
+    fill(out, counted, requirement_line(answer, book))
 }
 
 // ---- the answer

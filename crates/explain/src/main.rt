@@ -42,7 +42,7 @@ struct Rest {
     ended: bool,
 }
 
-// One field: the call, its answer in words, and the stage and the open units after it.
+// One field: the call, its answer in words, and the stage, the open units and the requirement after it.
 fn take_field(held: Held, bytes: &[u8], out: &mut [u8], at: usize) -> Step
     ensures { λ r. ⌜ r .held ≡ applied held (now (bytes .entry)) .held ⌝ }
 {
@@ -51,7 +51,7 @@ fn take_field(held: Held, bytes: &[u8], out: &mut [u8], at: usize) -> Step
     let named = answers::write_call(call, bytes, out, at);
     let said = answers::write_answer(held.present, held.case, call, applied.answer, out, named);
     let next = applied.held;
-    let shown = answers::write_state(next.present, next.case, out, said);
+    let shown = answers::write_state(applied.answer, next.present, next.case, out, said);
     Step {
         held: next,
         at: shown,

@@ -30,151 +30,154 @@ pub const NO_ROUND: usize = 9;
 // The open units, by the number of pools given.
 pub const UNITS: usize = 9;
 
-pub const NO_CASE: usize = 14;
+// The requirement and what is prefunded, once a unit has left the house.
+pub const REQUIREMENT: usize = 14;
+
+pub const NO_CASE: usize = 15;
 
 // Why a call is declined, by the answer from 1 on; then those that only some calls have.
-pub const REASON: usize = 14;
+pub const REASON: usize = 15;
 
 // The number of WITHDRAW is that of no bid, or of a bid that is another's, of an earlier round, or withdrawn.
-pub const NO_BID: usize = 32;
+pub const NO_BID: usize = 33;
 
-pub const NONE_KEPT: usize = 33;
+pub const NONE_KEPT: usize = 34;
 
-pub const OTHERS_BID: usize = 34;
+pub const OTHERS_BID: usize = 35;
 
-pub const EARLIER_BID: usize = 35;
+pub const EARLIER_BID: usize = 36;
 
-pub const WITHDRAWN_BID: usize = 36;
+pub const WITHDRAWN_BID: usize = 37;
 
-pub const WRONG_RESERVES: usize = 37;
+pub const WRONG_RESERVES: usize = 38;
 
-pub const NOT_NEXT: usize = 38;
+pub const NOT_NEXT: usize = 39;
 
-pub const GIVEN: usize = 39;
+pub const GIVEN: usize = 40;
 
-pub const NONE_OPEN: usize = 40;
+pub const NONE_OPEN: usize = 41;
 
-pub const NOT_ALL_GIVEN: usize = 41;
+pub const NOT_ALL_GIVEN: usize = 42;
 
-pub const MORE_THAN_OWED: usize = 42;
+pub const MORE_THAN_OWED: usize = 43;
 
 // The value at fault.
-pub const BEFORE_HEAD: usize = 43;
+pub const BEFORE_HEAD: usize = 44;
 
-pub const IN_STAGE: usize = 44;
+pub const IN_STAGE: usize = 45;
 
-pub const RESERVES_FAULT: usize = 45;
+pub const RESERVES_FAULT: usize = 46;
 
-pub const POOLS_FAULT: usize = 46;
+pub const POOLS_FAULT: usize = 47;
 
-pub const SET_FAULT: usize = 47;
+pub const SET_FAULT: usize = 48;
 
-pub const LEAST_FAULT: usize = 48;
+pub const LEAST_FAULT: usize = 49;
 
-pub const KEPT_FAULT: usize = 49;
+pub const KEPT_FAULT: usize = 50;
 
-pub const POOL_FAULT: usize = 50;
+pub const POOL_FAULT: usize = 51;
 
-pub const ANY_POOL_FAULT: usize = 51;
+pub const ANY_POOL_FAULT: usize = 52;
 
-pub const SHORT_FAULT: usize = 52;
+pub const SHORT_FAULT: usize = 53;
 
-pub const GIVEN_FAULT: usize = 53;
+pub const GIVEN_FAULT: usize = 54;
 
-pub const OPEN_FAULT: usize = 54;
+pub const OPEN_FAULT: usize = 55;
 
-pub const COVER_FAULT: usize = 55;
+pub const COVER_FAULT: usize = 56;
 
-pub const OWED_FAULT: usize = 56;
+pub const OWED_FAULT: usize = 57;
 
-pub const OWING_FAULT: usize = 57;
+pub const OWING_FAULT: usize = 58;
 
-pub const MEMBER_FAULT: usize = 58;
+pub const MEMBER_FAULT: usize = 59;
 
-pub const DEAR_FAULT: usize = 59;
+pub const DEAR_FAULT: usize = 60;
 
 // Numbers out of their ranges; HEAD's eight from its first on.
-pub const HEAD_RANGE: usize = 60;
+pub const HEAD_RANGE: usize = 61;
 
-pub const UNITS_RANGE: usize = 68;
+pub const UNITS_RANGE: usize = 69;
 
-pub const MARK_RANGE: usize = 69;
+pub const MARK_RANGE: usize = 70;
 
-pub const CONTRIBUTION_RANGE: usize = 70;
+pub const CONTRIBUTION_RANGE: usize = 71;
 
-pub const EXPECTED_RANGE: usize = 71;
+pub const EXPECTED_RANGE: usize = 72;
 
-pub const LACKING_POOL: usize = 72;
+pub const LACKING_POOL: usize = 73;
 
-pub const RESERVE_RANGE: usize = 73;
+pub const RESERVE_RANGE: usize = 74;
 
-pub const PRICE_RANGE: usize = 74;
+pub const PRICE_RANGE: usize = 75;
 
-pub const AMOUNT_RANGE: usize = 75;
+pub const AMOUNT_RANGE: usize = 76;
 
 // Bytes that are no call.
-pub const UNKNOWN: usize = 76;
+pub const UNKNOWN: usize = 77;
 
-pub const TOO_SHORT: usize = 77;
+pub const TOO_SHORT: usize = 78;
 
-pub const CUT_OFF: usize = 78;
+pub const CUT_OFF: usize = 79;
 
-pub const INCOMPLETE: usize = 79;
+pub const INCOMPLETE: usize = 80;
 
 // The tables.
-pub const NO_TABLES: usize = 80;
+pub const NO_TABLES: usize = 81;
 
-pub const POOLS_TITLE: usize = 81;
+pub const POOLS_TITLE: usize = 82;
 
-pub const POOLS_ROW: usize = 82;
+pub const POOLS_ROW: usize = 83;
 
-pub const POOLS_TOTAL: usize = 83;
+pub const POOLS_TOTAL: usize = 84;
 
-pub const SALES_TITLE: usize = 84;
+pub const SALES_TITLE: usize = 85;
 
-pub const SALES_ROW: usize = 85;
+pub const SALES_ROW: usize = 86;
 
-pub const SALES_TOTAL: usize = 86;
+pub const SALES_TOTAL: usize = 87;
 
-pub const BIDS_TITLE: usize = 87;
+pub const BIDS_TITLE: usize = 88;
 
-pub const STANDING_ROW: usize = 88;
+pub const STANDING_ROW: usize = 89;
 
-pub const WITHDRAWN_ROW: usize = 89;
+pub const WITHDRAWN_ROW: usize = 90;
 
-pub const LOSS: usize = 90;
+pub const LOSS: usize = 91;
 
-pub const NOT_CHARGED: usize = 91;
+pub const NOT_CHARGED: usize = 92;
 
-pub const LAYERS_TITLE: usize = 92;
+pub const LAYERS_TITLE: usize = 93;
 
-pub const LAYER: usize = 93;
+pub const LAYER: usize = 94;
 
-pub const LAYERS_TOTAL: usize = 99;
+pub const LAYERS_TOTAL: usize = 100;
 
-pub const UNCOVERED: usize = 100;
+pub const UNCOVERED: usize = 101;
 
-pub const MEMBERS_TITLE: usize = 101;
+pub const MEMBERS_TITLE: usize = 102;
 
-pub const MEMBERS_ROW: usize = 102;
+pub const MEMBERS_ROW: usize = 103;
 
-pub const MEMBERS_TOTAL: usize = 103;
+pub const MEMBERS_TOTAL: usize = 104;
 
-pub const EARLY_TITLE: usize = 104;
+pub const EARLY_TITLE: usize = 105;
 
-pub const EARLY_ROW: usize = 105;
+pub const EARLY_ROW: usize = 106;
 
-pub const LEFT_OUT: usize = 106;
+pub const LEFT_OUT: usize = 107;
 
-pub const HELD_TITLE: usize = 107;
+pub const HELD_TITLE: usize = 108;
 
-pub const HELD_ROW: usize = 108;
+pub const HELD_ROW: usize = 109;
 
-pub const HELD_SUM: usize = 109;
+pub const HELD_SUM: usize = 110;
 
-pub const TORN_SUM: usize = 110;
+pub const TORN_SUM: usize = 111;
 
-pub const PRICED_SUM: usize = 111;
+pub const PRICED_SUM: usize = 112;
 
 // ---- lines
 
@@ -461,6 +464,7 @@ pub fn fill(out: &mut [u8], at: usize, line: Line) -> usize {
         ; open units # + # = #|\n\
         ; open units # + # + # = #|\n\
         ; open units # + # + # + # = #|\n\
+        \x20   requirement $, prefunded $|\n\
         ; no case|\n\
         \x20   refused #: not a call: unknown tag or wrong length\n\
         \x20   refused #: not allowed\n\
