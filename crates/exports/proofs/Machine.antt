@@ -124,7 +124,7 @@ module _ (bytes ends : List ℕ) (given : Bytes bytes) where
 
     -- document 02, C-16
     pub requirement-after : (r : C.Reading) → r ≡ readingIn h → _≡_ {A = Reading} (record { answer = r .answer; cents = r .cents }) (readBy (runFrom none (stringsIn bytes ends)))
-    requirement-after r e = rw (e, after) (read-by _ _ (ledger-tied (stringsIn bytes ends) each))
+    requirement-after r e = rw (e, after) (read-by _ (runFrom none (stringsIn bytes ends)) (ledger-tied (stringsIn bytes ends) each))
 
     pub prices-after : (pool : ℕ) → poolPricesIn h pool ≡ leftSum (M.theCase (runFrom none (stringsIn bytes ends))) pool
-    prices-after pool = rw after (sums-seen _ _ (ledger-tied (stringsIn bytes ends) each) pool)
+    prices-after pool = rw after (sums-seen _ (runFrom none (stringsIn bytes ends)) (ledger-tied (stringsIn bytes ends) each) pool)

@@ -23,9 +23,9 @@ same-length c = search needs
 returns : tie.Need-returns
 returns c =
     let a = c .before .before .before .before .before .before .before .before .before .args in
-    called (now (a .bytes)) (now (a .ends)) _ _ _
+    called (now (a .bytes)) (now (a .ends))
     (each-of (λ (b : ℕ). b < 256) (now (a .bytes)) 0 (λ i h. omega (arith, c .before .before .before .before .before .before .before .before .shared-slice-known .given i)))
-    (rw (c .before .before .before .before .before .none .ensures) at (c .before .before .before .replay .ensures)) _ (c .show .ensures)
+    _ _ _ (rw (c .before .before .before .before .before .none .ensures) at (c .before .before .before .replay .ensures)) _ (c .show .ensures)
 
 pub ledger-calls-spec : {M : Type 1} → statement M
 ledger-calls-spec = tie.close (tie.spec none-requires replay-requires show-requires same-length returns)

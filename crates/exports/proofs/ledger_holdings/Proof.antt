@@ -8,14 +8,8 @@ use borrow.Author.Needs.{needs}
 use Rattle.exports.proofs.ledger_holdings.Statement.{statement}
 use Rattle.exports.proofs.ledger_holdings.Tie as tie
 
-none-requires : tie.Need-none-requires
-none-requires c κs = search needs
-
-slice-aggregate-replay : tie.Need-slice-aggregate-replay
-slice-aggregate-replay c = search needs
-
-replay-requires : tie.Need-replay-requires
-replay-requires c κs = search needs
+held-after-requires : tie.Need-held-after-requires
+held-after-requires c κs = search needs
 
 ask-requires : tie.Need-ask-requires
 ask-requires c κs = search needs
@@ -25,11 +19,10 @@ same-length c = search needs
 
 returns : tie.Need-returns
 returns c =
-    let a = c .before .before .before .before .before .before .before .before .before .before .before .before .before .before .args in
-    held-after (now (a .bytes)) (now (a .ends)) _ _ _
-    (each-of (λ (b : ℕ). b < 256) (now (a .bytes)) 0 (λ i h. omega (arith, c .before .before .before .before .before .before .before .before .before .before .before .before .before .shared-slice-known .given i)))
-    (rw (c .before .before .before .before .before .before .before .none .ensures) at (c .before .before .before .before .before .replay .ensures)) (now (a .members)) (now (a .pools)) (now (a .prices)) (now (a .units)) _ (c .before .before .ask .ensures)
+    let a = c .before .before .before .before .before .before .before .before .before .before .before .args in
+    held-after (now (a .bytes)) (now (a .ends))
+    (each-of (λ (b : ℕ). b < 256) (now (a .bytes)) 0 (λ i h. omega (arith, c .before .before .before .before .before .before .before .before .before .before .shared-slice-known .given i)))
+    _ (c .before .before .before .before .held-after .ensures) (now (a .members)) (now (a .pools)) (now (a .prices)) (now (a .units)) _ (c .before .before .ask .ensures)
 
 pub ledger-holdings-spec : {M : Type 1} → statement M
-ledger-holdings-spec =
-    tie.close (tie.spec none-requires slice-aggregate-replay replay-requires ask-requires same-length returns)
+ledger-holdings-spec = tie.close (tie.spec held-after-requires ask-requires same-length returns)
