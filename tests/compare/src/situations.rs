@@ -1,6 +1,6 @@
-//! What lists with WITHDRAWs go through and where remainders tie, counted so that a run shows whether it compared what matters there.
+//! What lists with WITHDRAWs go through, where remainders tie and how the requirement moves, counted so that a run shows whether it compared what matters there.
 
-use crate::ties;
+use crate::{requirement, ties};
 use model::field::u16_at;
 use model::roll::Bid;
 use model::{Ledger, Roll, Stage, write};
@@ -50,15 +50,17 @@ pub fn of(calls: &[Vec<u8>]) -> Situations {
     let mut found = Situations::new();
     let mut roll = Roll::default();
     let mut fields = ties::Fields::default();
+    let mut sums = requirement::Sums::default();
     let mut opened = 0;
     for (call, bytes) in calls.iter().enumerate() {
         let splits = matches!(bytes.first(), Some(&(write::CLOSE | write::ALLOCATE | write::CALL | write::FINISH)));
-        // Only a call that splits is looked at from before.
-        let before = if splits { roll.clone() } else { Roll::default() };
+        // Only a call that splits or takes units back is looked at from before.
+        let before = if splits || bytes.first() == Some(&write::MISS) { roll.clone() } else { Roll::default() };
         let stage = roll.stage();
         let answer = roll.call(bytes);
         if answer == 0 {
             fields.count(bytes, &before, &roll, &mut found);
+            sums.count(bytes, &before, &roll, &mut found);
         }
         if answer == 0 && bytes[0] == write::ROUND {
             opened = call;
