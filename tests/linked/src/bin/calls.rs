@@ -212,13 +212,13 @@ impl Tally {
             ("CLOSE of a round with a withdrawn bid", self.closed_without),
             ("BID 7 with a withdrawn bid among the 256", self.places_taken),
             ("WITHDRAW 18 of a bid of the first round", self.of_old_round),
-            ("readings with no case", self.read.declined),
-            ("held at 0", self.read.at_0),
-            ("above 0 after that", self.read.above_0_again),
-            ("that rose", self.read.rose),
-            ("that fell", self.read.fell),
-            ("after a declined call", self.read.unchanged),
-            ("with a sum of pools 1 to 3", self.read.of_other_pools),
+            ("requirement read with no case", self.read.declined),
+            ("requirement held at 0", self.read.at_0),
+            ("requirement above 0 after that", self.read.above_0_again),
+            ("requirement that rose", self.read.rose),
+            ("requirement that fell", self.read.fell),
+            ("requirement read after a declined call, units having left", self.read.unchanged),
+            ("sum of pools 1 to 3 that is not 0", self.read.of_other_pools),
         ] {
             all.push((what.to_string(), count));
         }
