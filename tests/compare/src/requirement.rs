@@ -1,6 +1,6 @@
 //! How the requirement and the sums of prices that it is read from move (C-16), by what a wrong running sum would show.
 
-use crate::situations::Situations;
+use crate::situations::{Situations, those_of};
 use model::field::{price_at, u32_at};
 use model::roll::Entry;
 use model::{Ledger, Roll, write};
@@ -85,20 +85,18 @@ impl Sums {
     fn at_rest(&self, after: &Roll) -> Vec<&'static str> {
         let (sum, requirement) = (self.sum(), after.reading().1);
         let open_beside = |pool: usize| after.counts(pool as u8)[0] > 0 && self.prices[pool] != 0;
-        let occurred = [
+        those_of(&[
             (AT_0, sum > self.losses),
             (OPEN_BESIDE, (0..4).any(open_beside)),
             (GAIN_BESIDE_LOSS, self.prices.iter().any(|&p| p > 0) && self.prices.iter().any(|&p| p < 0)),
             (PAST_32_BITS, i32::try_from(sum).is_err()),
             (REQUIREMENT_PAST_32_BITS, u32::try_from(requirement).is_err()),
-        ];
-        occurred.into_iter().filter(|(_, so)| *so).map(|(name, _)| name).collect()
+        ])
     }
 }
 
 fn at_move(changed: &[usize]) -> Vec<&'static str> {
-    let occurred = [(MOVE_OTHER_POOL, changed.iter().any(|&pool| pool > 0)), (MOVE_POOLS, changed.len() > 1)];
-    occurred.into_iter().filter(|(_, so)| *so).map(|(name, _)| name).collect()
+    those_of(&[(MOVE_OTHER_POOL, changed.iter().any(|&pool| pool > 0)), (MOVE_POOLS, changed.len() > 1)])
 }
 
 /// Which of the member's units, allocated and moved, have another price than before.
@@ -111,13 +109,12 @@ fn at_miss(before: &Roll, of: u8, price: i64, changed: &[usize]) -> Vec<&'static
     let old: Vec<i64> = entries.iter().filter_map(allocated).collect();
     let has_moved = entries.contains(&Entry::Moved { member: of });
     let changes_allocated = old.iter().any(|&old| old != price);
-    let occurred = [
+    those_of(&[
         (MISS_ALLOCATED, changes_allocated && !has_moved),
         (MISS_MOVED, old.is_empty() && has_moved && price != 0),
         (MISS_BOTH, changes_allocated && has_moved && price != 0),
         (MISS_POOLS, changed.len() > 1),
-    ];
-    occurred.into_iter().filter(|(_, so)| *so).map(|(name, _)| name).collect()
+    ])
 }
 
 #[cfg(test)]

@@ -54,7 +54,7 @@ pub fn of(calls: &[Vec<u8>]) -> Situations {
     let mut opened = 0;
     for (call, bytes) in calls.iter().enumerate() {
         let splits = matches!(bytes.first(), Some(&(write::CLOSE | write::ALLOCATE | write::CALL | write::FINISH)));
-        // Only a call that splits or takes units back is looked at from before.
+        // Only MISS and the calls that split are looked at from before.
         let before = if splits || bytes.first() == Some(&write::MISS) { roll.clone() } else { Roll::default() };
         let stage = roll.stage();
         let answer = roll.call(bytes);
@@ -79,6 +79,11 @@ pub fn of(calls: &[Vec<u8>]) -> Situations {
         names.into_iter().for_each(|name| *found.entry(name).or_default() += 1);
     }
     found
+}
+
+/// The names of what occurred.
+pub fn those_of(occurred: &[(&'static str, bool)]) -> Vec<&'static str> {
+    occurred.iter().filter(|(_, so)| *so).map(|(name, _)| *name).collect()
 }
 
 /// Why no standing bid of the member in the open round has the number.
@@ -114,7 +119,7 @@ fn at_close(roll: &Roll, round: u8, opened: usize, calls: &[Vec<u8>]) -> Vec<&'s
         withdrawn.iter().any(|&number| bids[number].pool == pool)
             && !standing.iter().any(|&number| bids[number].pool == pool)
     };
-    let occurred = [
+    those_of(&[
         (CLOSE_WITHOUT, true),
         (WOULD_HAVE_WON, withdrawn.iter().any(|&number| beside[number].won > 0)),
         (OTHERS_WIN_OTHERWISE, standing.iter().any(|&number| beside[number].won != bids[number].won)),
@@ -122,8 +127,7 @@ fn at_close(roll: &Roll, round: u8, opened: usize, calls: &[Vec<u8>]) -> Vec<&'s
         (NONE_IN_A_POOL, (0..4).any(emptied)),
         (SECOND_ROUND, round == 2),
         (AGAIN_BEHIND, withdrawn.iter().any(|&number| is_split_behind(bids, number, &standing))),
-    ];
-    occurred.into_iter().filter(|(_, so)| *so).map(|(name, _)| name).collect()
+    ])
 }
 
 /// The ledger after the calls, had no bid been withdrawn since the ROUND.
