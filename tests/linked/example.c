@@ -113,6 +113,15 @@ int main(void) {
     ledger_holdings(input, sizeof input, ends, calls, members, 3, pools, 3, prices, 3, units, 4);
     wrong |= units[0] != 4 || units[1] != 4 || units[2] != 0 || units[3] != 9;
 
+    /* Document 02, C-16: the requirement and the running sum of pool 0 before CLOSE and after FINISH; with no case the reading is declined by 2. */
+    struct ledger_reading reading = ledger_requirement(input, bidden, ends, calls);
+    wrong |= reading.answer != 0 || reading.cents != 0 || ledger_pool_prices(input, bidden, ends, calls, 0) != 0;
+    reading = ledger_requirement(input, sizeof input, ends, calls);
+    wrong |= reading.answer != 0 || reading.cents != 160 || ledger_pool_prices(input, sizeof input, ends, calls, 0) != -160;
+    wrong |= ledger_pool_prices(input, sizeof input, ends, calls, 1) != 0 || ledger_pool_prices(input, sizeof input, ends, calls, 4) != 0;
+    reading = ledger_requirement(input, sizeof input, ends, 0);
+    wrong |= reading.answer != 2 || reading.cents != 0 || ledger_pool_prices(input, sizeof input, ends, 0, 0) != 0;
+
     /* Splitting and the auction alone: 6 by 5 and 3, and the four bids of the example. */
     const uint64_t weights[] = {5, 3};
     uint64_t shares[] = {0, 0};

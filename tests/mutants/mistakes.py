@@ -24,6 +24,26 @@ NUMBER = "let (member, number) = (usize::from(value[0]), usize::from(u16_at(valu
 MEMBER_OF_WITHDRAW = "        if !self.has_member(member) {\n            return 4;\n        }\n        let Ok(place)"
 KEPT = "        self.bids.push(Bid { pool, member, units, price, won: 0, sold: 0 });\n        self.to_allot.push(self.bids.len() - 1);\n"
 
+# Where the running sum of a pool changes, by call; TEAR and MISS share TORN.
+SUM = "self.pool.iter().map(|pool| pool.prices).sum()"
+SOLD_BY_AGREEMENT = "        pool.prices += units as i64 * price;\n"
+SOLD = "        self.pool[bid.pool].prices += units as i64 * bid.price;\n"
+ALLOCATED = "        pool.prices += placed as i64 * price;\n"
+TORN = "        self.pool[pool].prices += units as i64 * price;\n        self.torn"
+BY_TEAR = "        self.tear_units(pool, price, units);\n"
+MOVED = "        self.pool[pool].prices += saved as i64;\n"
+GIVEN_BACK = "            pool.prices -= allocated[p] as i64 * pool.allocated_price;\n"
+BY_MISS = "                self.tear_units(p, price, allocated[p] + moved[p]);\n"
+LOSSES = "        self.losses = (hedge + other) as i64;\n"
+READ = "            Some(_) => (0, self.required()),\n"
+
+
+def after_each_call(then):
+    """The mistakes that touch the sums after every call."""
+    return ("        match tag {\n            1 => self.head(value),", "        let answer = match tag {\n            1 => self.head(value),",
+            "            _ => self.withdraw(value),\n        }\n", "            _ => self.withdraw(value),\n        };\n" + then + "        answer\n")
+
+
 # What a split goes by where remainders tie, and the keys of a sort that does so: C-15 has the larger weight and then the earlier.
 BY_TIE = "Reverse((product(weights[i]) % sum, weights[i]))"
 OTHER_TIES = [
@@ -230,10 +250,10 @@ IN_TEXT = [
      "split(placed, &shortfalls))", "split(placed, &self.members().zip(&shortfalls).map(|(m, s)| if *s > 0 { self.member[m].expected[number] } else { 0 }).collect::<Vec<_>>()))"),
     ("TEAR declines mark 1", COUNTS,
      "        let units = std::mem::take(&mut self.pool[pool].open);", "        if self.pool[pool].positive_mark {\n            return 9;\n        }\n        let units = std::mem::take(&mut self.pool[pool].open);"),
-    ("torn units have no price", COUNTS, "        self.prices += units as i64 * price;\n        self.torn", "        self.torn"),
-    ("allocated units have no price", COUNTS, "        self.prices += placed as i64 * price;\n", ""),
+    ("torn units have no price", COUNTS, "        self.pool[pool].prices += units as i64 * price;\n        self.torn", "        self.torn"),
+    ("allocated units have no price", COUNTS, "        pool.prices += placed as i64 * price;\n", ""),
     # Requirement and calls
-    ("the requirement below 0 taken positive", COUNTS, "u64::try_from(self.losses - self.prices).unwrap_or(0)", "(self.losses - self.prices).unsigned_abs()"),
+    ("the requirement below 0 taken positive", COUNTS, "u64::try_from(self.losses - self.prices()).unwrap_or(0)", "(self.losses - self.prices()).unsigned_abs()"),
     ("house money not prefunded", COUNTS, "self.margin + self.fund + self.house + self.contributions", "self.margin + self.fund + self.house * 3 / 5 + self.contributions"),
     ("contributions not prefunded", COUNTS, "self.margin + self.fund + self.house + self.contributions", "self.margin + self.fund + self.house"),
     ("CALL beyond the contributions", COUNTS, "(required - ready).min(self.contributions)", "(required - ready)"),
@@ -249,12 +269,12 @@ IN_TEXT = [
     ("a member may finish while it owes", COUNTS, "Some(Stage::CallsOut) if self.owing != 0 => return 15,", "Some(Stage::CallsOut) if self.owing.count_ones() > 1 => return 15,"),
     # MOVE
     ("the debt kept after an empty MOVE", COUNTS,
-     "        self.move_sold(member, still_owed);\n        self.owing &= !(1 << member);", "        let before = self.prices;\n        self.move_sold(member, still_owed);\n        if still_owed < owed || self.prices != before {\n            self.owing &= !(1 << member);\n        }"),
+     "        self.move_sold(member, still_owed);\n        self.owing &= !(1 << member);", "        let before = self.prices();\n        self.move_sold(member, still_owed);\n        if still_owed < owed || self.prices() != before {\n            self.owing &= !(1 << member);\n        }"),
     ("an empty MOVE declined", COUNTS,
      "        let still_owed = self.move_allocated(member, owed);", "        if !self.bids.iter().any(|b| b.sold > 0 && b.price < 0) && !self.pool.iter().any(|p| p.allocated > 0 && p.allocated_price < 0) {\n            return 14;\n        }\n        let still_owed = self.move_allocated(member, owed);"),
     ("MOVE that saves too little keeps the debt", COUNTS,
      "        let still_owed = self.move_allocated(member, owed);\n        self.move_sold(member, still_owed);\n        self.owing &= !(1 << member);",
-     "        let before = self.prices;\n        let still_owed = self.move_allocated(member, owed);\n        self.move_sold(member, still_owed);\n        if (self.prices - before) as u64 >= owed {\n            self.owing &= !(1 << member);\n        }"),
+     "        let before = self.prices();\n        let still_owed = self.move_allocated(member, owed);\n        self.move_sold(member, still_owed);\n        if (self.prices() - before) as u64 >= owed {\n            self.owing &= !(1 << member);\n        }"),
     ("MOVE: lowest member first", COUNTS, "for holder in (0..MEMBERS).rev() {", "for holder in 0..MEMBERS {"),
     ("MOVE: lower pool first", COUNTS, "(self.pool[p].allocated_price, Reverse(p))", "(self.pool[p].allocated_price, p)"),
     ("MOVE: pool before price", COUNTS, "(self.pool[p].allocated_price, Reverse(p))", "(Reverse(p), self.pool[p].allocated_price)"),
@@ -264,7 +284,7 @@ IN_TEXT = [
     ("MOVE: highest price first among sold", COUNTS, "(self.bids[b].price, Reverse(b))", "(Reverse(self.bids[b].price), Reverse(b))"),
     ("MOVE: higher pool first among sold", COUNTS, "(self.bids[b].price, Reverse(b))", "(self.bids[b].price, Reverse(self.bids[b].pool), Reverse(b))"),
     ("MOVE: sold units first", COUNTS,
-     "        let still_owed = self.move_allocated(member, owed);\n        self.move_sold(member, still_owed);", "        let before = self.prices;\n        self.move_sold(member, owed);\n        let still_owed = owed.saturating_sub((self.prices - before) as u64);\n        self.move_allocated(member, still_owed);"),
+     "        let still_owed = self.move_allocated(member, owed);\n        self.move_sold(member, still_owed);", "        let before = self.prices();\n        self.move_sold(member, owed);\n        let still_owed = owed.saturating_sub((self.prices() - before) as u64);\n        self.move_allocated(member, still_owed);"),
     ("MOVE: no sold units", COUNTS, "        self.move_sold(member, still_owed);\n", "        let _ = still_owed;\n"),
     ("MOVE: its own allocated units stay", COUNTS,
      "                let units = units_to_move(self.member[holder].allocated[pool], price, needed);", "                if holder == to {\n                    continue;\n                }\n                let units = units_to_move(self.member[holder].allocated[pool], price, needed);"),
@@ -276,7 +296,7 @@ IN_TEXT = [
     ("MOVE: one unit more where it saves exactly", COUNTS, "needed.div_ceil(price.unsigned_abs())", "(if needed == 0 { 0 } else { needed / price.unsigned_abs() + 1 })"),
     ("MOVE: by the call, not by what is owed", COUNTS, "let still_owed = self.move_allocated(member, owed);", "let still_owed = self.move_allocated(member, self.member[member].call);"),
     ("MOVE: payments come back", COUNTS, "        self.move_sold(member, still_owed);\n", "        self.move_sold(member, still_owed);\n        self.member[member].paid = 0;\n"),
-    ("MOVE: saves nothing", COUNTS, "        self.prices += saved as i64;\n", ""),
+    ("MOVE: saves nothing", COUNTS, "        self.pool[pool].prices += saved as i64;\n", ""),
     ("MOVE: all of a bid at once", COUNTS, "let units = units_to_move(sold, price, needed);", "let units = if needed > 0 { sold } else { 0 };"),
     ("MOVE: units still counted as sold", COUNTS, "            self.pool[pool].sold -= units;\n", ""),
     ("MOVE: units won are lowered", COUNTS, "            self.bids[number].sold -= units;\n", "            self.bids[number].sold -= units;\n            self.bids[number].won -= units;\n            let holder = self.bids[number].member;\n            self.member[holder].won[pool] -= units;\n"),
@@ -288,7 +308,7 @@ IN_TEXT = [
     ("MISS: allocated units stay", COUNTS,
      "        let Member { allocated, moved, .. } = self.member[number];\n", "        let Member { moved, .. } = self.member[number];\n        let allocated = [0; POOLS];\n",
      "        self.member[number].allocated = [0; POOLS];\n", ""),
-    ("MISS: keeps the old prices", COUNTS, "            self.prices -= allocated[p] as i64 * pool.allocated_price;\n", ""),
+    ("MISS: keeps the old prices", COUNTS, "            pool.prices -= allocated[p] as i64 * pool.allocated_price;\n", ""),
     ("MISS: ends the debt", COUNTS, "        self.member[number].moved = [0; POOLS];\n", "        self.member[number].moved = [0; POOLS];\n        self.owing &= !(1 << number);\n"),
     ("MISS: units ever allocated fall away", COUNTS, "        self.member[number].moved = [0; POOLS];\n", "        self.member[number].moved = [0; POOLS];\n        self.member[number].ever_allocated = [0; POOLS];\n"),
     ("MISS: in A alone", COUNTS, "if !self.is_after() && self.stage != Some(Stage::CallsOut) {", "if !self.is_after() {"),
@@ -339,9 +359,9 @@ IN_TEXT = [
     ("the loss without what is uncovered", COUNTS, "        outcome.uncovered = layers.rest;\n", "        outcome.uncovered = layers.rest;\n        outcome.loss -= layers.rest;\n"),
     # Sale by agreement
     ("SALE: 17 without the other sales", COUNTS, "if self.losses - prices > (self.margin", "if self.losses - units as i64 * price > (self.margin"),
-    ("SALE: 17 without the gains of other sales", COUNTS, "if self.losses - prices > (self.margin", "if self.losses - (self.prices.min(0) + units as i64 * price) > (self.margin"),
-    ("SALE: 17 by the other sales alone", COUNTS, "if self.losses - prices > (self.margin", "if self.losses - self.prices > (self.margin"),
-    ("SALE: 17 by one unit's price", COUNTS, "if self.losses - prices > (self.margin", "if self.losses - self.prices - price > (self.margin"),
+    ("SALE: 17 without the gains of other sales", COUNTS, "if self.losses - prices > (self.margin", "if self.losses - (self.prices().min(0) + units as i64 * price) > (self.margin"),
+    ("SALE: 17 by the other sales alone", COUNTS, "if self.losses - prices > (self.margin", "if self.losses - self.prices() > (self.margin"),
+    ("SALE: 17 by one unit's price", COUNTS, "if self.losses - prices > (self.margin", "if self.losses - self.prices() - price > (self.margin"),
     ("SALE: 17 without the losses", COUNTS, "if self.losses - prices > (self.margin", "if -prices > (self.margin"),
     ("SALE: 17 at equality", COUNTS, "if self.losses - prices > (self.margin", "if self.losses - prices >= (self.margin"),
     ("SALE: 17 one cent late", COUNTS, "if self.losses - prices > (self.margin", "if self.losses - prices - 1 > (self.margin"),
@@ -356,7 +376,7 @@ IN_TEXT = [
      "        if self.pools_given < self.pools || self.members_given != self.set {\n            return 10;\n        }\n        if units == 0 {\n            return 8;\n        }\n        // In"),
     ("SALE: 17 before 10", COUNTS,
      "        let units = self.pool[number].open;\n        if units == 0 {\n            return 8;\n        }\n",
-     "        let units = self.pool[number].open;\n        if units == 0 {\n            return 8;\n        }\n        if self.losses - self.prices - units as i64 * price > (self.margin + self.fund) as i64 {\n            return 17;\n        }\n"),
+     "        let units = self.pool[number].open;\n        if units == 0 {\n            return 8;\n        }\n        if self.losses - self.prices() - units as i64 * price > (self.margin + self.fund) as i64 {\n            return 17;\n        }\n"),
     ("SALE: 8 before 5", COUNTS,
      "        if !price_fits(price) {\n            return 5;\n        }\n        let units = self.pool[number].open;\n        if units == 0 {\n            return 8;\n        }\n",
      "        let units = self.pool[number].open;\n        if units == 0 {\n            return 8;\n        }\n        if !price_fits(price) {\n            return 5;\n        }\n"),
@@ -374,8 +394,9 @@ IN_TEXT = [
     ("SALE: a pool so sold may be sold again", COUNTS,
      "        let units = self.pool[number].open;\n        if units == 0 {",
      "        let units = self.pool[number].open + self.pool[number].sold;\n        if units == 0 {",
-     "        let prices = self.prices + units as i64 * price;\n",
-     "        let before = self.pool[number].agreed.map_or(0, |a| a.units as i64 * a.price);\n        let prices = self.prices - before + units as i64 * price;\n"),
+     "        let prices = self.prices() + units as i64 * price;\n",
+     "        let before = self.pool[number].agreed.map_or(0, |a| a.units as i64 * a.price);\n        let prices = self.prices() - before + units as i64 * price;\n",
+     "        pool.prices += units as i64 * price;\n", "        pool.prices = units as i64 * price;\n"),
     ("SALE: before all is given", COUNTS,
      "        if self.pools_given < self.pools || self.members_given != self.set {\n            return 10;\n        }\n        // In", "        // In"),
     ("SALE: forgets missing members", COUNTS, "        if self.pools_given < self.pools || self.members_given != self.set {\n            return 10;\n        }\n        // In", "        if self.pools_given < self.pools {\n            return 10;\n        }\n        // In"),
@@ -396,7 +417,7 @@ IN_TEXT = [
     ("SALE: a bid in a pool so sold is kept", COUNTS,
      "        if self.pool[pool].open == 0 {\n            return 8;\n        }\n        self.bids", "        if self.pool[pool].open == 0 && self.pool[pool].agreed.is_none() {\n            return 8;\n        }\n        self.bids"),
     ("SALE: units counted as allocated", COUNTS, "        pool.sold = units;\n", "        pool.allocated = units;\n"),
-    ("SALE: the prices are not in the sum", COUNTS, "        self.prices = prices;\n", ""),
+    ("SALE: the prices are not in the sum", COUNTS, "        pool.prices += units as i64 * price;\n", ""),
     ("SALE: MOVE takes units so sold before those of bids", COUNTS,
      "    fn move_sold(&mut self, to: usize, mut needed: u64) {\n",
      "    fn move_sold(&mut self, to: usize, mut needed: u64) {\n        for p in 0..self.pools {\n            if let Some(a) = self.pool[p].agreed.filter(|a| a.price < 0) {\n                let units = units_to_move(a.units, a.price, needed);\n                self.pool[p].agreed = Some(Agreed { units: a.units - units, ..a });\n                self.pool[p].sold -= units;\n                needed = self.take_over(to, p, a.price, units, needed);\n            }\n        }\n"),
@@ -408,7 +429,7 @@ IN_TEXT = [
      "        let own: u64 = self.pool.iter().filter_map(|p| p.agreed).filter(|a| a.member == member && a.price < 0).map(|a| a.units * a.price.unsigned_abs()).sum();\n        let still_owed = self.move_allocated(member, owed.saturating_sub(own));\n"),
     ("SALE: MISS tears units so sold", COUNTS,
      "        for p in 0..self.pools {\n            let pool = &mut self.pool[p];\n            pool.allocated -= allocated[p];\n",
-     "        for p in 0..self.pools {\n            if let Some(a) = self.pool[p].agreed.take_if(|a| a.member == number) {\n                self.pool[p].sold -= a.units;\n                self.prices -= a.units as i64 * a.price;\n                self.tear_units(p, price, a.units);\n            }\n            let pool = &mut self.pool[p];\n            pool.allocated -= allocated[p];\n"),
+     "        for p in 0..self.pools {\n            if let Some(a) = self.pool[p].agreed.take_if(|a| a.member == number) {\n                self.pool[p].sold -= a.units;\n                self.pool[p].prices -= a.units as i64 * a.price;\n                self.tear_units(p, price, a.units);\n            }\n            let pool = &mut self.pool[p];\n            pool.allocated -= allocated[p];\n"),
     ("SALE: MISS accepted for units so sold alone", COUNTS,
      "        if allocated == [0; POOLS] && moved == [0; POOLS] {", "        if allocated == [0; POOLS] && moved == [0; POOLS] && !self.pool.iter().any(|p| p.agreed.is_some_and(|a| a.member == number)) {"),
     ("SALE: units expected in the pool count for rank", COUNTS, "let counted = (0..POOLS).filter(|&p| self.pool[p].agreed.is_none());", "let counted = 0..POOLS;"),
@@ -488,7 +509,7 @@ IN_TEXT = [
     ("WITHDRAW: the units count as won", COUNTS, TAKEN_BACK, TAKEN_BACK + "        let Bid { pool, units, .. } = self.bids[number];\n        self.member[member].won[pool] += units;\n"),
     ("WITHDRAW: the premium counts", COUNTS, TAKEN_BACK, TAKEN_BACK + "        self.bids[number].won = self.bids[number].units;\n"),
     ("WITHDRAW: the units are no longer expected", COUNTS, TAKEN_BACK, TAKEN_BACK + "        let Bid { pool, units, .. } = self.bids[number];\n        let expected = &mut self.member[member].expected[pool];\n        *expected = expected.saturating_sub(units);\n"),
-    ("WITHDRAW: the prices are in the sum", COUNTS, TAKEN_BACK, TAKEN_BACK + "        self.prices += self.bids[number].units as i64 * self.bids[number].price;\n"),
+    ("WITHDRAW: the prices are in the sum", COUNTS, TAKEN_BACK, TAKEN_BACK + "        self.pool[self.bids[number].pool].prices += self.bids[number].units as i64 * self.bids[number].price;\n"),
     ("WITHDRAW: the round is closed with its last bid", COUNTS, TAKEN_BACK, TAKEN_BACK + "        if self.to_allot.is_empty() {\n            return self.close();\n        }\n"),
     ("WITHDRAW: a pool whose bids are gone has no reserve in the round", COUNTS, *NOTED,
      "        self.stage = Some(Stage::After(round));\n        0",
@@ -502,11 +523,11 @@ IN_TEXT = [
     # Widths
     ("asked units in 16 bits", AUCTION, "level.iter().map(|&i| u128::from(bids[i].0)).sum();", "level.iter().map(|&i| u128::from(bids[i].0)).sum::<u128>() % 65_536;"),
     ("premium in 32 bits", COUNTS, "premium: own.map(premium).sum(),", "premium: own.map(premium).sum::<u64>() % (1 << 32),"),
-    ("requirement in 32 bits", COUNTS, "u64::try_from(self.losses - self.prices).unwrap_or(0)", "u64::try_from(self.losses - self.prices).unwrap_or(0) % (1 << 32)"),
+    ("requirement in 32 bits", COUNTS, "u64::try_from(self.losses - self.prices()).unwrap_or(0)", "u64::try_from(self.losses - self.prices()).unwrap_or(0) % (1 << 32)"),
     ("prefunded in 32 bits", COUNTS, "self.margin + self.fund + self.house + self.contributions", "(self.margin + self.fund + self.house + self.contributions) % (1 << 32)"),
     ("all contributions in 32 bits", COUNTS, "self.contributions += contribution;", "self.contributions = (self.contributions + contribution) % (1 << 32);"),
     ("contributions of a rank in 32 bits", COUNTS, "layers.charge(weights.iter().sum());", "layers.charge(weights.iter().sum::<u64>() % (1 << 32));"),
-    ("sum of prices in 32 bits", COUNTS, "u64::try_from(self.losses - self.prices).unwrap_or(0)", "u64::try_from(self.losses - i64::from(self.prices as i32)).unwrap_or(0)"),
+    ("sum of prices in 32 bits", COUNTS, "u64::try_from(self.losses - self.prices()).unwrap_or(0)", "u64::try_from(self.losses - i64::from(self.prices() as i32)).unwrap_or(0)"),
     ("three times house money in 32 bits", COUNTS, "self.house * 3 / 5", "self.house * 3 % (1 << 32) / 5"),
     ("rank products in 32 bits", COUNTS, "let left = a.premium * a_excess * b_won;\n                let right = b.premium * b_excess * a_won;", "let left = a.premium * a_excess * b_won % (1 << 32);\n                let right = b.premium * b_excess * a_won % (1 << 32);"),
     ("rank products in 52 bits", COUNTS, "let left = a.premium * a_excess * b_won;\n                let right = b.premium * b_excess * a_won;", "let left = a.premium * a_excess * b_won % (1 << 52);\n                let right = b.premium * b_excess * a_won % (1 << 52);"),
@@ -522,6 +543,58 @@ IN_TEXT = [
     ("lengths of one byte", FIELD, "3 + usize::from(u16_at(bytes, 1))", "3 + usize::from(bytes[2])"),
     ("HEAD opens a new case after FINISH", COUNTS, "        if self.stage.is_some() {\n            return 2;\n        }\n", "        if self.stage == Some(Stage::Finished) {\n            *self = Counts::default();\n        }\n        if self.stage.is_some() {\n            return 2;\n        }\n"),
     ("FINISH twice", COUNTS, "Some(Stage::After(_) | Stage::CallsOut) => {}", "Some(Stage::After(_) | Stage::CallsOut | Stage::Finished) => {}"),
+    # The running sum and the requirement that is read from it
+    ("sum: the requirement held at 0 step by step", COUNTS, *after_each_call("        self.pool[0].prices -= (self.prices() - self.losses).max(0);\n")),
+    ("sum: held at 0 step by step", COUNTS, *after_each_call("        self.pool[0].prices -= self.prices().min(0);\n")),
+    ("sum: the sum of each pool held at 0 from below step by step", COUNTS, *after_each_call("        self.pool.iter_mut().for_each(|pool| pool.prices = pool.prices.max(0));\n")),
+    ("sum: the sum of each pool held at 0 from above step by step", COUNTS, *after_each_call("        self.pool.iter_mut().for_each(|pool| pool.prices = pool.prices.min(0));\n")),
+    ("sum: a pool's gain falls away", COUNTS, SUM, SUM.replace("pool.prices", "pool.prices.min(0)")),
+    ("sum: a pool's loss falls away", COUNTS, SUM, SUM.replace("pool.prices", "pool.prices.max(0)")),
+    ("sum: the first pool alone", COUNTS, SUM, "self.pool[0].prices"),
+    ("sum: without the last pool", COUNTS, SUM, "self.pool[..POOLS - 1].iter().map(|pool| pool.prices).sum()"),
+    ("sum: pools of mark 1 left out", COUNTS, SUM, SUM.replace("pool.prices", "if pool.positive_mark { 0 } else { pool.prices }")),
+    ("sum: pools sold by agreement left out", COUNTS, SUM, SUM.replace("pool.prices", "if pool.agreed.is_some() { 0 } else { pool.prices }")),
+    ("sum: added to the losses", COUNTS, "u64::try_from(self.losses - self.prices()).unwrap_or(0)", "u64::try_from(self.losses + self.prices()).unwrap_or(0)"),
+    ("sum: gains do not lower the requirement", COUNTS, "u64::try_from(self.losses - self.prices()).unwrap_or(0)", "(self.losses - self.prices().min(0)) as u64"),
+    ("sum: the hedge loss alone", COUNTS, LOSSES, LOSSES.replace("(hedge + other)", "hedge")),
+    ("sum: the other loss alone", COUNTS, LOSSES, LOSSES.replace("(hedge + other)", "other")),
+    ("sum: the larger of the losses alone", COUNTS, LOSSES, LOSSES.replace("(hedge + other)", "hedge.max(other)")),
+    ("sum: the hedge loss twice", COUNTS, LOSSES, LOSSES.replace("(hedge + other)", "(2 * hedge)")),
+    ("sum: the losses in 32 bits", COUNTS, LOSSES, LOSSES.replace("(hedge + other)", "(hedge + other) as i32")),
+    ("sum: begins anew at a ROUND", COUNTS, "            pool.reserve = reserve(number);\n", "            pool.reserve = reserve(number);\n            pool.prices = 0;\n"),
+    ("sum: PAY is in it", COUNTS, "        self.member[member].paid += amount;\n", "        self.member[member].paid += amount;\n        self.pool[0].prices += amount as i64;\n"),
+    ("sum: what a MOVE ends is in it", COUNTS, "        let still_owed = self.move_allocated(member, owed);\n", "        self.pool[0].prices += owed as i64;\n        let still_owed = self.move_allocated(member, owed);\n"),
+    ("sum: SALE adds one unit's price", COUNTS, SOLD_BY_AGREEMENT, SOLD_BY_AGREEMENT.replace("units as i64 * price", "price")),
+    ("sum: SALE takes the prices off", COUNTS, SOLD_BY_AGREEMENT, SOLD_BY_AGREEMENT.replace("+=", "-=")),
+    ("sum: SALE twice", COUNTS, SOLD_BY_AGREEMENT, SOLD_BY_AGREEMENT * 2),
+    ("sum: a declined SALE is in it", COUNTS, "            return 17;\n", "            self.pool[number].prices += units as i64 * price;\n            return 17;\n"),
+    ("sum: CLOSE forgets it", COUNTS, SOLD, ""),
+    ("sum: CLOSE adds the reserve instead of the bid's price", COUNTS, SOLD, SOLD.replace("bid.price", "self.pool[bid.pool].reserve")),
+    ("sum: CLOSE adds the units asked for", COUNTS, SOLD, SOLD.replace("units as", "bid.units as")),
+    ("sum: CLOSE adds one unit's price a bid", COUNTS, SOLD, SOLD.replace("units as i64 * bid.price", "i64::from(units > 0) * bid.price")),
+    ("sum: CLOSE adds what a bid is above the reserve", COUNTS, SOLD, SOLD.replace("bid.price", "(bid.price - self.pool[bid.pool].reserve)")),
+    ("sum: ALLOCATE adds all open units", COUNTS, ALLOCATED, ALLOCATED.replace("placed as i64", "(pool.open + placed) as i64")),
+    ("sum: ALLOCATE adds the whole shortfall", COUNTS, ALLOCATED, ALLOCATED.replace("placed as i64", "short as i64")),
+    ("sum: ALLOCATE twice", COUNTS, ALLOCATED, ALLOCATED * 2),
+    ("sum: ALLOCATE at the reserve", COUNTS, ALLOCATED, ALLOCATED.replace("* price", "* pool.reserve")),
+    ("sum: TEAR forgets it", COUNTS, BY_TEAR, BY_TEAR + "        self.pool[pool].prices -= units as i64 * price;\n"),
+    ("sum: TEAR twice", COUNTS, BY_TEAR, BY_TEAR + "        self.pool[pool].prices += units as i64 * price;\n"),
+    ("sum: TEAR adds one unit's price", COUNTS, BY_TEAR, BY_TEAR + "        self.pool[pool].prices -= (units - 1) as i64 * price;\n"),
+    ("sum: MOVE takes the old prices off twice", COUNTS, MOVED, MOVED * 2),
+    ("sum: MOVE takes the old prices off the wrong way", COUNTS, MOVED, MOVED.replace("+=", "-=")),
+    ("sum: MOVE takes off what was owed, not what was saved", COUNTS, MOVED, MOVED.replace("saved as i64", "saved.min(needed) as i64")),
+    ("sum: MOVE forgets allocated units", COUNTS,
+     "                self.pool[pool].allocated -= units;\n", "                self.pool[pool].allocated -= units;\n                self.pool[pool].prices += units as i64 * price;\n"),
+    ("sum: MOVE forgets sold units", COUNTS,
+     "            self.pool[pool].sold -= units;\n", "            self.pool[pool].sold -= units;\n            self.pool[pool].prices += units as i64 * price;\n"),
+    ("sum: MOVE forgets the member's own units", COUNTS,
+     "                self.pool[pool].allocated -= units;\n", "                self.pool[pool].allocated -= units;\n                if holder == to {\n                    self.pool[pool].prices += units as i64 * price;\n                }\n"),
+    ("sum: MISS takes the old prices off twice", COUNTS, GIVEN_BACK, GIVEN_BACK * 2),
+    ("sum: MISS takes an old price off for moved units too", COUNTS, GIVEN_BACK, GIVEN_BACK.replace("allocated[p] as i64", "(allocated[p] + moved[p]) as i64")),
+    ("sum: MISS forgets the moved units", COUNTS, BY_MISS, BY_MISS + "                self.pool[p].prices -= moved[p] as i64 * price;\n"),
+    ("sum: MISS forgets the allocated units", COUNTS, BY_MISS, BY_MISS + "                self.pool[p].prices -= allocated[p] as i64 * price;\n"),
+    ("sum: MISS twice", COUNTS, BY_MISS, BY_MISS + "                self.pool[p].prices += (allocated[p] + moved[p]) as i64 * price;\n"),
+    ("sum: MISS in stage A alone", COUNTS, BY_MISS, BY_MISS + "                if self.stage == Some(Stage::CallsOut) {\n                    self.pool[p].prices -= (allocated[p] + moved[p]) as i64 * price;\n                }\n"),
 ]
 
 # These show only in what the models can be asked, or are mistakes in the roll, which the texts are held to.
@@ -550,6 +623,39 @@ IN_HOLDINGS = [
     ("owes: the call after a MOVE", COUNTS, "        if member < MEMBERS { self.owed(member) } else { 0 }", "        if member < MEMBERS { self.member[member].call - self.member[member].paid } else { 0 }"),
     ("prefunded: all or none", COUNTS, "self.stage.map(|_| self.held_ready())", "self.stage.filter(|s| *s != Stage::Setup).map(|_| self.held_ready())"),
     ("a declined MOVE leaves a trace", COUNTS, "        if owed == 0 {\n            return 14;\n        }\n        let still", "        if owed == 0 {\n            self.least_bid = 1;\n            return 14;\n        }\n        let still"),
+    # The sums by pool and the reading
+    ("sum: open units at the reserve are in it", COUNTS, SUM, SUM.replace("pool.prices", "pool.prices + pool.open as i64 * pool.reserve")),
+    ("sum: open units at the last price are in it", COUNTS, SUM, SUM.replace("pool.prices", "pool.prices + pool.open as i64 * pool.allocated_price")),
+    ("sum: FINISH ends it", COUNTS, "        self.stage = Some(Stage::Finished);\n", "        self.stage = Some(Stage::Finished);\n        self.pool.iter_mut().for_each(|pool| pool.prices = 0);\n"),
+    ("sum: SALE in the first pool's", COUNTS, SOLD_BY_AGREEMENT, "", "        if !self.any_open() {\n            self.stage", "        self.pool[0].prices += units as i64 * price;\n        if !self.any_open() {\n            self.stage"),
+    ("sum: CLOSE in the first pool's", COUNTS, SOLD, SOLD.replace("[bid.pool]", "[0]")),
+    ("sum: CLOSE in the next pool's", COUNTS, SOLD, SOLD.replace("[bid.pool]", "[(bid.pool + 1) % POOLS]")),
+    ("sum: ALLOCATE in the first pool's", COUNTS, ALLOCATED, "        self.pool[0].prices += placed as i64 * price;\n"),
+    ("sum: TEAR and MISS in the first pool's", COUNTS, TORN, TORN.replace("[pool]", "[0]")),
+    ("sum: MOVE in the first pool's", COUNTS, MOVED, MOVED.replace("[pool]", "[0]")),
+    ("sum: MISS takes old prices off the first pool's", COUNTS, GIVEN_BACK, "            let back = allocated[p] as i64 * pool.allocated_price;\n            self.pool[0].prices -= back;\n"),
+    ("sum: of a pool above 3 that of the last", COUNTS, "self.pool.get(usize::from(pool)).map_or(0, |pool| pool.prices)", "self.pool[usize::from(pool).min(POOLS - 1)].prices"),
+    ("sum: of a pool that of all", COUNTS, "self.pool.get(usize::from(pool)).map_or(0, |pool| pool.prices)", "self.pool.get(usize::from(pool)).map_or(0, |_| self.prices())"),
+    ("sum: of a pool at least 0", COUNTS, "map_or(0, |pool| pool.prices)", "map_or(0, |pool| pool.prices.max(0))"),
+    ("sum: of a pool its loss", COUNTS, "map_or(0, |pool| pool.prices)", "map_or(0, |pool| -pool.prices)"),
+    ("sum: the roll's of a pool without torn units", ROLL, "filter(|entry| **entry != Entry::Open);", "filter(|entry| !matches!(entry, Entry::Open | Entry::Torn { .. }));"),
+    ("sum: the roll's of a pool without units sold by agreement", ROLL, "filter(|entry| **entry != Entry::Open);", "filter(|entry| !matches!(entry, Entry::Open | Entry::SoldByAgreement { .. }));"),
+    ("reading: 0 with no case", COUNTS, "None => (2, 0),", "None => (0, 0),"),
+    ("reading: 1 with no case", COUNTS, "None => (2, 0),", "None => (1, 0),"),
+    ("reading: the roll's 0 with no case", ROLL, "map_or((2, 0), |case|", "map_or((0, 0), |case|"),
+    ("reading: not held at 0", COUNTS, READ, READ.replace("self.required()", "(self.losses - self.prices()) as u64")),
+    ("reading: below 0 taken positive", COUNTS, READ, READ.replace("self.required()", "(self.losses - self.prices()).unsigned_abs()")),
+    ("reading: the roll's below 0 taken positive", ROLL, "(losses - self.sum_of_prices()).max(0) as u64", "(losses - self.sum_of_prices()).unsigned_abs()"),
+    ("reading: declined in stage S", COUNTS, READ, "            Some(Stage::Setup) => (2, 0),\n" + READ),
+    ("reading: declined while a round is open", COUNTS, READ, "            Some(Stage::Bidding(_)) => (2, 0),\n" + READ),
+    ("reading: declined after FINISH", COUNTS, READ, "            Some(Stage::Finished) => (2, 0),\n" + READ),
+    ("reading: 0 until a unit has left", COUNTS, READ, READ.replace("self.required()", "if self.pool.iter().all(|p| p.sold + p.allocated + p.moved + p.torn == 0) { 0 } else { self.required() }")),
+    ("reading: 0 while a unit is open", COUNTS, READ, READ.replace("self.required()", "if self.any_open() { 0 } else { self.required() }")),
+    ("reading: 0 where the sum is 0", COUNTS, READ, READ.replace("self.required()", "if self.prices() == 0 { 0 } else { self.required() }")),
+    ("reading: what is above prefunded", COUNTS, READ, READ.replace("self.required()", "self.required().saturating_sub(self.held_ready())")),
+    ("reading: without the losses", COUNTS, READ, READ.replace("self.required()", "u64::try_from(-self.prices()).unwrap_or(0)")),
+    ("reading: in 32 bits", COUNTS, READ, READ.replace("self.required()", "self.required() % (1 << 32)")),
+    ("reading: the losses alone", COUNTS, READ, READ.replace("self.required()", "self.losses as u64")),
 ]
 
 # These show only in the ranking, which no call shows: `rankings` of `linked` holds the proved one to it.

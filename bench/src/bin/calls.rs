@@ -1,8 +1,9 @@
 //! Each call of the largest case (4 pools of 1,000 units, 256 bids, 32 members), timed by itself: in the loop of `case::replay`, which takes it again and again from the
-//! case that the calls before it lead to, and in the model that holds counts, over ledgers that took the same calls. A word after the program's name picks the calls
-//! that have it in their names.
+//! case that the calls before it lead to, and in the model that holds counts, over ledgers that took the same calls. Then the question for the requirement (C-16) after some of
+//! these calls. A word after the program's name picks what has it in its name.
+use linked::ledger;
 use model::write::{self, Head};
-use model::{Counts, Ledger};
+use model::{Counts, Ledger, Roll};
 use std::hint::black_box;
 use std::time::Instant;
 
@@ -97,15 +98,15 @@ fn proved(before: &Strings, calls: &Strings, result: bool, numbers: &mut [u64]) 
     seconds() - start
 }
 
-fn counts(before: &Strings) -> Counts {
-    let mut ledger = Counts::default();
+fn after<L: Ledger + Default>(before: &Strings) -> L {
+    let mut ledger = L::default();
     before.each().for_each(|call| assert_eq!(ledger.call(call), 0, "a call before is declined"));
     ledger
 }
 
 /// The seconds by the clock that the model takes for the call, once in each of some ledgers: too short for other work to come between, or to be told by processor time.
 fn counted(before: &Strings, call: &[u8]) -> f64 {
-    let mut ledgers: Vec<Counts> = (0..LEDGERS).map(|_| counts(before)).collect();
+    let mut ledgers: Vec<Counts> = (0..LEDGERS).map(|_| after(before)).collect();
     let start = Instant::now();
     for ledger in &mut ledgers {
         black_box(ledger.call(black_box(call)));
@@ -127,12 +128,16 @@ fn expected(ledger: &mut Counts, call: &[u8], result: bool) -> (u8, u64) {
     (answer, number)
 }
 
+fn is_asked_for(name: &str) -> bool {
+    std::env::args().nth(1).is_none_or(|word| name.contains(&word))
+}
+
 /// Times a call; `most` is what it may take, in nanoseconds.
 fn time(name: &str, before: &Strings, call: &[u8], result: bool, most: f64) {
-    if std::env::args().nth(1).is_some_and(|word| !name.contains(&word)) {
+    if !is_asked_for(name) {
         return;
     }
-    let (answer, number) = expected(&mut counts(before), call, result);
+    let (answer, number) = expected(&mut after(before), call, result);
     let alone = (0..ROUNDS).map(|_| proved(before, &Strings::default(), result, &mut [])).fold(f64::MAX, f64::min);
     let mut times = 64;
     let mut calls = Strings::repeated(call, times);
@@ -153,12 +158,48 @@ fn time(name: &str, before: &Strings, call: &[u8], result: bool, most: f64) {
     );
 }
 
+/// The least nanoseconds of a question that is asked so many times in a round.
+fn least(times: usize, question: impl Fn() -> (u8, u64)) -> f64 {
+    let round = || {
+        let start = seconds();
+        for _ in 0..times {
+            black_box(question());
+        }
+        (seconds() - start) * 1e9 / times as f64
+    };
+    (0..ROUNDS).map(|_| round()).fold(f64::MAX, f64::min)
+}
+
+/// Times the question for the requirement after the calls. The exported function takes all of them again, and so does the model beside it; then come the model's
+/// reading by itself, from sums that are kept, and the roll's, which adds up all units.
+fn time_reading(name: &str, before: &Strings) {
+    if !is_asked_for(name) {
+        return;
+    }
+    let (counts, roll): (Counts, Roll) = (after(before), after(before));
+    let proved = || {
+        let read = ledger::requirement(black_box(&before.bytes), black_box(&before.ends));
+        (read.answer, read.cents)
+    };
+    assert_eq!((proved(), counts.reading()), (roll.reading(), roll.reading()), "{name}");
+    let ours = least(64, proved);
+    let theirs = least(64, || after::<Counts>(black_box(before)).reading());
+    let kept = least(100_000, || black_box(&counts).reading());
+    let added = least(64, || black_box(&roll).reading());
+    let mark = if ours <= QUESTION { "" } else { "  ABOVE" };
+    println!(
+        "{name:<34} {:>17} calls {ours:>10.0} ns {theirs:>8.0} ns   at most {QUESTION:>7.0}{mark}; read alone {kept:.0} ns, added up {added:.0} ns",
+        before.ends.len()
+    );
+}
+
 const DECLINED: f64 = 70.0;
 const SMALL: f64 = 300.0;
 const MIDDLE: f64 = 3_000.0;
 const CLOSE: f64 = 30_000.0;
 const MOVE: f64 = 100_000.0;
 const MOVE_ALL: f64 = 200_000.0;
+const QUESTION: f64 = 1_000_000.0;
 
 /// 128 bids of one unit over four pools and 40 prices below 0.
 fn bids() -> impl Iterator<Item = Vec<u8>> {
@@ -253,4 +294,9 @@ fn main() {
     time("ALLOCATE, nobody is short", &covered, &write::allocate(0, -5), false, DECLINED);
     let torn = covered.with((0..4).map(|pool| write::tear(pool, -5)));
     time("CALL, enough is prefunded", &torn, &write::call(), false, DECLINED);
+
+    time_reading("requirement, no case", &none);
+    time_reading("requirement, all set up", &set_up);
+    time_reading("requirement, 256 bids, all placed", &placed);
+    time_reading("requirement, 4,000 units moved", &called.with(one(write::move_units(3))));
 }

@@ -42,8 +42,8 @@ pub fn difference(calls: &[Vec<u8>], tally: &mut Tally) -> Option<ModelDifferenc
         if let Some(what) = observed_difference(&roll, &counts) {
             return differs(what);
         }
-        if counts.sum_of_prices() != counts.sum_of_prices_recounted() {
-            return differs("the running sum of prices is not that of the counts".to_string());
+        if let Some(what) = sum_difference(&roll, &counts) {
+            return differs(what);
         }
     }
     tally.inputs += 1;
@@ -68,16 +68,27 @@ fn observed_difference(roll: &Roll, counts: &Counts) -> Option<String> {
     compare!("pools given", pools_given());
     compare!("sum of prices", sum_of_prices());
     compare!("requirement", requirement());
+    compare!("reading", reading());
     compare!("prefunded", prefunded());
     compare!("result", result());
     for pool in 0..5 {
         compare!(&format!("counts of pool {pool}"), counts(pool));
+        compare!(&format!("sum of prices of pool {pool}"), prices_of(pool));
     }
     for member in 0..33 {
         compare!(&format!("what member {member} owes"), owes(member));
         compare!(&format!("holdings of member {member}"), holdings(member));
     }
     None
+}
+
+/// The running sum of each pool beside the same added up anew over the counts, and the pools' sums beside the one sum.
+fn sum_difference(roll: &Roll, counts: &Counts) -> Option<String> {
+    if let Some(pool) = (0..5).find(|&pool| counts.prices_of(pool) != counts.prices_recounted(pool)) {
+        return Some(format!("the running sum of pool {pool} is not that of the counts"));
+    }
+    let by_pool: i64 = (0..5).map(|pool| roll.prices_of(pool)).sum();
+    (by_pool != roll.sum_of_prices()).then(|| "the sums of the pools do not add up to the sum of prices".to_string())
 }
 
 /// Each member's holding in each pool at each price that has occurred.

@@ -4,6 +4,7 @@ mod itself;
 mod options;
 mod pairs;
 mod program;
+mod requirement;
 mod shrink;
 mod situations;
 mod tally;
@@ -52,7 +53,7 @@ fn main() -> ExitCode {
         return ExitCode::FAILURE;
     }
     if options.cover && missed.situations > 0 {
-        println!("FAILED: a situation with a withdrawn bid or a tie of remainders never came");
+        println!("FAILED: a situation with a withdrawn bid, a tie of remainders or the requirement never came");
         return ExitCode::FAILURE;
     }
     println!("no difference");

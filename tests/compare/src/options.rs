@@ -9,7 +9,7 @@ pub const USAGE: &str = "usage: compare --program PATH [--model roll|counts] | -
   --seed S         the first seed (1)
   --jobs J         lists compared at a time (2)
   --profile NAME   one profile alone
-  --cover          fail where a reachable pair of call and answer, or a situation with a withdrawn bid or a tie, is missed
+  --cover          fail where a reachable pair of call and answer, or a situation with a withdrawn bid, a tie or the requirement, is missed
   --cover-stages   fail where one is missed in a stage that reaches it
   --timeout S      seconds for one input (60)
   --any-status     let an exit status other than 0 pass";

@@ -1,6 +1,6 @@
-//! What lists with WITHDRAWs go through and where remainders tie, counted so that a run shows whether it compared what matters there.
+//! What lists with WITHDRAWs go through, where remainders tie and how the requirement moves, counted so that a run shows whether it compared what matters there.
 
-use crate::ties;
+use crate::{requirement, ties};
 use model::field::u16_at;
 use model::roll::Bid;
 use model::{Ledger, Roll, Stage, write};
@@ -50,15 +50,17 @@ pub fn of(calls: &[Vec<u8>]) -> Situations {
     let mut found = Situations::new();
     let mut roll = Roll::default();
     let mut fields = ties::Fields::default();
+    let mut sums = requirement::Sums::default();
     let mut opened = 0;
     for (call, bytes) in calls.iter().enumerate() {
         let splits = matches!(bytes.first(), Some(&(write::CLOSE | write::ALLOCATE | write::CALL | write::FINISH)));
-        // Only a call that splits is looked at from before.
-        let before = if splits { roll.clone() } else { Roll::default() };
+        // Only MISS and the calls that split are looked at from before.
+        let before = if splits || bytes.first() == Some(&write::MISS) { roll.clone() } else { Roll::default() };
         let stage = roll.stage();
         let answer = roll.call(bytes);
         if answer == 0 {
             fields.count(bytes, &before, &roll, &mut found);
+            sums.count(bytes, &before, &roll, &mut found);
         }
         if answer == 0 && bytes[0] == write::ROUND {
             opened = call;
@@ -77,6 +79,11 @@ pub fn of(calls: &[Vec<u8>]) -> Situations {
         names.into_iter().for_each(|name| *found.entry(name).or_default() += 1);
     }
     found
+}
+
+/// The names of what occurred.
+pub fn those_of(occurred: &[(&'static str, bool)]) -> Vec<&'static str> {
+    occurred.iter().filter(|(_, so)| *so).map(|(name, _)| *name).collect()
 }
 
 /// Why no standing bid of the member in the open round has the number.
@@ -112,7 +119,7 @@ fn at_close(roll: &Roll, round: u8, opened: usize, calls: &[Vec<u8>]) -> Vec<&'s
         withdrawn.iter().any(|&number| bids[number].pool == pool)
             && !standing.iter().any(|&number| bids[number].pool == pool)
     };
-    let occurred = [
+    those_of(&[
         (CLOSE_WITHOUT, true),
         (WOULD_HAVE_WON, withdrawn.iter().any(|&number| beside[number].won > 0)),
         (OTHERS_WIN_OTHERWISE, standing.iter().any(|&number| beside[number].won != bids[number].won)),
@@ -120,8 +127,7 @@ fn at_close(roll: &Roll, round: u8, opened: usize, calls: &[Vec<u8>]) -> Vec<&'s
         (NONE_IN_A_POOL, (0..4).any(emptied)),
         (SECOND_ROUND, round == 2),
         (AGAIN_BEHIND, withdrawn.iter().any(|&number| is_split_behind(bids, number, &standing))),
-    ];
-    occurred.into_iter().filter(|(_, so)| *so).map(|(name, _)| name).collect()
+    ])
 }
 
 /// The ledger after the calls, had no bid been withdrawn since the ROUND.

@@ -2,7 +2,7 @@
 
 use crate::pairs::{PLACES, Place, REACHABLE, UNKNOWN, UNREACHABLE, UNREACHABLE_IN, place_name, tag_name};
 use crate::situations::{self, Situations};
-use crate::ties;
+use crate::{requirement, ties};
 use std::collections::{BTreeMap, BTreeSet};
 
 #[derive(Default)]
@@ -35,7 +35,7 @@ impl Tally {
         self.calls += 1;
     }
 
-    /// Counts what a list goes through with WITHDRAWs, and where remainders tie.
+    /// Counts what a list goes through with WITHDRAWs, where remainders tie, and how the requirement moves.
     pub fn count_situations(&mut self, calls: &[Vec<u8>]) {
         self.add_situations(situations::of(calls));
     }
@@ -92,7 +92,11 @@ impl Tally {
         for name in ties::ALL {
             println!("  {name}: {}", count(name));
         }
-        let all = situations::TAKEN_BACK.into_iter().chain(ties::ALL);
+        println!("how the requirement moves:");
+        for name in requirement::ALL {
+            println!("  {name}: {}", count(name));
+        }
+        let all = situations::TAKEN_BACK.into_iter().chain(ties::ALL).chain(requirement::ALL);
         let missed: Vec<_> = all.filter(|name| count(name) == 0).collect();
         for name in &missed {
             println!("MISSED {name}");

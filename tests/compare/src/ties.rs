@@ -171,7 +171,8 @@ mod tests {
             member(0, first.0, [first.1, 0, 0, 0]),
             round(&[-9]),
         ];
-        of(&[&given, rest].concat()).into_keys().collect()
+        let found = of(&[&given, rest].concat()).into_keys();
+        found.filter(|name| ALL.contains(name)).collect()
     }
 
     #[test]

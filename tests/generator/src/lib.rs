@@ -6,6 +6,7 @@ mod odd;
 mod plan;
 mod profile;
 mod rng;
+mod run;
 mod suit;
 mod tie;
 mod ties;
@@ -16,6 +17,7 @@ mod writer;
 pub use describe::{describe, fields};
 pub use profile::Profile;
 pub use rng::Rng;
+pub use run::run;
 pub use tie::Tie;
 pub use ties::simple_part;
 pub use timing::{accepted, refused, timing};
@@ -27,12 +29,14 @@ pub fn profile_of(seed: u64) -> Profile {
     Profile::draw(&mut Rng::new(seed ^ 0x70726F66696C65))
 }
 
-/// Which calls of document 02 a list has among its own, and whether remainders are to tie in it.
+/// Which calls of document 02 a list has among its own, whether remainders are to tie in it, and whether members are missed who have
+/// both allocated and moved units.
 #[derive(Clone, Copy, Default)]
 struct Requests {
     sales: bool,
     withdrawals: bool,
     ties: bool,
+    misses_of_both: bool,
 }
 
 impl Requests {
@@ -42,6 +46,8 @@ impl Requests {
     const WITH_WITHDRAWALS: u64 = 40;
     /// Percent of the seeds in whose lists remainders are to tie.
     const WITH_TIES: u64 = 50;
+    /// Percent of the seeds in whose lists members are missed who have both allocated and moved units.
+    const WITH_MISSES_OF_BOTH: u64 = 50;
 
     /// Each is drawn by itself, so that the lists without what a request brings stay as they were.
     fn of(seed: u64) -> Requests {
@@ -49,6 +55,7 @@ impl Requests {
             sales: Rng::new(seed ^ 0x73616C6573).chance(Requests::WITH_SALES),
             withdrawals: Rng::new(seed ^ 0x7769746864726177).chance(Requests::WITH_WITHDRAWALS),
             ties: Rng::new(seed ^ 0x74696573).chance(Requests::WITH_TIES),
+            misses_of_both: Rng::new(seed ^ 0x6D6973736573).chance(Requests::WITH_MISSES_OF_BOTH),
         }
     }
 }

@@ -61,6 +61,8 @@ pub struct Plan {
     pub miss: u64,
     /// Percent of the debts that end by a MOVE.
     pub moves: u64,
+    /// Whether a member that has both allocated and moved units is mostly missed at once.
+    pub misses_of_both: bool,
     /// Whether SALE is among the calls of the list.
     pub has_sales: bool,
     /// The pools that are meant to be sold by agreement, as a set.
@@ -123,6 +125,7 @@ impl Plan {
             tear: rng.pick(&[5, 20]),
             miss: rng.pick(&[5, 20]),
             moves: rng.pick(&[20, 50, 80]),
+            misses_of_both: false,
             has_sales: false,
             to_sell: 0,
             sales: 0,

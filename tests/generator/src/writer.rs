@@ -41,6 +41,7 @@ impl Writer {
         if requests.ties {
             plan.suit_ties_of_remainders(&mut rng, profile);
         }
+        plan.misses_of_both = requests.misses_of_both;
         Writer {
             plan,
             rng,
@@ -431,10 +432,26 @@ impl Writer {
     /// False where no member holds a unit that MISS would tear.
     fn miss(&mut self) -> bool {
         let holders = self.holders();
+        self.miss_one_of(&holders)
+    }
+
+    /// False where no member has both allocated and moved units; else such a one is mostly missed.
+    fn miss_of_both(&mut self) -> bool {
+        let entries: Vec<Entry> = (0..4).flat_map(|pool| self.model.entries(pool)).copied().collect();
+        let is_allocated = |entry: &Entry, to: u8| matches!(entry, Entry::Allocated { member, .. } if *member == to);
+        let has_both = |of: u8| {
+            entries.contains(&Entry::Moved { member: of }) && entries.iter().any(|entry| is_allocated(entry, of))
+        };
+        let mut holders = self.holders();
+        holders.retain(|&(member, ..)| has_both(member));
+        !holders.is_empty() && self.rng.chance(80) && self.miss_one_of(&holders)
+    }
+
+    fn miss_one_of(&mut self, holders: &[(u8, i64, i64)]) -> bool {
         if holders.is_empty() {
             return false;
         }
-        let (member, units, prices) = self.rng.pick(&holders);
+        let (member, units, prices) = self.rng.pick(holders);
         let price = if self.rng.chance(50) {
             self.rng.pick(&self.plan.prices)
         } else {
@@ -480,6 +497,9 @@ impl Writer {
     fn collect(&mut self) {
         let mut owing = self.plan.members();
         owing.retain(|&member| self.model.owes(member) > 0);
+        if self.plan.misses_of_both && self.miss_of_both() {
+            return;
+        }
         if self.rng.chance(if owing.is_empty() { self.plan.miss } else { self.plan.miss / 3 }) && self.miss() {
             return;
         }

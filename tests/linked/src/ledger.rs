@@ -34,6 +34,14 @@ pub struct Printed {
     pub len: usize,
 }
 
+/// The answer of a reading and what it reads, in cents; `struct ledger_reading` of the header.
+#[repr(C)]
+#[derive(Clone, Copy, Debug, PartialEq, Eq)]
+pub struct Reading {
+    pub answer: u8,
+    pub cents: u64,
+}
+
 mod c {
     #[link(name = "exports", kind = "static")]
     unsafe extern "C" {
@@ -54,6 +62,8 @@ mod c {
             units: *mut u64,
             u: usize,
         );
+        pub fn ledger_requirement(bytes: *const u8, n: usize, ends: *const usize, e: usize) -> super::Reading;
+        pub fn ledger_pool_prices(bytes: *const u8, n: usize, ends: *const usize, e: usize, pool: u8) -> i64;
     }
 }
 
@@ -92,6 +102,30 @@ pub fn holdings(bytes: &[u8], ends: &[usize], members: &[u8], pools: &[u8], pric
     }
 }
 
+/// After the same calls, the requirement; answer 2 where there is no case.
+pub fn requirement(bytes: &[u8], ends: &[usize]) -> Reading {
+    unsafe { c::ledger_requirement(bytes.as_ptr(), bytes.len(), ends.as_ptr(), ends.len()) }
+}
+
+/// After the same calls, the running sum of a pool's prices in cents; 0 where there is no case or the pool is above 3.
+pub fn pool_prices(bytes: &[u8], ends: &[usize], pool: u8) -> i64 {
+    unsafe { c::ledger_pool_prices(bytes.as_ptr(), bytes.len(), ends.as_ptr(), ends.len(), pool) }
+}
+
+/// What is read after some calls: the requirement, and the running sums of pools 0 to 4, of which no case has the last.
+#[derive(Clone, Copy, Debug, PartialEq, Eq)]
+pub struct Readings {
+    pub requirement: Reading,
+    pub prices: [i64; 5],
+}
+
+impl Readings {
+    pub fn after(bytes: &[u8], ends: &[usize]) -> Readings {
+        let prices = std::array::from_fn(|pool| pool_prices(bytes, ends, pool as u8));
+        Readings { requirement: requirement(bytes, ends), prices }
+    }
+}
+
 /// A ledger over the proved functions: it keeps the bytes of the calls that were accepted, and what they lead to.
 #[derive(Clone, Debug, PartialEq, Eq)]
 pub struct Proved {
@@ -100,11 +134,19 @@ pub struct Proved {
     set: u32,
     prices: BTreeSet<i64>,
     shown: Shown,
+    readings: Readings,
 }
 
 impl Default for Proved {
     fn default() -> Proved {
-        Proved { bytes: Vec::new(), ends: Vec::new(), set: 0, prices: BTreeSet::from([0]), shown: calls(&[], &[], &mut []) }
+        Proved {
+            bytes: Vec::new(),
+            ends: Vec::new(),
+            set: 0,
+            prices: BTreeSet::from([0]),
+            shown: calls(&[], &[], &mut []),
+            readings: Readings::after(&[], &[]),
+        }
     }
 }
 
@@ -117,6 +159,11 @@ impl Proved {
     /// What is shown, number by number.
     pub fn shown(&self) -> &Shown {
         &self.shown
+    }
+
+    /// What is read of the requirement and of its sums.
+    pub fn readings(&self) -> &Readings {
+        &self.readings
     }
 
     /// Whether each bid kept stands, by its number.
@@ -165,6 +212,7 @@ impl Ledger for Proved {
         self.ends.push(self.bytes.len());
         let mut answers = vec![0xee; self.ends.len()];
         let shown = calls(&self.bytes, &self.ends, &mut answers);
+        let readings = Readings::after(&self.bytes, &self.ends);
         let answer = *answers.last().unwrap();
         assert!(answers[..answers.len() - 1].iter().all(|a| *a == 0), "a call that was accepted is declined: {answers:?}");
         if answer == 0 {
@@ -173,8 +221,10 @@ impl Ledger for Proved {
             }
             self.prices.extend(price_in(bytes));
             self.shown = shown;
+            self.readings = readings;
         } else {
             assert!(shown == self.shown, "a declined call left something changed");
+            assert_eq!(readings, self.readings, "a declined call changed what is read");
             self.bytes.truncate(before);
             self.ends.pop();
         }
@@ -214,8 +264,16 @@ impl Ledger for Proved {
         self.shown.prices
     }
 
+    fn prices_of(&self, pool: u8) -> i64 {
+        self.readings.prices.get(usize::from(pool)).copied().unwrap_or_else(|| pool_prices(&self.bytes, &self.ends, pool))
+    }
+
     fn requirement(&self) -> Option<u64> {
         self.shown.present.then_some(self.shown.requirement)
+    }
+
+    fn reading(&self) -> (u8, u64) {
+        (self.readings.requirement.answer, self.readings.requirement.cents)
     }
 
     fn prefunded(&self) -> Option<u64> {

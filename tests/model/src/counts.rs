@@ -1,6 +1,6 @@
 //! The ledger held as counts only: no list of units, and no call that sweeps over units.
 //!
-//! It is the speed baseline, and a second writing of document 01 and of C-12, C-14 and C-15 against which the roll is compared. Refusals are checked call by
+//! It is the speed baseline, and a second writing of document 01 and of C-12 and C-14 to C-16 against which the roll is compared. Refusals are checked call by
 //! call in the order of their numbers.
 
 use crate::auction::allot;
@@ -39,8 +39,6 @@ pub struct Counts {
     bids: Vec<Bid>,
     /// The numbers of the bids of the open round that were not withdrawn, in bid order.
     to_allot: Vec<usize>,
-    /// The sum of prices of all units not open.
-    prices: i64,
     /// Torn units by pool and price, in the order they were torn.
     torn: Vec<Torn>,
     /// Members with a call not yet paid or moved away.
@@ -58,6 +56,8 @@ struct Pool {
     allocated: u64,
     moved: u64,
     torn: u64,
+    /// C-16: "a running sum of the prices of units that have left the house (all that aren't open)"; it may be below 0.
+    prices: i64,
     /// ALLOCATE is accepted at most once in a pool, so all its allocated units have one price.
     allocated_price: i64,
     /// A pool that was sold by agreement was sold whole, to one member.
@@ -155,8 +155,14 @@ impl Counts {
         self.pool.iter().any(|pool| pool.open > 0)
     }
 
+    /// The running sums of the pools together.
+    fn prices(&self) -> i64 {
+        self.pool.iter().map(|pool| pool.prices).sum()
+    }
+
+    /// C-16: "The requirement is then read from this sum and the two losses alone".
     fn required(&self) -> u64 {
-        u64::try_from(self.losses - self.prices).unwrap_or(0)
+        u64::try_from(self.losses - self.prices()).unwrap_or(0)
     }
 
     fn held_ready(&self) -> u64 {
@@ -291,14 +297,14 @@ impl Counts {
             return 10;
         }
         // In stage S no unit has left but by agreement.
-        let prices = self.prices + units as i64 * price;
+        let prices = self.prices() + units as i64 * price;
         if self.losses - prices > (self.margin + self.fund) as i64 {
             return 17;
         }
-        self.prices = prices;
         let pool = &mut self.pool[number];
         pool.open = 0;
         pool.sold = units;
+        pool.prices += units as i64 * price;
         pool.agreed = Some(Agreed { member, price, units });
         if !self.any_open() {
             self.stage = Some(Stage::After(1));
@@ -380,7 +386,7 @@ impl Counts {
         self.member[bid.member].won[bid.pool] += units;
         self.pool[bid.pool].open -= units;
         self.pool[bid.pool].sold += units;
-        self.prices += units as i64 * bid.price;
+        self.pool[bid.pool].prices += units as i64 * bid.price;
     }
 
     /// What each member of the set is short of in the pool, in member order.
@@ -424,7 +430,7 @@ impl Counts {
         pool.open -= placed;
         pool.allocated += placed;
         pool.allocated_price = price;
-        self.prices += placed as i64 * price;
+        pool.prices += placed as i64 * price;
         0
     }
 
@@ -450,7 +456,7 @@ impl Counts {
     /// Enters units as torn, once they are taken from where they stood.
     fn tear_units(&mut self, pool: usize, price: i64, units: u64) {
         self.pool[pool].torn += units;
-        self.prices += units as i64 * price;
+        self.pool[pool].prices += units as i64 * price;
         self.torn.push(Torn { pool, price, units });
     }
 
@@ -551,7 +557,7 @@ impl Counts {
         let saved = units * price.unsigned_abs();
         self.member[to].moved[pool] += units;
         self.pool[pool].moved += units;
-        self.prices += saved as i64;
+        self.pool[pool].prices += saved as i64;
         needed.saturating_sub(saved)
     }
 
@@ -574,7 +580,7 @@ impl Counts {
             let pool = &mut self.pool[p];
             pool.allocated -= allocated[p];
             pool.moved -= moved[p];
-            self.prices -= allocated[p] as i64 * pool.allocated_price;
+            pool.prices -= allocated[p] as i64 * pool.allocated_price;
             if allocated[p] + moved[p] > 0 {
                 self.tear_units(p, price, allocated[p] + moved[p]);
             }
@@ -658,13 +664,18 @@ impl Counts {
         outcome
     }
 
-    /// The sum of prices counted anew, to hold the running one against.
-    pub fn sum_of_prices_recounted(&self) -> i64 {
-        let sold: i64 = self.bids.iter().map(|b| b.sold as i64 * b.price).sum();
-        let allocated = |p: &Pool| p.allocated as i64 * p.allocated_price;
-        let allocated: i64 = self.pool.iter().map(allocated).sum();
-        let torn: i64 = self.torn.iter().map(|t| t.units as i64 * t.price).sum();
-        let agreed: i64 = self.pool.iter().filter_map(|p| p.agreed).map(|a| a.units as i64 * a.price).sum();
+    /// The sum of a pool's prices counted anew, to hold the running one against.
+    pub fn prices_recounted(&self, number: u8) -> i64 {
+        let number = usize::from(number);
+        let Some(pool) = self.pool.get(number) else {
+            return 0;
+        };
+        let bids = self.bids.iter().filter(|b| b.pool == number);
+        let sold: i64 = bids.map(|b| b.sold as i64 * b.price).sum();
+        let allocated = pool.allocated as i64 * pool.allocated_price;
+        let lots = self.torn.iter().filter(|t| t.pool == number);
+        let torn: i64 = lots.map(|t| t.units as i64 * t.price).sum();
+        let agreed = pool.agreed.map_or(0, |a| a.units as i64 * a.price);
         sold + allocated + torn + agreed
     }
 }
@@ -795,11 +806,23 @@ impl Ledger for Counts {
     }
 
     fn sum_of_prices(&self) -> i64 {
-        self.prices
+        self.prices()
+    }
+
+    fn prices_of(&self, pool: u8) -> i64 {
+        self.pool.get(usize::from(pool)).map_or(0, |pool| pool.prices)
     }
 
     fn requirement(&self) -> Option<u64> {
         self.stage.map(|_| self.required())
+    }
+
+    /// C-16: "with no case the reading is declined by 2".
+    fn reading(&self) -> (u8, u64) {
+        match self.stage {
+            None => (2, 0),
+            Some(_) => (0, self.required()),
+        }
     }
 
     fn prefunded(&self) -> Option<u64> {

@@ -53,8 +53,14 @@ pub trait Ledger {
     /// "the sum of prices of the units not open"
     fn sum_of_prices(&self) -> i64;
 
+    /// The same of one pool, 0 for a pool not given; C-16: "the prices of units that have left the house (all that aren't open)".
+    fn prices_of(&self, pool: u8) -> i64;
+
     /// None before HEAD.
     fn requirement(&self) -> Option<u64>;
+
+    /// The answer and the requirement; C-16: "with no case the reading is declined by 2", and it then reads 0.
+    fn reading(&self) -> (u8, u64);
 
     /// None before HEAD; a member not given yet adds nothing.
     fn prefunded(&self) -> Option<u64>;

@@ -1,4 +1,4 @@
-//! A model of document 01, written from the paper alone: splitting, the auction, the ledger twice, and the program's text; and of C-11 to C-15 of document 02.
+//! A model of document 01, written from the paper alone: splitting, the auction, the ledger twice, and the program's text; and of C-11 to C-16 of document 02.
 
 pub mod auction;
 pub mod counts;

@@ -1,4 +1,4 @@
-//! The ledger as an explicit unit roll, one entry a unit, by the letter of document 01 and C-12, C-14 and C-15 of document 02, and as plain as it can be.
+//! The ledger as an explicit unit roll, one entry a unit, by the letter of document 01 and C-12 and C-14 to C-16 of document 02, and as plain as it can be.
 //!
 //! This is the model to believe: above each function stands the sentence that it follows. It uses no code of `split`, `auction`
 //! or `counts`.
@@ -672,6 +672,13 @@ impl Case {
         all.map(|&entry| price_of(entry, &self.bids)).sum()
     }
 
+    /// C-16: "the prices of units that have left the house (all that aren't open)", of one pool.
+    fn prices_of(&self, pool: u8) -> i64 {
+        let entries = self.roll.get(usize::from(pool)).into_iter().flatten();
+        let left = entries.filter(|entry| **entry != Entry::Open);
+        left.map(|&entry| price_of(entry, &self.bids)).sum()
+    }
+
     /// "Requirement: hedge loss + other loss − the prices of all units not open, at least 0."
     fn requirement(&self) -> u64 {
         let losses = i64::from(self.head.hedge_loss) + i64::from(self.head.other_loss);
@@ -931,8 +938,18 @@ impl Ledger for Roll {
         self.case.as_ref().map_or(0, Case::sum_of_prices)
     }
 
+    fn prices_of(&self, pool: u8) -> i64 {
+        self.case.as_ref().map_or(0, |case| case.prices_of(pool))
+    }
+
     fn requirement(&self) -> Option<u64> {
         self.case.as_ref().map(Case::requirement)
+    }
+
+    /// C-16: "with no case the reading is declined by 2. After any list of calls that begins with no case and makes one, the reading
+    /// equals the full addition over the roll."
+    fn reading(&self) -> (u8, u64) {
+        self.case.as_ref().map_or((2, 0), |case| (0, case.requirement()))
     }
 
     fn prefunded(&self) -> Option<u64> {

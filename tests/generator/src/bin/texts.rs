@@ -2,11 +2,9 @@
 //! fields, and those written as text again, and compares both. Then bad texts: the program must write the fields of the lines before the bad one and then a field
 //! that is cut off, name the line and the column on standard error, and end; nothing behind the bad line is told or written.
 
-use generator::{Rng, calls, profile_of};
+use generator::{Rng, calls, profile_of, run};
 use model::write;
-use std::io::Write;
-use std::process::{Command, ExitCode, Output, Stdio};
-use std::thread;
+use std::process::ExitCode;
 
 /// The lengths that a call's value can have, by its tag; ROUND has four.
 fn is_call(field: &[u8]) -> bool {
@@ -29,23 +27,6 @@ fn is_call(field: &[u8]) -> bool {
     lengths.contains(&(field.len() - 3)) && usize::from(u16::from_be_bytes([field[1], field[2]])) == field.len() - 3
 }
 
-fn run(program: &str, argument: Option<&str>, input: Vec<u8>) -> Output {
-    let mut child = Command::new(program)
-        .args(argument)
-        .stdin(Stdio::piped())
-        .stdout(Stdio::piped())
-        .stderr(Stdio::piped())
-        .spawn()
-        .expect("the program is built");
-    let mut to = child.stdin.take().expect("it is piped");
-    let writer = thread::spawn(move || {
-        let _ = to.write_all(&input);
-    });
-    let output = child.wait_with_output().expect("it ends");
-    writer.join().expect("the writer ends");
-    output
-}
-
 fn main() -> ExitCode {
     let arguments: Vec<String> = std::env::args().skip(1).collect();
     let [program, count] = &arguments[..] else {
@@ -61,9 +42,9 @@ fn main() -> ExitCode {
     }
     wanted.truncate(count);
     let bytes = wanted.concat();
-    let text = run(program, Some("--text"), bytes.clone());
-    let again = run(program, None, text.stdout.clone());
-    let twice = run(program, Some("--text"), again.stdout.clone());
+    let text = run(program, &["--text"], bytes.clone());
+    let again = run(program, &[], text.stdout.clone());
+    let twice = run(program, &["--text"], again.stdout.clone());
     let lines = text.stdout.iter().filter(|&&byte| byte == b'\n').count();
     if !text.status.success()
         || again.stdout != bytes
@@ -194,9 +175,9 @@ fn main() -> ExitCode {
     for (line, column, reason, input) in bad {
         let before: Vec<u8> = input.split_inclusive(|&byte| byte == b'\n').take(line - 1).flatten().copied().collect();
         let message = format!("line {line} column {column}: {reason}");
-        let fields = run(program, None, before);
+        let fields = run(program, &[], before);
         let wanted = [&fields.stdout[..], b"\x00\xff\xff", message.as_bytes()].concat();
-        let output = run(program, None, input);
+        let output = run(program, &[], input);
         let told = String::from_utf8_lossy(&output.stderr).into_owned();
         if !fields.stderr.is_empty()
             || output.status.code().is_none()
@@ -211,8 +192,8 @@ fn main() -> ExitCode {
     // a space or a tab may stand behind a comma, between words and at a line's ends
     let spaced = b"\tHEAD  pools 1 least 1 members 0, 1,\t2 hedge 0.00 other 0.00 margin 0.20 fund 0.10 house 0.50 \r\nmember member 0 contribution 1.00 expected 4, 0,0,  0 # all\r\n sale\tpool 0 Member  1 price -12.00\t\n\twithdraw  member 1\tBid  65535 # the last\r\nround reserves -0.30, -0.20";
     let plain = b"HEAD pools 1 least 1 members 0,1,2 hedge 0.00 other 0.00 margin 0.20 fund 0.10 house 0.50\nMEMBER member 0 contribution 1.00 expected 4,0,0,0\nSALE pool 0 member 1 price -12.00\nWITHDRAW member 1 bid 65535\nROUND reserves -0.30,-0.20\n";
-    let spaced = run(program, None, spaced.to_vec());
-    let plain = run(program, None, plain.to_vec());
+    let spaced = run(program, &[], spaced.to_vec());
+    let plain = run(program, &[], plain.to_vec());
     if spaced.stdout.len() != 72 || spaced.stdout != plain.stdout || !spaced.stderr.is_empty() {
         println!(
             "FAILED: spaces: {} bytes on standard output, message {:?}",
@@ -222,16 +203,16 @@ fn main() -> ExitCode {
         return ExitCode::FAILURE;
     }
     println!("spaces and tabs behind commas and between words are taken in all lists");
-    let written = run(program, Some("--text"), write::sale(0, 1, -1200)).stdout;
+    let written = run(program, &["--text"], write::sale(0, 1, -1200)).stdout;
     if written != b"SALE pool 0 member 1 price -12.00\n" {
         println!("FAILED: a SALE in words: {:?}", String::from_utf8_lossy(&written));
         return ExitCode::FAILURE;
     }
     println!("a SALE is written with pool, member and price");
     let withdrawn = [write::withdraw(1, 3), write::withdraw(0, 0), write::withdraw(255, 65_535)].concat();
-    let written = run(program, Some("--text"), withdrawn.clone()).stdout;
+    let written = run(program, &["--text"], withdrawn.clone()).stdout;
     let wanted = b"WITHDRAW member 1 bid 3\nWITHDRAW member 0 bid 0\nWITHDRAW member 255 bid 65535\n";
-    if written != wanted || run(program, None, written.clone()).stdout != withdrawn {
+    if written != wanted || run(program, &[], written.clone()).stdout != withdrawn {
         println!("FAILED: WITHDRAWs in words: {:?}", String::from_utf8_lossy(&written));
         return ExitCode::FAILURE;
     }
@@ -240,7 +221,7 @@ fn main() -> ExitCode {
     for (length, lines) in [(29, 1), (30, 2), (61, 2), (62, 3)] {
         let mut field = vec![77, 0, length];
         field.resize(usize::from(length) + 3, 0);
-        let text = run(program, Some("--text"), field).stdout;
+        let text = run(program, &["--text"], field).stdout;
         let text = String::from_utf8_lossy(&text).into_owned();
         if text.lines().count() != lines || text.lines().any(|line| line == "#") {
             println!("FAILED: a comment of {} bytes: {text:?}", length + 3);

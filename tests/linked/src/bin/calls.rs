@@ -1,9 +1,9 @@
 //! `calls [N [SEED]]`: the proved ledger against the roll's model, call by call, on N generated lists (2,000) from consecutive seeds, among
 //! them byte strings that are not one field; then the same lists at once, cut by ends that are out of order, and whole inputs with their text.
-//! Over 1,000 lists or more it fails where an answer of SALE or WITHDRAW or a situation after one never came.
+//! Over 1,000 lists or more it fails where an answer of SALE or WITHDRAW, a situation after one or a reading of the requirement never came.
 use generator::{calls, input, profile_of};
 use linked::Random;
-use linked::ledger::{self, Proved};
+use linked::ledger::{self, Proved, Readings};
 use linked::tally::tell;
 use model::roll::Bid;
 use model::{Ledger, Roll, Stage, field, write};
@@ -71,6 +71,14 @@ fn compare(proved: &Proved, roll: &Roll, at: &str) {
     assert_eq!(proved.result(), roll.result(), "result {at}");
 }
 
+/// The requirement and its running sums beside the full addition over the roll. A declined call left the same to be read, as `Proved` has seen.
+fn compare_readings(proved: &Proved, roll: &Roll, at: &str) {
+    assert_eq!(proved.reading(), roll.reading(), "reading {at}");
+    for pool in [0, 1, 2, 3, 4] {
+        assert_eq!(proved.prices_of(pool), roll.prices_of(pool), "sum of pool {pool} {at}");
+    }
+}
+
 /// The holdings of every member at every price that has occurred, and some where nothing can be held. Answers how many were asked.
 fn compare_holdings(proved: &Proved, roll: &Roll, members: &[u8], at: &str) -> u64 {
     let mut asked = Vec::new();
@@ -118,6 +126,39 @@ struct Tally {
     closed_without: u64,
     places_taken: u64,
     of_old_round: u64,
+    read: Read,
+}
+
+/// Calls by what was read after them.
+#[derive(Default)]
+struct Read {
+    /// With no case.
+    declined: u64,
+    /// Held at 0 while the sum of prices is above the losses, and above 0 in a case where it was held.
+    at_0: u64,
+    above_0_again: u64,
+    /// Another than before the call.
+    rose: u64,
+    fell: u64,
+    /// After a call that was declined, with a sum of prices that is not 0.
+    unchanged: u64,
+    /// A sum that is not 0 of a pool other than pool 0.
+    of_other_pools: u64,
+}
+
+impl Read {
+    /// Counts what is read after a call, with the requirement before it, the losses of HEAD and whether the requirement was held at 0 before.
+    fn count(&mut self, answer: u8, roll: &Roll, before: Option<u64>, losses: i64, was_held: bool) {
+        let after = roll.requirement();
+        let sum = roll.sum_of_prices();
+        self.declined += u64::from(after.is_none());
+        self.at_0 += u64::from(after.is_some() && sum > losses);
+        self.above_0_again += u64::from(was_held && after > Some(0));
+        self.rose += u64::from(before.is_some() && after > before);
+        self.fell += u64::from(after < before);
+        self.unchanged += u64::from(answer != 0 && sum != 0);
+        self.of_other_pools += u64::from((1..4).any(|pool| roll.prices_of(pool) != 0));
+    }
 }
 
 impl Tally {
@@ -171,6 +212,13 @@ impl Tally {
             ("CLOSE of a round with a withdrawn bid", self.closed_without),
             ("BID 7 with a withdrawn bid among the 256", self.places_taken),
             ("WITHDRAW 18 of a bid of the first round", self.of_old_round),
+            ("requirement read with no case", self.read.declined),
+            ("requirement held at 0", self.read.at_0),
+            ("requirement above 0 after that", self.read.above_0_again),
+            ("requirement that rose", self.read.rose),
+            ("requirement that fell", self.read.fell),
+            ("requirement read after a declined call, units having left", self.read.unchanged),
+            ("sum of pools 1 to 3 that is not 0", self.read.of_other_pools),
         ] {
             all.push((what.to_string(), count));
         }
@@ -184,12 +232,21 @@ fn compare_list(seed: u64, list: &[Vec<u8>], tally: &mut Tally) {
     let mut members = Vec::new();
     let mut answers = Vec::new();
     let (mut had_round, mut had_sale) = (false, false);
+    let (mut losses, mut was_held) = (0, false);
+    compare_readings(&proved, &roll, &format!("before the first call of seed {seed}"));
     for (k, call) in list.iter().enumerate() {
         let at = format!("after call {k} of seed {seed}: {call:02x?}");
         let before = roll.stage();
+        let required = roll.requirement();
         let answer = roll.call(call);
         assert_eq!(proved.call(call), answer, "answer {at}");
         answers.push(answer);
+        compare_readings(&proved, &roll, &at);
+        if before.is_none() && answer == 0 {
+            losses = i64::from(field::u32_at(call, 10)) + i64::from(field::u32_at(call, 14));
+        }
+        tally.read.count(answer, &roll, required, losses, was_held);
+        was_held |= roll.sum_of_prices() > losses;
         tally.count(call.first().copied(), answer, before, had_round, had_sale);
         tally.count_withdrawals(call, answer, before, roll.bids());
         if answer != 0 {
@@ -233,6 +290,10 @@ fn at_once(seed: u64, list: &[Vec<u8>], answers: &[u8], proved: &Proved) {
         assert_eq!(written[..both], answers[..both], "the answers of seed {seed} at once");
         assert!(written[both..].iter().all(|b| *b == 0xee), "room past the answers of seed {seed}");
     }
+    assert_eq!(&Readings::after(&bytes, &ends), proved.readings(), "what is read at the end of seed {seed}");
+    for pool in [5, 127, 128, 255] {
+        assert_eq!(ledger::pool_prices(&bytes, &ends, pool), 0, "the sum of a pool {pool} at the end of seed {seed}");
+    }
 }
 
 /// Strings cut by ends that are out of order or past the bytes: each is held to the last end and to the number of bytes.
@@ -268,6 +329,9 @@ fn compare_cut(seed: u64, list: &[Vec<u8>]) {
     let shown = ledger::calls(&bytes, &ends, &mut written);
     assert_eq!(written, expected, "strings cut at {ends:?} of seed {seed}");
     assert_eq!((shown.present, shown.prices), (roll.stage().is_some(), roll.sum_of_prices()), "strings cut at {ends:?} of seed {seed}");
+    let read = Readings::after(&bytes, &ends);
+    let wanted = (roll.reading(), [0, 1, 2, 3, 4].map(|pool| roll.prices_of(pool)));
+    assert_eq!(((read.requirement.answer, read.requirement.cents), read.prices), wanted, "strings cut at {ends:?} of seed {seed}");
 }
 
 /// A whole input, its fields answered in turn.
