@@ -11,7 +11,7 @@ fn read_words() -> Question {
     }
     let mut word = [0u8; 16];
     let n = os::arg(1, &mut word);
-    asking::question(count - 1, &word[..n])
+    asking::question_of(count - 1, &word[..n])
 }
 
 fn main() {

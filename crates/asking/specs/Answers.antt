@@ -10,8 +10,8 @@ use Rattle.lists.specs.Lists.{if_then_else_}
 use Rattle.machine.specs.Printed.{decimal}
 use Rattle.input.specs.Fields.{rest}
 use Rattle.case.specs.declared.Held.{Held}
-use Rattle.case.specs.declared.Reading.{Reading}
-use Rattle.case.specs.Readings.{readingIn}
+use Rattle.asking.specs.declared.Reading.{Reading}
+use Rattle.asking.specs.Temp.{readingIn}
 use Rattle.case.specs.Input.{HeldAfter}
 use Rattle.spelling.specs.Text.{moneyText}
 use Rattle.feed.specs.Feeds.{Fed}
@@ -53,9 +53,13 @@ requirementText cents = (requirementWord ++ (32 ∷ [])) ++ (moneyText cents ++ 
 unfoldable pub sentence : ℕ → List ℕ
 sentence n = if eqb n 2 then noCase else []
 
+-- "ask: refused 2: "
+unfoldable pub refusedBy : ℕ → List ℕ
+refusedBy n = refusedWords ++ (decimal 20 n ++ (58 ∷ 32 ∷ []))
+
 -- "ask: refused 2: there is no case"
 unfoldable pub refusalText : ℕ → List ℕ
-refusalText n = refusedWords ++ (decimal 20 n ++ ((58 ∷ 32 ∷ []) ++ (sentence n ++ (10 ∷ []))))
+refusalText n = refusedBy n ++ (sentence n ++ (10 ∷ []))
 
 -- ---- what is said
 

@@ -1,2 +1,3 @@
+pub mod Temp
 pub mod Questions
 pub mod Answers
