@@ -77,6 +77,20 @@ struct ledger_shown ledger_calls(const uint8_t *bytes, size_t bytes_len, const s
 void ledger_holdings(const uint8_t *bytes, size_t bytes_len, const size_t *ends, size_t ends_len, const uint8_t *members, size_t members_len,
                      const uint8_t *pools, size_t pools_len, const uint32_t *prices, size_t prices_len, uint64_t *units, size_t units_len);
 
+/* What is read of the requirement: 0 and its cents, or 2 and 0 where there is no case. */
+struct ledger_reading {
+    uint8_t answer;
+    uint64_t cents;
+};
+
+/* After the same calls: the requirement (document 02, C-16), hedge loss + other loss less the sum of the prices of the units that have left the house, at least 0.
+ * It is read from running sums, to which each call adds what it changes; nothing is added up over the units. */
+struct ledger_reading ledger_requirement(const uint8_t *bytes, size_t bytes_len, const size_t *ends, size_t ends_len);
+
+/* After the same calls: the running sum of a pool, the prices of its units that have left the house, in cents; it is below 0 where the house paid. The sums of pools
+ * 0 to 3 add up to `prices` of ledger_calls. It is 0 where there is no case, and for a pool that the case lacks. */
+int64_t ledger_pool_prices(const uint8_t *bytes, size_t bytes_len, const size_t *ends, size_t ends_len, uint8_t pool);
+
 /* ---- The program. `rt staticlib stream` writes libstream.a, which has this, and needs the kit's C code of `os` (libos_c.a). */
 
 /* Runs the program `ledger` from standard input to standard output, and says whether the input ended and all was written; a C program can end with that as

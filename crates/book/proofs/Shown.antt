@@ -26,10 +26,12 @@ use Rattle.machine.specs.Calls.{totalShortfall, sold}
 use Rattle.machine.specs.Refusals.{nonePassed, someoneOwes, saleTooDear}
 use Rattle.machine.specs.Result.{payments}
 use Rattle.machine.specs.Run.{sumOfPrices}
+use Rattle.machine.specs.Running.{leftPrices, leftSum}
 use Rattle.machine.proofs.Invariant.{CaseOk}
 use Rattle.machine.proofs.Bounds.{entry-pools, bid-ok, outside-nothing, won-by-member-small}
 use Rattle.machine.proofs.Selling.{setup-prices, sale-adds}
-use Rattle.units.specs.Shown.{openOf, agreedOf, soldOf, zeroPrices}
+use Rattle.units.specs.Steps.{zeroSum}
+use Rattle.units.specs.Shown.{openOf, agreedOf, soldOf, sumOf, zeroPrices}
 use Rattle.units.proofs.Kept as K
 use Rattle.units.proofs.Shown as T
 use Rattle.units.proofs.Read.{Listed, passed-read}
@@ -124,7 +126,15 @@ module _ (stage : Stage) (b : Book) (roll : List Entry) (w : Sound stage b roll)
       (λ l. omega (arith, held, adds .many, adds .sums))
       (λ l. omega (arith, held, adds .many, adds .sums)))
 
-  -- in cents
+  -- in cents, by pool and in all
+  pub pool-sum-shown : (pool : ℕ) → subℕ (sumOf (b .units) pool) zeroSum ≡ leftSum (viewOf stage b roll) pool
+  unfolding leftSum
+  pool-sum-shown pool =
+      let ps = leftPrices (c .bids) roll pool in
+      sub-same (sumOf (b .units) pool) zeroSum (sum ps) (zeroPrice * length ps)
+      (omega (arith, T.pool-prices-shown (b .units) (c .bids) roll (w .units .kept) pools-below pool))
+      ∙ sym (sum-cents ps)
+
   pub sum-of-prices-shown : subℕ (pricesIn b) zeroPrices ≡ sumOfPrices (viewOf stage b roll)
   unfolding sumOfPrices
   sum-of-prices-shown =

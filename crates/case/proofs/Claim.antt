@@ -17,7 +17,9 @@ use Rattle.machine.specs.State as M
 use Rattle.machine.specs.Calls.{accepted}
 use Rattle.machine.specs.Refusals.{tests, refusal}
 use Rattle.machine.specs.Machine.{answered, step}
+use Rattle.machine.specs.Requirement.{requirement}
 use Rattle.machine.specs.Run.{Observed, observed, runFrom, observedFrom, run}
+use Rattle.machine.specs.Running.{leftSum}
 use Rattle.machine.specs.Printed.{fieldsIn}
 use Rattle.machine.proofs.Answers.{accepted-passed}
 use Rattle.machine.proofs.Invariant.{CaseOk}
@@ -29,12 +31,17 @@ use Rattle.case.specs.declared.Held.{Held}
 use Rattle.case.specs.declared.Ran.{Ran}
 use Rattle.case.specs.View.{view}
 use Rattle.case.specs.Cases.{caseAfter, caseAnswerTo, firstAnswerTo, answerTo, afterAsked, takeAsked, applied, noHeld}
-use Rattle.case.specs.Readings.{seen}
+use Rattle.case.specs.Readings.{poolPricesIn, readingIn, seen}
 use Rattle.case.specs.Claim.{Read, Agrees, ledgerFrom}
 use Rattle.case.specs.Input.{Runs, ledgerAfter, ledgerAnswers}
 use Rattle.case.proofs.Steps.{next-shown, head-shown}
 use Rattle.case.proofs.Decoded.{AllRead, read-fits, decoded-read, answer-shown, first-shown}
-use Rattle.case.proofs.Observations.{case-observed, none-observed}
+use Rattle.case.proofs.Observations.{pool-sum-read, requirement-read, case-observed, none-observed, none-left, none-read}
+
+-- the answer and the cents that are read of the machine's requirement
+abbrev pub requirementOf : M.State → ℕ × ℕ
+requirementOf none = (2, 0)
+requirementOf (some c) = (0, requirement c)
 
 -- ---- what is held, and the machine's state
 
@@ -136,6 +143,18 @@ pub seen-observed : (n : ℕ) (h : Held) (s : M.State) → Tied h s → seen n h
 seen-observed n h none t = none-observed n h t
 seen-observed n h (some c) t =
     with-case h (λ s. seen n h ≡ observed n s) (λ x u. case-observed (h .case) (x .roll) (u .sound) (u .ok) n h (u .present) refl) c t
+
+-- ---- the running sums, and the requirement that is read
+
+pub sums-seen : (h : Held) (s : M.State) → Tied h s → (pool : ℕ) → poolPricesIn h pool ≡ leftSum (M.theCase s) pool
+sums-seen h none t pool = none-left h t pool
+sums-seen h (some c) t pool =
+    with-case h (λ s. poolPricesIn h pool ≡ leftSum (M.theCase s) pool) (λ x u. pool-sum-read (h .case) (x .roll) (u .sound) (u .ok) h (u .present) refl pool) c t
+
+pub requirement-seen : (h : Held) (s : M.State) → Tied h s → _≡_ {A = ℕ × ℕ} (readingIn h .answer, readingIn h .cents) (requirementOf s)
+requirement-seen h none t = none-read h t
+requirement-seen h (some c) t =
+    with-case h (λ s. _≡_ {A = ℕ × ℕ} (readingIn h .answer, readingIn h .cents) (requirementOf s)) (λ x u. requirement-read (h .case) (x .roll) (u .sound) (u .ok) h (u .present) refl) c t
 
 -- ---- every list of calls
 

@@ -14,6 +14,7 @@ use Rattle.machine.specs.State as M
 use Rattle.machine.specs.Machine.{answered}
 use Rattle.machine.specs.Result.{limits, charge, spent}
 use Rattle.machine.specs.Run.{Observed, observed, fiveCounts, resultOf, runFrom}
+use Rattle.machine.specs.Running.{nothingKept, keptFrom, reading}
 use Rattle.machine.proofs.Claims as C
 use Rattle.machine.proofs.Finish as F
 use Rattle.wire.specs.Asked.{headOf}
@@ -22,10 +23,10 @@ use Rattle.units.proofs.Shown as U
 use Rattle.case.specs.declared.Held.{Held}
 use Rattle.case.specs.declared.Case.{Case}
 use Rattle.case.specs.Cases.{applied, noHeld, caseAnswerTo, answerTo, firstAnswerTo, firstAnswer, afterAsked, caseAfter, takeAsked, headOutcome, outcomeOf}
-use Rattle.case.specs.Readings.{seen}
+use Rattle.case.specs.Readings.{readingIn, seen}
 use Rattle.case.specs.Input.{ledgerAfter}
-use Rattle.case.specs.Claim.{AnswersFirst, OneOfFive, MethodsAgree, HeadAgrees, KeepsSales, KeepsBids, Covers, Finished, Claim}
-use Rattle.case.proofs.Claim.{Holds, taken, takes, none-tied, seen-observed, agrees, ledger-tied, ledger-shows}
+use Rattle.case.specs.Claim.{AnswersFirst, OneOfFive, MethodsAgree, HeadAgrees, KeepsSales, KeepsBids, KeepsSums, ReadsRequirement, Covers, Finished, Claim}
+use Rattle.case.proofs.Claim.{Holds, requirementOf, taken, takes, none-tied, seen-observed, sums-seen, requirement-seen, agrees, ledger-tied, ledger-shows}
 use Rattle.case.proofs.Finishes.{after-finish}
 
 -- ---- one call
@@ -112,6 +113,27 @@ keeps-bids calls each c is =
     let t : Holds (ledgerAfter noHeld calls) c = rw is at (ledger-tied calls each) in
     ap (λ (x : M.Case). x .bids) (t .shows)
 
+-- ---- the running sums, and the requirement that is read
+
+keeps-sums : KeepsSums
+keeps-sums calls each pool =
+    let full = sums-seen (ledgerAfter noHeld calls) (runFrom none calls) (ledger-tied calls each) pool in
+    record { running = full ∙ sym (C.running-sum calls pool); full = full }
+
+reads-requirement : ReadsRequirement
+reads-requirement calls each = record {
+  running = is ∙ by-state (runFrom none calls) refl;
+  full = λ c here. is ∙ ap requirementOf here;
+  declined = λ here. is ∙ ap requirementOf here;
+}
+  where
+    is : _≡_ {A = ℕ × ℕ} (readingIn (ledgerAfter noHeld calls) .answer, readingIn (ledgerAfter noHeld calls) .cents) (requirementOf (runFrom none calls))
+    is = requirement-seen (ledgerAfter noHeld calls) (runFrom none calls) (ledger-tied calls each)
+
+    by-state : (s : M.State) → runFrom none calls ≡ s → requirementOf (runFrom none calls) ≡ reading (keptFrom nothingKept calls)
+    by-state none here = ap requirementOf here ∙ sym (C.reading-declined calls here)
+    by-state (some c) here = ap requirementOf here ∙ sym (C.reading-full calls c here)
+
 -- ---- a finished case
 
 -- a layer that is spent is charged its limit
@@ -155,6 +177,8 @@ claim =
       head = head-agrees;
       sales = keeps-sales;
       bids = keeps-bids;
+      sums = keeps-sums;
+      requirement = reads-requirement;
       finishes = after-finish;
       finished = finished;
     }

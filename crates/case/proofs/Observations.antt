@@ -15,8 +15,10 @@ use Rattle.sets.proofs.Members.{members-each}
 use Rattle.auction.specs.Price.{sumCents}
 use Rattle.machine.specs.Roll as R
 use Rattle.machine.specs.State as M
+use Rattle.machine.specs.Requirement.{requirement}
 use Rattle.machine.specs.Result.{rank, onContribution, onPayments}
 use Rattle.machine.specs.Run.{MemberResult, fiveCounts, holding, sumOfPrices, resultOf, observed}
+use Rattle.machine.specs.Running.{leftPrices, leftSum}
 use Rattle.machine.proofs.Invariant.{CaseOk}
 use Rattle.units.specs.declared.Units.{Units}
 use Rattle.units.proofs.Read.{Listed, counts-read, holding-read}
@@ -25,8 +27,8 @@ use Rattle.book.proofs.Sound.{Sound}
 use Rattle.case.specs.declared.Case.{Case}
 use Rattle.case.specs.declared.Held.{Held}
 use Rattle.case.specs.View.{view}
-use Rattle.case.specs.Readings.{countsIn, holdingIn, sumOfPricesIn, memberResultIn, shownResult, seen}
-use Rattle.book.proofs.Shown.{listed, sum-of-prices-shown}
+use Rattle.case.specs.Readings.{countsIn, holdingIn, sumOfPricesIn, poolPricesIn, readingIn, memberResultIn, shownResult, seen}
+use Rattle.book.proofs.Shown.{listed, requirement-shown, pool-sum-shown, sum-of-prices-shown}
 use Rattle.book.proofs.ResultShown.{loss-shown, charges-shown, uncovered-shown, rank-shown, on-contribution-shown, on-payments-shown}
 
 module _ (c : Case) (roll : List R.Entry) (sound : Sound (c .stage) (c .book) roll) (ok : CaseOk (view c roll)) where
@@ -59,6 +61,16 @@ module _ (c : Case) (roll : List R.Entry) (sound : Sound (c .stage) (c .book) ro
   pub prices-shown : sumOfPricesIn c ≡ sumOfPrices (view c roll)
   unfolding sumOfPricesIn
   prices-shown = sum-of-prices-shown (c .stage) (c .book) roll sound ok
+
+  -- ---- the sum of a pool, and the requirement
+
+  pub pool-sum-read : (h : Held) → h .present ≡ true → h .case ≡ c → (pool : ℕ) → poolPricesIn h pool ≡ leftSum (view c roll) pool
+  unfolding poolPricesIn
+  pool-sum-read h present is pool = rw (present, is) (pool-sum-shown (c .stage) (c .book) roll sound ok pool)
+
+  pub requirement-read : (h : Held) → h .present ≡ true → h .case ≡ c → _≡_ {A = ℕ × ℕ} (readingIn h .answer, readingIn h .cents) (0, requirement (view c roll))
+  unfolding readingIn
+  requirement-read h present is = rw (present, is) (λ i. (0, requirement-shown (c .stage) (c .book) roll sound ok i))
 
   -- ---- the result
 
@@ -102,3 +114,11 @@ module _ (c : Case) (roll : List R.Entry) (sound : Sound (c .stage) (c .book) ro
 pub none-observed : (n : ℕ) (h : Held) → h .present ≡ false → seen n h ≡ observed n none
 unfolding seen observed M.letterOf tab holding count sumOfPrices sumCents R.prices keep
 none-observed n h absent = rw absent
+
+pub none-left : (h : Held) → h .present ≡ false → (pool : ℕ) → poolPricesIn h pool ≡ leftSum (M.theCase none) pool
+unfolding poolPricesIn leftSum leftPrices keep sumCents
+none-left h absent pool = rw absent
+
+pub none-read : (h : Held) → h .present ≡ false → _≡_ {A = ℕ × ℕ} (readingIn h .answer, readingIn h .cents) (2, 0)
+unfolding readingIn
+none-read h absent = rw absent

@@ -25,6 +25,7 @@ use Rattle.machine.specs.Refusals.{tests}
 use Rattle.machine.specs.Machine.{answered}
 use Rattle.machine.specs.Result.{limits}
 use Rattle.machine.specs.Run.{Result, Observed, observed, run, runFrom}
+use Rattle.machine.specs.Running.{leftSum, nothingKept, keptFrom, reading}
 use Rattle.wire.specs.declared.Head.{Head}
 use Rattle.wire.specs.Asked.{headOf}
 use Rattle.units.specs.declared.Units.{Units}
@@ -34,8 +35,9 @@ use Rattle.book.specs.declared.Book.{Book}
 use Rattle.book.specs.Results.{limitsIn, resultIn}
 use Rattle.case.specs.declared.Case.{Case}
 use Rattle.case.specs.declared.Held.{Held}
+use Rattle.case.specs.declared.Reading.{Reading}
 use Rattle.case.specs.Cases.{applied, noHeld, headOutcome, outcomeOf}
-use Rattle.case.specs.Readings.{sumOfPricesIn, shownResult, seen}
+use Rattle.case.specs.Readings.{sumOfPricesIn, poolPricesIn, readingIn, shownResult, seen}
 use Rattle.case.specs.Input.{ledgerAfter}
 
 -- what is observed after each call of a list, from what is held
@@ -131,6 +133,27 @@ KeepsBids =
     (calls : List (List ℕ)) → Each Bytes calls → (c : M.Case) → runFrom none calls ≡ some c
     → viewBids (ledgerAfter noHeld calls .case .book .bids) ≡ c .bids
 
+-- ---- document 02, C-16: "the case shall keep a running sum of the prices of units that have left the house"
+
+-- what the case keeps of a pool is its running sum, to which each call adds what it changes, and the full addition over the roll
+pub record KeepsSum (h : Held) (calls : List (List ℕ)) (pool : ℕ) : Type 0 where
+  pub running : poolPricesIn h pool ≡ keptFrom nothingKept calls .gone pool
+  pub full : poolPricesIn h pool ≡ leftSum (M.theCase (runFrom none calls)) pool
+
+-- so it is after every list of calls
+abbrev pub KeepsSums : Type 0
+KeepsSums = (calls : List (List ℕ)) → Each Bytes calls → (pool : ℕ) → KeepsSum (ledgerAfter noHeld calls) calls pool
+
+-- what is read of the requirement: as it is read from the running sums and the two losses; "After any list of calls that begins with no case and makes one, the
+-- reading equals the full addition over the roll"; "with no case the reading is declined by 2"
+pub record Reads (r : Reading) (calls : List (List ℕ)) : Type 0 where
+  pub running : _≡_ {A = ℕ × ℕ} (r .answer, r .cents) (reading (keptFrom nothingKept calls))
+  pub full : (c : M.Case) → runFrom none calls ≡ some c → _≡_ {A = ℕ × ℕ} (r .answer, r .cents) (0, requirement c)
+  pub declined : runFrom none calls ≡ none → _≡_ {A = ℕ × ℕ} (r .answer, r .cents) (2, 0)
+
+abbrev pub ReadsRequirement : Type 0
+ReadsRequirement = (calls : List (List ℕ)) → Each Bytes calls → Reads (readingIn (ledgerAfter noHeld calls)) calls
+
 -- ---- after an accepted FINISH
 
 -- what a layer is charged, and its limit; the layers are counted from 0
@@ -206,5 +229,7 @@ pub record Claim : Type 0 where
   pub head : HeadAgrees
   pub sales : KeepsSales
   pub bids : KeepsBids
+  pub sums : KeepsSums
+  pub requirement : ReadsRequirement
   pub finishes : Finishes
   pub finished : Finished

@@ -8,13 +8,15 @@ use lib.ListN.{getD}
 use Rattle.lists.specs.Lists.{if_then_else_, tab}
 use Rattle.sets.specs.Set.{members}
 use Rattle.machine.specs.Run.{MemberResult, Result, Observed}
-use Rattle.units.specs.Shown.{countOf, holdingOf, zeroPrices}
+use Rattle.units.specs.Steps.{zeroSum}
+use Rattle.units.specs.Shown.{countOf, holdingOf, sumOf, zeroPrices}
 use Rattle.book.specs.Stages.{letterOf}
-use Rattle.book.specs.Books.{pricesIn}
+use Rattle.book.specs.Books.{pricesIn, requirementIn}
 use Rattle.book.specs.Results.{resultIn}
 use Rattle.book.specs.declared.Book.{Book}
 use Rattle.case.specs.declared.Case.{Case}
 use Rattle.case.specs.declared.Held.{Held}
+use Rattle.case.specs.declared.Reading.{Reading}
 
 -- the five counts of a pool
 unfoldable pub countsIn : Case → ℕ → List ℕ
@@ -27,6 +29,14 @@ holdingIn c m pool price = holdingOf (c .book .units) (c .book .bids .member) (c
 -- the sum of the prices of the units not open, in cents
 unfoldable pub sumOfPricesIn : Case → ℤ
 sumOfPricesIn c = subℕ (pricesIn (c .book)) zeroPrices
+
+-- document 02, C-16: what is kept of the units of a pool that have left the house, in cents; nothing has left where no case is held
+unfoldable pub poolPricesIn : Held → ℕ → ℤ
+poolPricesIn h pool = if h .present then subℕ (sumOf (h .case .book .units) pool) zeroSum else pos 0
+
+-- the requirement, "read from this sum and the two losses alone; with no case the reading is declined by 2"
+unfoldable pub readingIn : Held → Reading
+readingIn h = if h .present then record { answer = 0; cents = requirementIn (h .case .book) } else record { answer = 2; cents = 0 }
 
 -- member m's rank and charges
 abbrev pub memberResultIn : Book → ℕ → MemberResult

@@ -11,7 +11,7 @@ ghost use Rattle.wire.specs.Asked.{asked};
 ghost use Rattle.wire.specs.declared.Call.the-variants.{Round};
 ghost use Rattle.units.specs.Shown.{countOf};
 ghost use Rattle.case.specs.Cases.{newCase, reserveIf, reservesAnswer, firstAnswerTo, caseAnswerTo, answerTo, afterAsked, takeAsked, applied, headOutcome, outcomeOf, noHeld};
-ghost use Rattle.case.specs.Readings.{holdingIn, sumOfPricesIn};
+ghost use Rattle.case.specs.Readings.{holdingIn, sumOfPricesIn, poolPricesIn, readingIn};
 ghost use Rattle.input.specs.Strings.{stringsIn};
 ghost use Rattle.case.specs.Input.{Replays, TakesFields, Runs};
 use book::Book;
@@ -42,6 +42,12 @@ pub struct Held {
 pub struct Applied {
     pub answer: u8,
     pub held: Held,
+}
+
+// What is read of what is held: an answer, and cents where it is 0.
+pub struct Reading {
+    pub answer: u8,
+    pub cents: u64,
 }
 
 // What is held after the fields at an input's front, the bytes that they took, and how many they are.
@@ -76,6 +82,37 @@ impl Held {
             present: false,
             case: Case::new(head),
         }
+    }
+
+    // The requirement, read from the sums that the case keeps and the two losses; "with no case the reading is declined by 2".
+    pub fn requirement(self) -> Reading
+        ensures { λ r. ⌜ r ≡ readingIn self ⌝ }
+    {
+        if self.present {
+            let case = self.case;
+            let book = case.book;
+            return Reading {
+                answer: 0,
+                cents: book.requirement(),
+            };
+        }
+        Reading {
+            answer: 2,
+            cents: 0,
+        }
+    }
+
+    // The sum of the prices of a pool's units that have left the house, in cents.
+    pub fn prices_in(self, pool: u8) -> i64
+        ensures { λ r. ⌜ r ≡ poolPricesIn self pool ⌝ }
+    {
+        if self.present {
+            let case = self.case;
+            let book = case.book;
+            let units = book.units;
+            return difference(units.prices_in(pool) as u64, Units::ZERO_SUM as u64);
+        }
+        0
     }
 }
 

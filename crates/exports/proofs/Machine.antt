@@ -15,6 +15,7 @@ use Rattle.machine.specs.Roll.{Entry}
 use Rattle.machine.specs.State as M
 use Rattle.machine.specs.Requirement.{owes}
 use Rattle.machine.specs.Run.{Observed, fiveCounts, runFrom, observed}
+use Rattle.machine.specs.Running.{leftSum}
 use Rattle.machine.proofs.Invariant.{CaseOk}
 use Rattle.units.specs.Shown.{countOf}
 use Rattle.accounts.proofs.ViewPools as P
@@ -24,18 +25,20 @@ use Rattle.book.proofs.Sound.{Sound}
 use Rattle.book.proofs.Shown.{requirement-shown, prefunded-shown, debt-shown}
 use Rattle.case.specs.declared.Case.{Case}
 use Rattle.case.specs.declared.Held.{Held}
+use Rattle.case.specs.declared.Reading as C
 use Rattle.case.specs.View.{view}
 use Rattle.case.specs.Cases.{noHeld}
-use Rattle.case.specs.Readings.{countsIn, seen}
+use Rattle.case.specs.Readings.{countsIn, poolPricesIn, readingIn, seen}
 use Rattle.input.specs.Strings.{stringsIn, inFront}
-use Rattle.case.specs.Input.{Replays}
+use Rattle.case.specs.Input.{Replays, ledgerAfter}
 use Rattle.lists.specs.Lists.{Bytes}
 use Rattle.case.proofs.Observations.{counts-at, prices-shown}
 use Rattle.input.proofs.Strings.{strings-bytes}
-use Rattle.case.proofs.Claim.{Tied, ledger-tied, ledger-answers, ledger-shows}
+use Rattle.case.proofs.Claim.{Tied, sums-seen, requirement-seen, ledger-tied, ledger-answers, ledger-shows}
 use Rattle.exports.specs.declared.Shown.{Shown}
+use Rattle.exports.specs.declared.Reading.{Reading}
 use Rattle.exports.specs.Showing.{countTable, owesTable, noResult, resultShown, caseShown, shownOf, holdingShown, asks, holdingsOf}
-use Rattle.exports.specs.Machine.{finalOf, shownIn, shownBy}
+use Rattle.exports.specs.Machine.{finalOf, shownIn, shownBy, readBy}
 use Rattle.exports.specs.Contracts.{Called, holdingsAfter}
 use Rattle.exports.proofs.Final.{final-shown}
 
@@ -92,23 +95,36 @@ unfolding shownOf shownBy
 shown-by h none t = rw t
 shown-by h (some c) t = rw (t .present) (shown-in (h .case) (c .roll) (t .sound) (t .ok) ∙ ap shownIn (t .shows))
 
+read-by : (h : Held) (s : M.State) → Tied h s → _≡_ {A = Reading} (record { answer = readingIn h .answer; cents = readingIn h .cents }) (readBy s)
+unfolding readBy
+read-by h none t = let e = requirement-seen h none t in λ i. record { answer = e i .0; cents = e i .1 }
+read-by h (some c) t = let e = requirement-seen h (some c) t in λ i. record { answer = e i .0; cents = e i .1 }
+
 -- ---- after a list of calls
 
-module _ (bytes ends old new : List ℕ) (h : Held) (given : Bytes bytes) (r : Replays noHeld (stringsIn bytes ends) old new h) where
+module _ (bytes ends : List ℕ) (given : Bytes bytes) where
   each : Each Bytes (stringsIn bytes ends)
   each = strings-bytes 0 bytes ends given
 
-  pub called : (s : Shown) → s ≡ shownOf h → Called (stringsIn bytes ends) old new s
-  called s e =
+  pub called : (old new : List ℕ) (h : Held) → Replays noHeld (stringsIn bytes ends) old new h → (s : Shown) → s ≡ shownOf h → Called (stringsIn bytes ends) old new s
+  called old new h r s e =
       record {
         answers = r .answers ∙ ap (λ (l : List ℕ). inFront l old) (ledger-answers (stringsIn bytes ends) each);
         shows = e ∙ ap shownOf (r .held) ∙ shown-by _ _ (ledger-tied (stringsIn bytes ends) each);
       }
 
-  holds : holdingShown h ≡ observed 0 (runFrom none (stringsIn bytes ends)) .holdings
-  unfolding holdingShown seen
-  holds = ap (λ (k : Held). seen 0 k .holdings) (r .held) ∙ ap (λ (o : Observed). o .holdings) (ledger-shows (stringsIn bytes ends) each 0)
+  module _ (h : Held) (after : h ≡ ledgerAfter noHeld (stringsIn bytes ends)) where
+    holds : holdingShown h ≡ observed 0 (runFrom none (stringsIn bytes ends)) .holdings
+    unfolding holdingShown seen
+    holds = ap (λ (k : Held). seen 0 k .holdings) after ∙ ap (λ (o : Observed). o .holdings) (ledger-shows (stringsIn bytes ends) each 0)
 
-  pub held-after : (members pools prices units given-back : List ℕ) → given-back ≡ inFront (holdingsOf h members pools prices) units
-      → given-back ≡ inFront (holdingsAfter (stringsIn bytes ends) members pools prices) units
-  held-after members pools prices units given-back e = e ∙ ap (λ (f : ℕ → ℕ → ℕ → ℕ). inFront (asks f members pools prices) units) holds
+    pub held-after : (members pools prices units given-back : List ℕ) → given-back ≡ inFront (holdingsOf h members pools prices) units
+        → given-back ≡ inFront (holdingsAfter (stringsIn bytes ends) members pools prices) units
+    held-after members pools prices units given-back e = e ∙ ap (λ (f : ℕ → ℕ → ℕ → ℕ). inFront (asks f members pools prices) units) holds
+
+    -- document 02, C-16
+    pub requirement-after : (r : C.Reading) → r ≡ readingIn h → _≡_ {A = Reading} (record { answer = r .answer; cents = r .cents }) (readBy (runFrom none (stringsIn bytes ends)))
+    requirement-after r e = rw (e, after) (read-by _ _ (ledger-tied (stringsIn bytes ends) each))
+
+    pub prices-after : (pool : ℕ) → poolPricesIn h pool ≡ leftSum (M.theCase (runFrom none (stringsIn bytes ends))) pool
+    prices-after pool = rw after (sums-seen _ _ (ledger-tied (stringsIn bytes ends) each) pool)

@@ -12,6 +12,7 @@ use Rattle.machine.specs.Result.{rank, sixCharges, uncoveredRest, onContributio
 use Rattle.machine.specs.Run.{fiveCounts, sumOfPrices}
 use Rattle.book.specs.declared.Result.{Result}
 use Rattle.exports.specs.declared.Shown.{Shown}
+use Rattle.exports.specs.declared.Reading.{Reading}
 use Rattle.exports.specs.Showing.{noResult, noneShown}
 
 -- "After an accepted FINISH also the loss, the six charges, the uncovered rest and each member's rank and charges"
@@ -54,3 +55,8 @@ shownIn c =
 unfoldable pub shownBy : State → Shown
 shownBy none = noneShown
 shownBy (some c) = shownIn c
+
+-- document 02, C-16: the requirement; "with no case the reading is declined by 2"
+unfoldable pub readBy : State → Reading
+readBy none = record { answer = 2; cents = 0 }
+readBy (some c) = record { answer = 0; cents = requirement c }

@@ -2,13 +2,19 @@
 // shown what they lead to; include/ledger.h says how each function is called.
 ghost use mathlib.Core.Path.{_≡_};
 ghost use mathlib.Core.List.{_++_, map};
+ghost use mathlib.Core.Option.{none};
 ghost use Prim.Native.Nat.{min};
 ghost use lib.ListN.{length, set, drop};
 ghost use Rattle.machine.specs.Printed.{fieldsIn};
-ghost use Rattle.machine.specs.Run.{Observed, run as machineRun};
+ghost use Rattle.machine.specs.Run.{Observed, run as machineRun, runFrom};
+ghost use Rattle.machine.specs.Running.{leftSum};
+ghost use Rattle.machine.specs.State.{theCase};
 ghost use Rattle.report.specs.Texts.{Prints};
 ghost use Rattle.input.specs.Strings.{stringsIn, inFront};
+ghost use Rattle.case.specs.Cases.{noHeld};
+ghost use Rattle.case.specs.Input.{ledgerAfter};
 ghost use Rattle.exports.specs.Showing.{countTable, owesTable, resultShown, noneShown, caseShown, shownOf, holdingShown, holdingsOf};
+ghost use Rattle.exports.specs.Machine.{readBy};
 ghost use Rattle.exports.specs.Contracts.{Called, holdingsAfter};
 use book::Book;
 use book::Result;
@@ -36,6 +42,13 @@ pub struct Shown {
     pub ranks: [u8; 32],
     pub contributions: [u64; 32],
     pub payments: [u64; 32],
+}
+
+// What is read of the requirement: an answer, and cents where it is 0.
+#[repr(C)]
+pub struct Reading {
+    pub answer: u8,
+    pub cents: u64,
 }
 
 // Whether a whole text was written, and its length.
@@ -205,6 +218,14 @@ fn ask(held: Held, members: &[u8], pools: &[u8], prices: &[u32], units: &mut [u6
     }
 }
 
+// What is held after calls whose answers nobody asks for.
+fn held_after(bytes: &[u8], ends: &[usize]) -> Held
+    ensures { λ r. ⌜ r ≡ ledgerAfter noHeld (stringsIn (now (bytes .entry)) (now (ends .entry))) ⌝ }
+{
+    let mut first = [0u8; 1];
+    case::replay(Held::none(), bytes, ends, &mut first)
+}
+
 // ---- what is exported
 
 // The fields of a whole input, taken in turn from no case on, as many as there is room for answers: how many were answered.
@@ -240,9 +261,30 @@ pub extern "C" fn ledger_holdings(
 )
     ensures { λ _. ⌜ now (units .exit) ≡ inFront (holdingsAfter (stringsIn (now (bytes .entry)) (now (ends .entry))) (now (members .entry)) (now (pools .entry)) (now (prices .entry))) (now (units .entry)) ⌝ }
 {
-    let mut first = [0u8; 1];
-    let held = case::replay(Held::none(), bytes, ends, &mut first);
+    let held = held_after(bytes, ends);
     ask(held, members, pools, prices, units)
+}
+
+// After the same calls: the requirement, read from the running sums and the two losses; declined by 2 where there is no case.
+#[no_mangle]
+pub extern "C" fn ledger_requirement(bytes: &[u8], ends: &[usize]) -> Reading
+    ensures { λ r. ⌜ r ≡ readBy (runFrom none (stringsIn (now (bytes .entry)) (now (ends .entry)))) ⌝ }
+{
+    let held = held_after(bytes, ends);
+    let read = held.requirement();
+    Reading {
+        answer: read.answer,
+        cents: read.cents,
+    }
+}
+
+// After the same calls: the running sum of a pool, the prices of its units that have left the house, in cents.
+#[no_mangle]
+pub extern "C" fn ledger_pool_prices(bytes: &[u8], ends: &[usize], pool: u8) -> i64
+    ensures { λ r. ⌜ r ≡ leftSum (theCase (runFrom none (stringsIn (now (bytes .entry)) (now (ends .entry))))) pool ⌝ }
+{
+    let held = held_after(bytes, ends);
+    held.prices_in(pool)
 }
 
 // The text of a whole input, as the program `ledger` prints it, at the front of the buffer. A buffer with less than four times the input's bytes

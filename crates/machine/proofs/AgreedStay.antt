@@ -101,10 +101,10 @@ stay-sell round i (b ∷ bs) roll =
 
 -- ---- MOVE
 
--- what MOVE finds is the entry at its place, and not sold by agreement
-abbrev Finds : List Entry → Option Found → Type 0
-Finds roll none = Unit {0}
-Finds roll (some x) = (getD roll (x .place) noEntry ≡ x .entry) × (isAgreed (x .entry .state) ≡ false)
+-- what MOVE finds is the entry at its place, and one that may move
+abbrev pub Finds : List Bid → List Entry → Option Found → Type 0
+Finds bids roll none = Unit {0}
+Finds bids roll (some x) = (getD roll (x .place) noEntry ≡ x .entry) × (mayMove bids (x .entry) ≡ true)
 
 may-move-free : (bids : List Bid) (e : Entry) → mayMove bids e ≡ true → isAgreed (e .state) ≡ false
 unfolding mayMove
@@ -116,30 +116,30 @@ may-move-free bids e h =
     not-true true n = absurd (false≢true n)
     not-true false n = refl
 
-finds-better : (bids : List Bid) (roll : List Entry) (found : Option Found) (y : Found) → Finds roll found → Finds roll (some y) → Finds roll (better bids found y)
+finds-better : (bids : List Bid) (roll : List Entry) (found : Option Found) (y : Found) → Finds bids roll found → Finds bids roll (some y) → Finds bids roll (better bids found y)
 unfolding better
 finds-better bids roll none y f g = g
-finds-better bids roll (some x) y f g = either (Finds roll) (later (turn bids (y .entry)) (turn bids (x .entry))) {x = some x} {y = some y} f g
+finds-better bids roll (some x) y f g = either (Finds bids roll) (later (turn bids (y .entry)) (turn bids (x .entry))) {x = some x} {y = some y} f g
 
-finds-next : (bids : List Bid) (roll : List Entry) (i : ℕ) (es : List Entry) (found : Option Found) → drop i roll ≡ es → Finds roll found
-    → Finds roll (nextFrom bids i es found)
+pub finds-next : (bids : List Bid) (roll : List Entry) (i : ℕ) (es : List Entry) (found : Option Found) → drop i roll ≡ es → Finds bids roll found
+    → Finds bids roll (nextFrom bids i es found)
 unfolding nextFrom
 finds-next bids roll i [] found e f = f
 finds-next bids roll i (x ∷ es) found e f =
     let r = drop-step roll i x noEntry es e in
     finds-next bids roll (suc i) es _ (r .2)
-    (by-test (Finds roll) (mayMove bids x) {x = better bids found (record { place = i; entry = x })} {y = found}
-    (λ m. finds-better bids roll found _ f (r .1, may-move-free bids x m)) (λ m. f))
+    (by-test (Finds bids roll) (mayMove bids x) {x = better bids found (record { place = i; entry = x })} {y = found}
+    (λ m. finds-better bids roll found _ f (r .1, m)) (λ m. f))
 
 stay-move : (bids : List Bid) (m k owed : ℕ) (roll : List Entry) → AllStay roll (moveUnits k bids m owed roll)
 unfolding moveUnits
 stay-move bids m zero owed roll = pairs-same Stays stays roll
 stay-move bids m (suc k) owed roll =
     go (if eqb owed 0 then none else nextFrom bids 0 roll none)
-    (either (Finds roll) (eqb owed 0) {x = none} {y = nextFrom bids 0 roll none} tt (finds-next bids roll 0 roll none refl tt))
+    (either (Finds bids roll) (eqb owed 0) {x = none} {y = nextFrom bids 0 roll none} tt (finds-next bids roll 0 roll none refl tt))
     (λ o r. stay-move bids m k o r)
   where
-    go : (found : Option Found) → Finds roll found → ((o : ℕ) (r : List Entry) → AllStay r (moveUnits k bids m o r))
+    go : (found : Option Found) → Finds bids roll found → ((o : ℕ) (r : List Entry) → AllStay r (moveUnits k bids m o r))
         → AllStay roll (elim found [
           | none ↦ roll
           | some x ↦ moveUnits k bids m (owed - (zeroPrice - priceOf bids (x .entry .state))) (set roll (x .place) (withState (x .entry) (Moved m)))
@@ -150,7 +150,7 @@ stay-move bids m (suc k) owed roll =
         let left = owed - (zeroPrice - priceOf bids (x .entry .state)) in
         stay-trans roll next (moveUnits k bids m left next)
         (pairs-set Stays stays roll (x .place) (withState (x .entry) (Moved m)) noEntry
-        (rw (at .0) (free (x .entry) (withState (x .entry) (Moved m)) (at .1))))
+        (rw (at .0) (free (x .entry) (withState (x .entry) (Moved m)) (may-move-free bids (x .entry) (at .1)))))
         (rest left next)
 
 -- ---- every accepted call

@@ -390,7 +390,7 @@ module _ (c : Case) (ok : CaseOk c) where
         (λ i l. given-won round wins i (getD (c .bids) i noBid) (each-at _ (c .bids) i noBid l (ok .won .unsold bidding))) 0 (c .bids) refl
 
     -- what the bids of a pool are given is open
-    close-sold : (pool : ℕ) → wonWhere (inAuction round pool) bids ≤ openUnits (c .roll) pool
+    pub close-sold : (pool : ℕ) → wonWhere (inAuction round pool) bids ≤ openUnits (c .roll) pool
     close-sold pool =
         omega (
           arith,

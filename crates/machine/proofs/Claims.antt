@@ -5,7 +5,7 @@ use mathlib.Core.List.{List, [], _∷_, _++_, map, map-map}
 use mathlib.Core.Option.{none, some}
 use Prim.Native.Nat.{ℕ, suc, _+_, _-_, _≤_, _<_, min}
 use lib.Dec.{eqb, ltb}
-use lib.IntN.{pos, negsuc, _-ℤ_}
+use lib.IntN.{pos, negsuc, _+ℤ_, _-ℤ_}
 use lib.ListN.{length, getD, set, take, drop}
 use lib.Signed.{leZ}
 use Rattle.lists.specs.Lists.{if_then_else_, sum, count, all, keep}
@@ -22,6 +22,7 @@ use Rattle.machine.specs.Machine.{step}
 use Rattle.machine.specs.Table.{ByTable}
 use Rattle.machine.specs.Result.{worstReserve, standing, rank, payments, limits, charge, spent, onContribution, onPayments}
 use Rattle.machine.specs.Run.{Result, MemberResult, runFrom, fiveCounts, sumOfPrices, resultOf, observed}
+use Rattle.machine.specs.Running.{leftSum, added, nothingKept, keptFrom, overPools, reading}
 use Rattle.machine.proofs.Answers as A
 use Rattle.machine.proofs.Tables as T
 use Rattle.machine.proofs.Invariant.{CaseOk}
@@ -42,6 +43,7 @@ use Rattle.machine.proofs.Prices as P
 use Rattle.machine.proofs.Later as L
 use Rattle.machine.proofs.Finish as F
 use Rattle.machine.proofs.LargerWeights as Q
+use Rattle.machine.proofs.Running as U
 
 -- ---- answers, in any state
 
@@ -379,6 +381,28 @@ module _ (calls : List (List ℕ)) (c : Case) (here : runFrom none calls ≡ som
 
   pub payments-small : payments c ≤ 16_000_000_000
   payments-small = B.payments-small c in-order
+
+-- ---- document 02, C-16: the running sums and the reading, after any list of calls
+
+module _ (calls : List (List ℕ)) where
+  -- the running sum of a pool is the full addition over the roll, and so are the sums of all pools together
+  pub running-sum : (pool : ℕ) → keptFrom nothingKept calls .gone pool ≡ leftSum (theCase (runFrom none calls)) pool
+  running-sum = U.running-sum calls
+
+  pub running-total : (c : Case) → runFrom none calls ≡ some c → overPools (keptFrom nothingKept calls .gone) ≡ sumOfPrices c
+  running-total = U.running-total calls
+
+  -- "the reading equals the full addition over the roll"; "with no case the reading is declined by 2"
+  pub reading-full : (c : Case) → runFrom none calls ≡ some c → reading (keptFrom nothingKept calls) ≡ (0, requirement c)
+  reading-full = U.reading-full calls
+
+  pub reading-declined : runFrom none calls ≡ none → reading (keptFrom nothingKept calls) ≡ (2, 0)
+  reading-declined = U.reading-declined calls
+
+  -- what an accepted call adds to the sum of a pool
+  pub call-adds : (c : Case) → runFrom none calls ≡ some c → (call : Call) → Passed (tests (some c) c call) → (pool : ℕ)
+      → leftSum (accepted c call) pool ≡ leftSum c pool +ℤ added c call pool
+  call-adds c here call t pool = U.call-adds pool c (rw here at (R.reached calls)) call t
 
 -- ---- what is split among the members, of any case
 

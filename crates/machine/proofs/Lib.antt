@@ -8,6 +8,7 @@ pub mod WorkedRanges
 pub mod WorkedSales
 pub mod WorkedWithdrawals
 pub mod WorkedTies
+pub mod WorkedRequirement
 pub mod Answers
 pub mod Tables
 pub mod RollChanges
@@ -31,5 +32,6 @@ pub mod Later
 pub mod Bytes
 pub mod Prices
 pub mod Finish
+pub mod Running
 pub mod LargerWeights
 pub mod Claims

@@ -10,6 +10,7 @@ use Rattle.machine.specs.Machine.{answered as Machine·answered, step as
 use Rattle.machine.specs.Table.{letterOfStage as Table·letterOfStage, letterIn as Table·letterIn, row as Table·row, stageTable as Table·stageTable, wrongReserves as Table·wrongReserves, wrongLength as Table·wrongLength, declined as Table·declined, meant as Table·meant, earlyAnswer as Table·earlyAnswer}
 use Rattle.machine.specs.Result.{worstReserve as Result·worstReserve, standing as Result·standing, rank as Result·rank, payments as Result·payments, limits as Result·limits, sixCharges as Result·sixCharges, charge as Result·charge, uncoveredRest as Result·uncoveredRest, spent as Result·spent, onContribution as Result·onContribution, onPayments as Result·onPayments}
 use Rattle.machine.specs.Run.{fiveCounts as Run·fiveCounts, holding as Run·holding, sumOfPrices as Run·sumOfPrices, resultOf as Run·resultOf, observed as Run·observed, runFrom as Run·runFrom, observedFrom as Run·observedFrom, run as Run·run}
+use Rattle.machine.specs.Running.{leftPrices as Running·leftPrices, leftSum as Running·leftSum, inCents as Running·inCents, atPrice as Running·atPrice, soldFor as Running·soldFor, savedIn as Running·savedIn, tornFor as Running·tornFor, added as Running·added, addedBy as Running·addedBy, keptStep as Running·keptStep, keptFrom as Running·keptFrom, readFrom as Running·readFrom, reading as Running·reading}
 use Rattle.machine.specs.Printed.{fieldsIn as Printed·fieldsIn, sLine as Printed·sLine, pLine as Printed·pLine, lLine as Printed·lLine, mLine as Printed·mLine, endLines as Printed·endLines, linesFrom as Printed·linesFrom, decimal as Printed·decimal, numbersText as Printed·numbersText, text as Printed·text, printed as Printed·printed}
 use Rattle.lists.specs.Computing.{computing as lists·computing}
 use Rattle.sets.specs.Computing.{computing as sets·computing}
@@ -18,5 +19,5 @@ use Rattle.auction.specs.Computing.{computing as auction·computing}
 use Rattle.waterfall.specs.Computing.{computing as waterfall·computing}
 
 unfoldable pub computing : Unit {0}
-unfolding Wire·bigEndian Wire·number Wire·signed Wire·price Wire·rightLength Wire·callOf Wire·decode Roll·kind Roll·isAgreed Roll·isOpen Roll·openIn Roll·priceOf Roll·heldBy Roll·passedTo Roll·putUp Roll·giveLowest Roll·openUnits Roll·anyOpen Roll·prices Roll·agreedPrices Roll·soldByAgreement State·roundOf State·letter State·letterOf State·memberAt Requirement·requirement Requirement·firstTranche Requirement·secondTranche Requirement·contributions Requirement·prefunded Requirement·owes Move·mayMove Move·turn Move·later Move·better Move·nextFrom Move·moveUnits Move·moveAll Calls·afterPool Calls·afterMember Calls·newRound Calls·afterRound Calls·afterBid Calls·reserve Calls·inRound Calls·inAuction Calls·wonIn Calls·wonGiven Calls·bidsAfter Calls·sell Calls·afterClose Calls·wonByMember Calls·shortfall Calls·totalShortfall Calls·allocation Calls·giveShares Calls·alsoAllocated Calls·afterAllocate Calls·afterTear Calls·calls Calls·afterCall Calls·afterPay Calls·afterMove Calls·afterMiss Calls·sold Calls·afterSale Calls·afterWithdraw Calls·accepted Refusals·headOk Refusals·poolOk Refusals·memberOk Refusals·bidOk Refusals·paymentOk Refusals·notInCase Refusals·notInSet Refusals·noneOpen Refusals·marked Refusals·notGiven Refusals·someoneOwes Refusals·nonePassed Refusals·saleTooDear Refusals·noneStands Refusals·tests Refusals·refusal Machine·answered Machine·step Table·letterOfStage Table·letterIn Table·row Table·stageTable Table·wrongReserves Table·wrongLength Table·declined Table·meant Table·earlyAnswer Result·worstReserve Result·standing Result·rank Result·payments Result·limits Result·sixCharges Result·charge Result·uncoveredRest Result·spent Result·onContribution Result·onPayments Run·fiveCounts Run·holding Run·sumOfPrices Run·resultOf Run·observed Run·runFrom Run·observedFrom Run·run Printed·fieldsIn Printed·sLine Printed·pLine Printed·lLine Printed·mLine Printed·endLines Printed·linesFrom Printed·decimal Printed·numbersText Printed·text Printed·printed lists·computing sets·computing splitting·computing auction·computing waterfall·computing
+unfolding Wire·bigEndian Wire·number Wire·signed Wire·price Wire·rightLength Wire·callOf Wire·decode Roll·kind Roll·isAgreed Roll·isOpen Roll·openIn Roll·priceOf Roll·heldBy Roll·passedTo Roll·putUp Roll·giveLowest Roll·openUnits Roll·anyOpen Roll·prices Roll·agreedPrices Roll·soldByAgreement State·roundOf State·letter State·letterOf State·memberAt Requirement·requirement Requirement·firstTranche Requirement·secondTranche Requirement·contributions Requirement·prefunded Requirement·owes Move·mayMove Move·turn Move·later Move·better Move·nextFrom Move·moveUnits Move·moveAll Calls·afterPool Calls·afterMember Calls·newRound Calls·afterRound Calls·afterBid Calls·reserve Calls·inRound Calls·inAuction Calls·wonIn Calls·wonGiven Calls·bidsAfter Calls·sell Calls·afterClose Calls·wonByMember Calls·shortfall Calls·totalShortfall Calls·allocation Calls·giveShares Calls·alsoAllocated Calls·afterAllocate Calls·afterTear Calls·calls Calls·afterCall Calls·afterPay Calls·afterMove Calls·afterMiss Calls·sold Calls·afterSale Calls·afterWithdraw Calls·accepted Refusals·headOk Refusals·poolOk Refusals·memberOk Refusals·bidOk Refusals·paymentOk Refusals·notInCase Refusals·notInSet Refusals·noneOpen Refusals·marked Refusals·notGiven Refusals·someoneOwes Refusals·nonePassed Refusals·saleTooDear Refusals·noneStands Refusals·tests Refusals·refusal Machine·answered Machine·step Table·letterOfStage Table·letterIn Table·row Table·stageTable Table·wrongReserves Table·wrongLength Table·declined Table·meant Table·earlyAnswer Result·worstReserve Result·standing Result·rank Result·payments Result·limits Result·sixCharges Result·charge Result·uncoveredRest Result·spent Result·onContribution Result·onPayments Run·fiveCounts Run·holding Run·sumOfPrices Run·resultOf Run·observed Run·runFrom Run·observedFrom Run·run Running·leftPrices Running·leftSum Running·inCents Running·atPrice Running·soldFor Running·savedIn Running·tornFor Running·added Running·addedBy Running·keptStep Running·keptFrom Running·readFrom Running·reading Printed·fieldsIn Printed·sLine Printed·pLine Printed·lLine Printed·mLine Printed·endLines Printed·linesFrom Printed·decimal Printed·numbersText Printed·text Printed·printed lists·computing sets·computing splitting·computing auction·computing waterfall·computing
 computing = tt

@@ -9,5 +9,6 @@ pub mod Machine
 pub mod Table
 pub mod Result
 pub mod Run
+pub mod Running
 pub mod Printed
 pub mod Computing

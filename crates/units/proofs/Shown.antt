@@ -1,15 +1,16 @@
 -- What is read of the units is what the roll shows. Assumes nothing.
 use mathlib.Core.Path.{_≡_, refl, sym, ap, _∙_}
 use mathlib.Core.Bool.{Bool, true, false, _&&_, _||_, not, and-true, and-false, and-comm, or-true, false≢true}
+use mathlib.Core.Logic.{⊎-elim}
 use mathlib.Core.List.{List, [], _∷_}
-use Prim.Native.Nat.{ℕ, zero, suc, _+_, _*_, _%_, _<_}
+use Prim.Native.Nat.{ℕ, zero, suc, _+_, _*_, _%_, _≤_, _<_}
 use native.Mathlib.Nat.{mul-zero, mul-one}
 use native.Mathlib.Omega.{arith}
 use lib.Dec.{ltb, eqb}
 use lib.ListN.{length, getD}
-use borrow.Author.Tests.{lt-ltb, eqb-true, eqb-false, eq-eqb, ne-eqb}
+use borrow.Author.Tests.{lt-ltb, le-ltb, eqb-true, eqb-false, eq-eqb, ne-eqb}
 use Rattle.lists.specs.Lists.{if_then_else_, sum, sumTo, oneIf, count, keep, tab}
-use Rattle.lists.proofs.Bools.{cases, eqb-same, same-choice, and-left, and-right}
+use Rattle.lists.proofs.Bools.{cases, eqb-same, same-choice, and-left, and-right, lt-or-le}
 use Rattle.lists.proofs.Sums.{sumTo-ext, sumTo-zero}
 use Rattle.lists.proofs.Counts.{any-count}
 use Rattle.lists.proofs.Keep.{sumTo-one}
@@ -17,9 +18,12 @@ use Rattle.lists.proofs.Each.{Each, each-more}
 use Rattle.auction.specs.Price.{zeroPrice}
 use Rattle.machine.specs.Roll.{UnitState, Open, Sold, Allocated, Moved, Torn, Agreed, Entry, Bid, noBid, kind, isOpen, priceOf, heldBy, passedTo, isAgreed, agreedIn, anyOpen, prices, soldByAgreement}
 use Rattle.machine.specs.Run.{fiveCounts, holding}
+use Rattle.machine.specs.Running.{leftPrices}
+use Rattle.machine.proofs.Running.{left-count, left-sum}
 use Rattle.units.specs.declared.Units.{Units}
 use Rattle.units.specs.Places.{allocatedAt, soldAt, movedAt, agreedAt, unitAt, over}
-use Rattle.units.specs.Shown.{agreedOf, buyerOf, salePriceOf, column, soldIn, kindOf, countOf, soldFor, holdingOf, passedOf, zeroPrices, pricesOf}
+use Rattle.units.specs.Steps.{zeroSum}
+use Rattle.units.specs.Shown.{agreedOf, buyerOf, salePriceOf, column, soldIn, kindOf, countOf, soldFor, holdingOf, passedOf, sumOf, zeroPrices, pricesOf}
 use Rattle.units.proofs.Places.{unit-open, unit-allocated, unit-sold, unit-moved, unit-torn, unit-agreed, by-place, weigh-parts, sum-rows}
 use Rattle.units.proofs.Weighing.{each-entry}
 use Rattle.units.proofs.Over.{count-over}
@@ -312,44 +316,6 @@ module _ (u : Units) (bids : List Bid) (roll : List Entry) (kept : Kept u bids r
 
 -- ---- the sum of prices
 
--- an entry is in one of the four pools
-in-one : (bids : List Bid) (e : Entry) → e .pool < 4
-    → (inPool 0 e + inPool 1 e + inPool 2 e + inPool 3 e ≡ 1) × (priceIn bids 0 e + priceIn bids 1 e + priceIn bids 2 e + priceIn bids 3 e ≡ priceOf bids (e .state))
-in-one bids e l = go (e .pool) refl l
-  where
-    yes : (q : ℕ) → e .pool ≡ q → (inPool q e ≡ 1) × (priceIn bids q e ≡ priceOf bids (e .state))
-    yes q h = in-it bids q e h
-
-    no : (p q : ℕ) → e .pool ≡ p → (p ≡ q → ⊥) → (inPool q e ≡ 0) × (priceIn bids q e ≡ 0)
-    no p q h a = not-in-it bids q e (λ x. a (sym h ∙ x))
-
-    go : (p : ℕ) → e .pool ≡ p → p < 4 → (inPool 0 e + inPool 1 e + inPool 2 e + inPool 3 e ≡ 1) × (priceIn bids 0 e + priceIn bids 1 e + priceIn bids 2 e + priceIn bids 3 e ≡ priceOf bids (e .state))
-    go zero h l =
-        let a = yes 0 h in
-        let b = no 0 1 h (λ x. absurd (omega arith)) in
-        let c = no 0 2 h (λ x. absurd (omega arith)) in
-        let d = no 0 3 h (λ x. absurd (omega arith)) in
-        (omega (arith, a .0, b .0, c .0, d .0), omega (arith, a .1, b .1, c .1, d .1))
-    go (suc zero) h l =
-        let a = no 1 0 h (λ x. absurd (omega arith)) in
-        let b = yes 1 h in
-        let c = no 1 2 h (λ x. absurd (omega arith)) in
-        let d = no 1 3 h (λ x. absurd (omega arith)) in
-        (omega (arith, a .0, b .0, c .0, d .0), omega (arith, a .1, b .1, c .1, d .1))
-    go (suc (suc zero)) h l =
-        let a = no 2 0 h (λ x. absurd (omega arith)) in
-        let b = no 2 1 h (λ x. absurd (omega arith)) in
-        let c = yes 2 h in
-        let d = no 2 3 h (λ x. absurd (omega arith)) in
-        (omega (arith, a .0, b .0, c .0, d .0), omega (arith, a .1, b .1, c .1, d .1))
-    go (suc (suc (suc zero))) h l =
-        let a = no 3 0 h (λ x. absurd (omega arith)) in
-        let b = no 3 1 h (λ x. absurd (omega arith)) in
-        let c = no 3 2 h (λ x. absurd (omega arith)) in
-        let d = yes 3 h in
-        (omega (arith, a .0, b .0, c .0, d .0), omega (arith, a .1, b .1, c .1, d .1))
-    go (suc (suc (suc (suc p)))) h l = absurd (omega arith)
-
 -- an open entry counts as one at price 0
 open-price : (bids : List Bid) (e : Entry) → isOpen e ≡ true → priceOf bids (e .state) ≡ zeroPrice
 unfolding isOpen kind priceOf
@@ -363,35 +329,43 @@ open-price bids e h = go (e .state) h
     go (Torn price) h = absurd (false≢true h)
     go (Agreed m price) h = absurd (false≢true h)
 
-prices-open : (bids : List Bid) (e : Entry) (es : List Entry) → isOpen e ≡ true → prices bids (e ∷ es) ≡ prices bids es
-unfolding prices keep
-prices-open bids e es h = rw h
-
-prices-more : (bids : List Bid) (e : Entry) (es : List Entry) → isOpen e ≡ false → prices bids (e ∷ es) ≡ priceOf bids (e .state) ∷ prices bids es
-unfolding prices keep
-prices-more bids e es h = rw h
-
-prices-none : (bids : List Bid) → prices bids [] ≡ []
-unfolding prices keep
-prices-none bids = refl
-
 -- so the open ones fall out of units and prices alike
-priced-roll : (bids : List Bid) (roll : List Entry) → Each (λ e. e .pool < 4) roll
-    → over roll (priceIn bids 0) + over roll (priceIn bids 1) + over roll (priceIn bids 2) + over roll (priceIn bids 3) + zeroPrice * length (prices bids roll)
-    ≡ zeroPrice * (over roll (inPool 0) + over roll (inPool 1) + over roll (inPool 2) + over roll (inPool 3)) + sum (prices bids roll)
-unfolding sum
-priced-roll bids [] h = rw (prices-none bids) (omega arith)
-priced-roll bids (e ∷ es) h =
-    let one = in-one bids e (h .0) in
-    let rest = priced-roll bids es (h .1) in
+pool-priced : (bids : List Bid) (roll : List Entry) (pool : ℕ)
+    → over roll (priceIn bids pool) + zeroPrice * length (leftPrices bids roll pool) ≡ zeroPrice * over roll (inPool pool) + sum (leftPrices bids roll pool)
+unfolding leftPrices keep sum
+pool-priced bids [] pool = omega arith
+pool-priced bids (e ∷ es) pool =
+    let rest = pool-priced bids es pool in
+    cases (eqb (e .pool) pool) _
+    (λ t.
+    let here = in-it bids pool e (eqb-true (e .pool) pool t) in
     cases (isOpen e) _
-    (λ t. rw (prices-open bids e es t) (omega (arith, one .0, one .1, open-price bids e t, rest)))
-    (λ t. rw (prices-more bids e es t) (omega (arith, one .0, one .1, rest)))
+    (λ o. rw o (omega (arith, here .0, here .1, open-price bids e o, rest)))
+    (λ o. rw (o, t) (omega (arith, here .0, here .1, rest))))
+    (λ t.
+    let there = not-in-it bids pool e (eqb-false (e .pool) pool t) in
+    rw (t, and-false (not (isOpen e))) (omega (arith, there .0, there .1, rest)))
+
+-- a pool that no case has has no unit
+none-left : (bids : List Bid) (roll : List Entry) (pool : ℕ) → Each (λ e. e .pool < 4) roll → 4 ≤ pool → leftPrices bids roll pool ≡ []
+unfolding leftPrices keep
+none-left bids [] pool below far = refl
+none-left bids (e ∷ es) pool below far =
+    rw (ne-eqb (e .pool) pool (λ h. absurd (omega (arith, below .0))), and-false (not (isOpen e))) (none-left bids es pool (below .1) far)
 
 module _ (u : Units) (bids : List Bid) (roll : List Entry) (kept : Kept u bids roll) (below : Each (λ e. e .pool < 4) roll) where
-  -- the sum that is held is 4,000,000,000 too high, each price 1,000,000
+  -- the sum of a pool is held 1,000,000,000 too high, each price 1,000,000
+  pub pool-prices-shown : (pool : ℕ) → sumOf u pool + zeroPrice * length (leftPrices bids roll pool) ≡ zeroSum + sum (leftPrices bids roll pool)
+  unfolding sumOf sum
+  pool-prices-shown pool =
+      ⊎-elim
+      (λ l. rw (lt-ltb pool 4 l) (omega (arith, pool-priced bids roll pool, kept .tied .summed pool l)))
+      (λ far. rw (le-ltb pool 4 far, none-left bids roll pool below far) (omega arith))
+      (lt-or-le pool 4)
+
+  -- and that of all pools 4,000,000,000
   pub prices-shown : pricesOf u + zeroPrice * length (prices bids roll) ≡ zeroPrices + sum (prices bids roll)
-  unfolding pricesOf sumTo
+  unfolding pricesOf sumTo sumOf
   prices-shown =
-      let s = kept .tied .summed in
-      omega (arith, priced-roll bids roll below, s 0 (omega arith), s 1 (omega arith), s 2 (omega arith), s 3 (omega arith))
+      let s = pool-prices-shown in
+      omega (arith, left-count bids roll below, left-sum bids roll below, s 0, s 1, s 2, s 3)

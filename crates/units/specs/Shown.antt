@@ -7,6 +7,7 @@ use lib.ListN.{getD}
 use Rattle.lists.specs.Lists.{if_then_else_, sumTo}
 use Rattle.auction.specs.Price.{zeroPrice}
 use Rattle.units.specs.Places.{allocatedAt, soldAt, movedAt, agreedAt}
+use Rattle.units.specs.Steps.{zeroSum}
 use Rattle.units.specs.declared.Units.{Units}
 
 -- the open units of a pool; none in a pool that no case has
@@ -67,6 +68,10 @@ unfoldable pub passedOf : Units → ℕ → ℕ
 passedOf u m =
     if ltb m 32 then sumTo 4 (λ pool. getD (u .counts) (allocatedAt pool m) 0) + sumTo 4 (λ pool. getD (u .counts) (movedAt pool m) 0)
     else 0
+
+-- the sum of the prices of a pool's units not open, held above 0 by `zeroSum`; a pool that no case has has no unit
+unfoldable pub sumOf : Units → ℕ → ℕ
+sumOf u pool = if ltb pool 4 then getD (u .sums) pool 0 else zeroSum
 
 -- what a sum of prices of 0 cents is held as, over the four pools
 abbrev pub zeroPrices : ℕ

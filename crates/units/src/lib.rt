@@ -7,7 +7,7 @@ ghost use lib.ListN.{getD};
 ghost use Rattle.auction.specs.Price.{zeroPrice};
 ghost use Rattle.units.specs.Steps.{noUnits, transferred, repriced, withCounts, putUpUnits, sellUnits, allocateUnits, notedAt, tearUnits, missUnits, saleUnits};
 ghost use Rattle.units.specs.Groups.{poolAt, moveUnits};
-ghost use Rattle.units.specs.Shown.{openOf, agreedOf, buyerOf, salePriceOf, column, soldIn, countOf, soldFor, holdingOf, passedOf, pricesOf};
+ghost use Rattle.units.specs.Shown.{openOf, agreedOf, buyerOf, salePriceOf, column, soldIn, countOf, soldFor, holdingOf, passedOf, sumOf, pricesOf};
 
 // `counts`: 0 to 3 the open units of a pool; from 4 on those allocated to member m in pool p, at 4 × m + p; from 132 on those sold to a bid; from 388 on those
 // moved to a member; from 516 on those torn up that were open or allocated, and from 648 on those that were moved; from 776 on those of a pool sold by agreement.
@@ -147,7 +147,9 @@ fn sold_for(
 }
 
 impl Units {
-    // What a sum of prices of 0 cents is held as, over the four pools.
+    // What the sum of a pool's prices is held as where it is 0 cents, and that over the four pools.
+    pub const ZERO_SUM: u32 = 1_000_000_000;
+
     pub const ZERO_PRICES: u64 = 4_000_000_000;
 
     // No unit.
@@ -433,6 +435,20 @@ impl Units {
             counts[391 + k],
         );
         allocated + moved
+    }
+
+    // The sum of the prices of a pool's units not open, as cents + 1,000,000,000.
+    pub fn prices_in(self, pool: u8) -> u32
+        ensures { λ r. ⌜ r ≡ sumOf self pool ⌝ }
+    {
+        let sums = self.sums;
+        match pool {
+            0 => sums[0],
+            1 => sums[1],
+            2 => sums[2],
+            3 => sums[3],
+            _ => Units::ZERO_SUM,
+        }
     }
 
     // The sum of the prices of all units not open, as cents + 4,000,000,000: at most four times what 32 bits hold.
