@@ -11,11 +11,11 @@ use Rattle.lines.specs.Placed.{Placed, placed}
 use Rattle.lines.proofs.Decimals.{decimal-le}
 use Rattle.forms.specs.Put.{Put, Written as Stored}
 use Rattle.forms.proofs.Puts.{put-then, put-as, put-into, put-placed}
+use Rattle.case.specs.declared.Reading.{Reading}
+use Rattle.case.specs.Readings.{readingIn}
 use Rattle.case.specs.Cases.{noHeld}
 use Rattle.spelling.specs.Text.{moneyText, moneyInto}
 use Rattle.spelling.proofs.Texts.{money-short}
-use Rattle.asking.specs.declared.Reading.{Reading}
-use Rattle.asking.specs.Temp.{readingIn}
 use Rattle.asking.specs.declared.Question.{Question}
 use Rattle.asking.specs.declared.Question.the-variants.{Requirement, Unknown}
 use Rattle.asking.specs.declared.Rest.{Rest}

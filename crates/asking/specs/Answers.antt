@@ -9,9 +9,9 @@ use lib.Seq.{sets}
 use Rattle.lists.specs.Lists.{if_then_else_}
 use Rattle.machine.specs.Printed.{decimal}
 use Rattle.input.specs.Fields.{rest}
+use Rattle.case.specs.declared.Reading.{Reading}
+use Rattle.case.specs.Readings.{readingIn}
 use Rattle.case.specs.declared.Held.{Held}
-use Rattle.asking.specs.declared.Reading.{Reading}
-use Rattle.asking.specs.Temp.{readingIn}
 use Rattle.case.specs.Input.{HeldAfter}
 use Rattle.spelling.specs.Text.{moneyText}
 use Rattle.feed.specs.Feeds.{Fed}

@@ -10,32 +10,10 @@ ghost use Rattle.input.specs.Fields.{whole, rest};
 ghost use Rattle.case.specs.Input.{ledgerAfter, HeldAfter};
 ghost use Rattle.forms.specs.Put.{Put};
 ghost use Rattle.feed.specs.Feeds.{Keeps, Fed};
-ghost use Rattle.asking.specs.Temp.{readingIn};
 ghost use Rattle.asking.specs.Questions.{Asks};
 ghost use Rattle.asking.specs.Answers.{sentence, requirementText, refusalText, Written, toldInto, readingSaid, saidAt, usageText, Runs};
 use case::Held;
-
-// TEMP
-pub struct Reading {
-    pub answer: u8,
-    pub cents: u64,
-}
-
-fn temp_reading(held: Held) -> Reading
-    ensures { λ r. ⌜ r ≡ readingIn held ⌝ }
-{
-    if held.present {
-        return Reading {
-            answer: 0,
-            cents: 0,
-        };
-    }
-    Reading {
-        answer: 2,
-        cents: 0,
-    }
-}
-// TEMPEND
+use case::Reading;
 
 // The questions about a case; `Unknown` is none of them.
 pub enum Question {
@@ -255,7 +233,7 @@ pub fn answer(question: Question, rest: Rest, out: &mut [u8]) -> Told
     }
     let held = rest.held;
     match question {
-        Question::Requirement => tell_reading(temp_reading(held), out),
+        Question::Requirement => tell_reading(held.requirement(), out),
         Question::Unknown => tell_usage(out),
     }
 }

@@ -36,8 +36,8 @@ returns-2 c =
 enum-told : tie.Need-enum-told
 enum-told c = search needs
 
-temp-reading-requires : tie.Need-temp-reading-requires
-temp-reading-requires c κs = search needs
+requirement-requires : tie.Need-requirement-requires
+requirement-requires c κs = search needs
 
 tell-reading-requires : tie.Need-tell-reading-requires
 tell-reading-requires c κs = search needs
@@ -54,7 +54,7 @@ same-length-3 c = search needs
 returns-3 : tie.Need-returns-3
 returns-3 c =
     let a = c .before .before .before .before .before .before .before .before .before .before .before .before .before .args in
-    told-as _ (at-requirement (a .question) (a .rest) (not-false _ (c .before .before .before .before .before .before .before .before .before .before .if1 .left)) (c .before .before .before .before .before .before .before .before .if2 .left) (c .before .before .before .before .before .enum-told .given .1) _ (c .before .before .before .before .temp-reading .ensures)) (c .before .before .tell-reading .ensures)
+    told-as _ (at-requirement (a .question) (a .rest) (not-false _ (c .before .before .before .before .before .before .before .before .before .before .if1 .left)) (c .before .before .before .before .before .before .before .before .if2 .left) (c .before .before .before .before .before .enum-told .given .1) _ (c .before .before .before .before .requirement .ensures)) (c .before .before .tell-reading .ensures)
 
 same-length-4 : tie.Need-same-length-4
 same-length-4 c = search needs
@@ -77,7 +77,7 @@ answer-spec =
     same-length-2
     returns-2
     enum-told
-    temp-reading-requires
+    requirement-requires
     tell-reading-requires
     enum-told-2
     tell-usage-requires
