@@ -9,9 +9,9 @@ use lib.Seq.{sets}
 use Rattle.lists.specs.Lists.{if_then_else_}
 use Rattle.machine.specs.Printed.{decimal}
 use Rattle.input.specs.Fields.{rest}
+use Rattle.case.specs.declared.Held.{Held}
 use Rattle.case.specs.declared.Reading.{Reading}
 use Rattle.case.specs.Readings.{readingIn}
-use Rattle.case.specs.declared.Held.{Held}
 use Rattle.case.specs.Input.{HeldAfter}
 use Rattle.spelling.specs.Text.{moneyText}
 use Rattle.feed.specs.Feeds.{Fed}
@@ -71,7 +71,7 @@ Said = Bool × List ℕ
 unfoldable pub readingSaid : Reading → Said
 readingSaid r = if eqb (r .answer) 0 then (true, requirementText (r .cents)) else (false, refusalText (r .answer))
 
--- of what is held
+-- of what is held; to what is no question, how to ask
 unfoldable pub saidTo : Question → Held → Said
 saidTo Requirement h = readingSaid (readingIn h)
 saidTo Unknown h = (false, usageText)

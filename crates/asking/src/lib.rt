@@ -1,6 +1,6 @@
-// A case read from standard input, and a question about it answered in text (document 02, C-16: "the requirement is then read"). No contract can say what is read:
-// there are parts, those that were read, and what is held is what the ledger holds after their whole fields. The text of an answer is one
-// equation of the question and what was read.
+// A case read from standard input, and a question about it answered in text (document 02, C-16: "The committee watches the requirement"). No contract can say what
+// is read: there are parts, those that were read, and what is held is what the ledger holds after their whole fields. What is told is one equation
+// with the question and what was read.
 ghost use mathlib.Core.Path.{_≡_};
 ghost use mathlib.Core.Bool.{false};
 ghost use Prim.Native.Nat.{_+_, _≤_};
