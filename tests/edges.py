@@ -216,6 +216,30 @@ for cmd, days, message in ((EXPECTED, DAYS[:15], b'day 2: declined by 1, the rec
     r = run(cmd, days)
     tell('%s: %s' % (' '.join(cmd), message.decode().strip()), r.returncode == 1 and r.stdout == b'' and r.stderr == message, r)
 
+# ---- questions about a case: nothing is written before the input's end
+
+ASK = ['bin/ask', 'requirement']
+REQUIREMENT = open('crates/ask/stdout', 'rb').read()
+NO_CASE = b'ask: refused 2: there is no case\n'
+CUT = b'ask: not answered, since the input ends within a field\n'
+of = Program(ASK, b'ask', list(fields_of(WORKED)), REQUIREMENT, lambda k: b'', b'', b'')
+outputs_that_fail(' '.join(ASK), of)
+inputs_that_fail(' '.join(ASK), of)
+whole_inputs(' '.join(ASK), of)
+bad_head = bytes([1]) + WORKED[1:3] + bytes(int.from_bytes(WORKED[1:3], 'big'))
+for what, data, message in (('no input', b'', NO_CASE), ('calls without a case', b'\x06\0\0\x0d\0\0', NO_CASE), ('a HEAD that is refused', bad_head, NO_CASE),
+                            ('a field that is cut off', WORKED[:-1], CUT), ('a lone tag', WORKED + b'\x06', CUT), ('a HEAD that is cut off', WORKED[:10], CUT)):
+    r = run(ASK, data)
+    tell('bin/ask requirement, %s' % what, r.returncode == 1 and r.stdout == b'' and r.stderr == message, r)
+# more than the buffer holds, in fields that are refused: short ones, and the longest that there are
+for what, data in (('many fields', b'\0\0\0' * 80000), ('long fields', (b'\x63\xff\xff' + bytes(65535)) * 5)):
+    r = run(ASK, data + WORKED + data)
+    tell('bin/ask requirement, %s that are refused' % what, r.returncode == 0 and r.stdout == REQUIREMENT and r.stderr == b'', r)
+for text in sorted(pathlib.Path('examples').glob('*.txt')):
+    printed = [line.split()[-1] for line in text.with_suffix('.out').read_bytes().splitlines() if line.startswith(b'  requirement, at least 0')]
+    r = run(ASK, run(['bin/fields', str(text)]).stdout)
+    tell('bin/ask requirement, %s' % text, r.returncode == 0 and r.stderr == b'' and [r.stdout] == [b'requirement %s\n' % n for n in printed], (r, printed))
+
 # an input that ends within a field is not taken for a whole case
 r = run(['bin/explain'], WORKED[:-1])
 tell('bin/explain, a field that is cut off', r.stdout.endswith(b'\nNot the whole case: the input ends within a field.\n'), r.stdout[-200:])
@@ -230,6 +254,8 @@ r = run(['bin/fields'], MISTYPED)
 tell('bin/fields stops at a bad line', r.returncode == 1 and r.stderr == MESSAGE + b'\n' and r.stdout == before + b'\0\xff\xff' + MESSAGE, r)
 short = run(['bin/ledger'], r.stdout).stdout.splitlines()
 tell('bin/ledger of a text with a bad line', [l for l in short if l.startswith(b's ')][-1] == b's 0 1' and not any(l[:2] in (b'l ', b'm ') for l in short), short)
+asked = run(ASK, r.stdout)
+tell('bin/ask requirement, a text with a bad line', asked.returncode == 1 and asked.stdout == b'' and asked.stderr == CUT, asked)
 r = run(['bin/explain'], r.stdout)
 tell('bin/explain of a text with a bad line says so', b'cut off, tag 0' in r.stdout and b'FINISH' not in r.stdout.splitlines(), r.stdout)
 r = run(['bin/run'], MISTYPED)
@@ -261,6 +287,30 @@ r = run(EXPECTED + ['no-such-file'])
 tell('bin/expected, no-such-file', r.returncode == 2 and r.stdout == b'' and b'no-such-file' in r.stderr, r)
 r = run(EXPECTED + ['crates/expected/stdin'])
 tell('bin/expected crates/expected/stdin', r.returncode == 0 and r.stderr == b'' and r.stdout == SHARES, r)
+r = run(['bin/ask', '--help'])
+tell('bin/ask --help', r.returncode == 0 and r.stdout.startswith(b'usage: bin/ask') and r.stderr == b'', r)
+for words in ([], ['--unknown'], ['requirement', '--unknown'], ['requirement', 'one', 'two']):
+    r = run(['bin/ask'] + words, WORKED)
+    tell('bin/ask %s' % ' '.join(words), r.returncode == 2 and r.stdout == b'' and r.stderr.startswith(b'usage: bin/ask'), r)
+r = run(ASK + ['no-such-file'])
+tell('bin/ask requirement no-such-file', r.returncode == 2 and r.stdout == b'' and b'no-such-file' in r.stderr, r)
+r = run(ASK + ['examples'])
+tell('bin/ask requirement, a directory', one_line(r, b'ask: standard input: Is a directory') and r.stdout == b'', r)
+r = run(ASK + ['crates/ask/stdin'])
+tell('bin/ask requirement crates/ask/stdin', r.returncode == 0 and r.stderr == b'' and r.stdout == REQUIREMENT, r)
+USAGE = b'usage: ask requirement < FIELDS\n'
+for words in ([''], ['margin'], ['requirements'], ['Requirement']):
+    r = run(['bin/ask'] + words, WORKED)
+    tell('bin/ask %s' % (words[0] or 'with an empty word'), r.returncode == 1 and r.stdout == b'' and r.stderr == USAGE, r)
+for words in ([], ['x' * 100], ['requirement', 'requirement'], ['requirement', '']):
+    # the input stays open, so that a program that reads it first does not end
+    p = start(['target/bin/ask'] + words)
+    try:
+        p.wait(20)
+    except subprocess.TimeoutExpired:
+        p.kill()
+    out, said = p.communicate()
+    tell('the program ask %s' % ' '.join(words)[:30], p.returncode == 0 and out == b'' and said == USAGE, (p.returncode, out, said))
 for words in (['--unknown'], ['--text', '--text'], ['x' * 100]):
     r = run(['target/bin/fields'] + words, HOUSE)
     tell('the program fields %s' % words[0][:9], r.stdout == b'' and r.stderr.startswith(b'usage: '), r)

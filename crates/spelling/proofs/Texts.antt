@@ -1,13 +1,14 @@
 -- The texts of numbers, by the tests of the code, and the line of a call, one number at a time. Assumes nothing.
 use mathlib.Core.Path.{_≡_, refl, sym, ap, _∙_}
 use mathlib.Core.List.{List, [], _∷_, _++_}
-use Prim.Native.Nat.{ℕ, zero, suc, _+_, _-_, _≤_, _<_}
+use Prim.Native.Nat.{ℕ, zero, suc, _+_, _-_, _/_, _≤_, _<_}
 use native.Mathlib.Numerals.{add-one}
 use native.Mathlib.Omega.{arith}
-use lib.ListN.{length, getD, take, drop}
+use lib.ListN.{length, getD, take, drop, length-append}
 use borrow.Author.Tests.{lt-ltb, le-ltb, le-leb, lt-leb, eq-eqb, ne-eqb}
 use Rattle.sets.specs.Set.{members}
 use Rattle.machine.specs.Printed.{decimal}
+use Rattle.lines.proofs.Decimals.{decimal-le}
 use Rattle.wire.specs.Asked.{asked}
 use Rattle.wire.specs.declared.Call.{Call}
 use Rattle.wire.specs.declared.Call.the-variants.{Head as HeadCall, Pool, Member, Round, Bid, Close, Allocate, Tear, Call as CallCall, Pay, Move, Miss, Finish, Sale, Withdraw, Unknown}
@@ -135,3 +136,8 @@ module _ (tag i : ℕ) (out : List ℕ) where
   key-put r new h t l p =
       let e : r ≡ length (separator (keyOf tag i)) = omega (arith, p .behind) in
       rw (le-ltb (length out) 16 h, lt-leb 16 tag t, lt-leb 8 i l) (λ k. (e k, p .stored k))
+
+-- at most 20 digits stand before the point
+pub money-short : (n : ℕ) → length (moneyText n) ≤ 23
+unfolding moneyText
+money-short n = simp length-append (omega (arith, decimal-le 20 (n / 100)))

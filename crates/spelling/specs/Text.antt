@@ -76,3 +76,7 @@ keyInto tag i out =
     else if leb 16 tag then (0, out)
     else if leb 8 i then (0, out)
     else (length t, sets out 0 t)
+
+-- cents put into a buffer from a place on, where there is room for 23 bytes, which no amount of 64 bits passes
+abbrev pub moneyInto : ℕ → List ℕ → ℕ → Written
+moneyInto n out at = putInto 23 (moneyText n) out at

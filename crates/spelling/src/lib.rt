@@ -8,7 +8,7 @@ ghost use Rattle.machine.specs.Printed.{decimal};
 ghost use Rattle.wire.specs.Asked.{asked};
 ghost use Rattle.forms.specs.Put.{Put, Written};
 ghost use Rattle.spelling.specs.Words.{pieces};
-ghost use Rattle.spelling.specs.Text.{moneyText, priceText, membersText, moreText, numberText, itemText, itemsText, lineText, lineInto, keyInto};
+ghost use Rattle.spelling.specs.Text.{moneyText, priceText, membersText, moreText, numberText, itemText, itemsText, lineText, lineInto, keyInto, moneyInto};
 use wire::Call;
 
 // What stands before the numbers of the calls, and their names, each once.
@@ -263,4 +263,17 @@ pub fn write_key(tag: u8, i: usize, out: &mut [u8]) -> usize
         return 0;
     }
     put_piece(out, 0, place(tag) * 8 + i)
+}
+
+// Cents from a place on, with a point and two digits behind it, and the place behind them. Nothing is put where less than 23 bytes are left.
+pub fn write_money(n: u64, out: &mut [u8], at: usize) -> usize
+    ensures { λ r. ⌜ _≡_ {A = Written} (r, now (out .exit)) (moneyInto n (now (out .entry)) at) ⌝ }
+{
+    if out.len() < at {
+        return at;
+    }
+    if out.len() - at < 23 {
+        return at;
+    }
+    put_money(out, at, n)
 }

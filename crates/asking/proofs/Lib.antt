@@ -1,0 +1,4 @@
+pub mod Taking
+pub mod Turning
+pub mod Questions
+pub mod Telling
