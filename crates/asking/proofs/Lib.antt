@@ -1,4 +1,2 @@
-pub mod Taking
-pub mod Turning
 pub mod Questions
 pub mod Telling

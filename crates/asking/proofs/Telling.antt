@@ -22,7 +22,7 @@ use Rattle.asking.specs.declared.Rest.{Rest}
 use Rattle.asking.specs.declared.Told.{Told}
 use Rattle.asking.specs.Questions.{requirementWord}
 use Rattle.asking.specs.Answers.{refusedWords, noCase, cutText, usageText, requirementText, sentence, refusedBy, refusalText, Said, readingSaid, saidTo, saidAt, Written, toldInto, Runs}
-use Rattle.asking.proofs.Turning.{fed-none}
+use Rattle.case_feed.proofs.Turning.{fed-none}
 
 -- ---- texts
 

@@ -5,6 +5,7 @@ pub mod Replaying
 pub mod Fronts
 pub mod Running
 pub mod Parts
+pub mod Taking
 pub mod Showing
 pub mod SetupSteps
 pub mod BiddingSteps

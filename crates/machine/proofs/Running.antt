@@ -13,7 +13,7 @@ use lib.ListN.{length, getD, set, drop, replicate, List·getD-map, List·getD-ap
 use borrow.Author.Tests.{ltb-true, eqb-true, ne-eqb, eq-eqb, not-false}
 use Rattle.lists.specs.Lists.{if_then_else_, oneIf, sum, sumTo, count, keep, changeFirst, mapFrom, tab}
 use Rattle.lists.specs.Tests.{Passed}
-use Rattle.lists.proofs.Bools.{either, by-test, cases, and-left, and-right, lt-or-le, oneIf-choice}
+use Rattle.lists.proofs.Bools.{either, cases, and-left, and-right, lt-or-le, oneIf-choice}
 use Rattle.lists.proofs.Sums.{sumTo-ext, sum-none, sum-append}
 use Rattle.lists.proofs.Keep.{keep-and, sum-keep, sum-keep-cons, sum-keep-ext, sum-ones, sum-keys, count-keep}
 use Rattle.lists.proofs.Each.{Each, each-always, each-more, each-replicate, each-kept, drop-step, map-append, map-ext, length-map, set-cases, same-mapFrom}

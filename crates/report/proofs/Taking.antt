@@ -25,13 +25,13 @@ use Rattle.input.specs.Fields.{wholeFirst, frontSize}
 use Rattle.case.specs.Input.{ledgerAfter, ledgerAnswers, FieldsTaken}
 use Rattle.input.proofs.Fields.{size-whole}
 use Rattle.input.proofs.Strings.{front-at, ends-long}
-use Rattle.input.proofs.Pieces.{front-none, front-next, front-zero, bytes-most, fields-most, fields-few, fields-chunk, fields-stop}
-use Rattle.input.proofs.Fronts.{front-most, rest-all, no-entry}
-use Rattle.case.proofs.Running.{after-two, answers-long}
+use Rattle.input.proofs.Pieces.{front-none, front-next, front-zero, fields-most}
+use Rattle.input.proofs.Fronts.{front-most, rest-all}
+use Rattle.case.proofs.Running.{answers-long}
+use Rattle.case.proofs.Taking.{Passed, within, left, goes as passes, none-left as none-taken, none-behind as past-end}
 use Rattle.case.proofs.Small.{answer-most}
 use Rattle.report.specs.Texts.{ledgerLines, startOf, answerLine, takePart, TakesPart, placedLines}
 use Rattle.input.specs.Fields.{whole, wholeFields}
-use Rattle.input.proofs.Strings.{bytes-two}
 use Rattle.report.proofs.Placing.{text-append, text-line, lines-fit}
 use Rattle.report.proofs.Widths.{s-line-most}
 
@@ -179,7 +179,7 @@ lines-two h (f ∷ a) b = ap (λ (ls : List Line). sLine f (applied h f .answer)
 -- ---- the loop
 
 pub record Taking (h : Held) (input old new : List ℕ) (held : Held) (used written : ℕ) : Type 0 where
-  pub place : used ≤ length input
+  pub passed : Passed h input held used
   pub size : length new ≡ length old
   pub room : 4 * length input ≤ length old
   pub short : written ≤ 4 * used
@@ -187,14 +187,12 @@ pub record Taking (h : Held) (input old new : List ℕ) (held : Held) (used writ
   pub told : written ≡ length (text done)
   pub out : new ≡ sets old 0 (text done)
   pub lines : done ++ ledgerLines held (whole (drop used input)) ≡ ledgerLines h (whole input)
-  pub leads : ledgerAfter held (whole (drop used input)) ≡ ledgerAfter h (whole input)
-  pub counted : used + bytesOf (whole (drop used input)) ≡ bytesOf (whole input)
 
 pub starts : (h : Held) (input old : List ℕ) → length input ≤ length old / 4 → Taking h input old old h 0 0
 unfolding text
 starts h input old r =
     record {
-      place = omega arith;
+      passed = record { place = omega arith; leads = refl; counted = omega arith };
       size = refl;
       room = omega arith;
       short = omega arith;
@@ -202,15 +200,7 @@ starts h input old r =
       told = refl;
       out = refl;
       lines = refl;
-      leads = refl;
-      counted = omega arith;
     }
-
--- the rest of the input, as the code lends it
-pub lent : (held : Held) (input : List ℕ) (used n : ℕ) (ends answers ends' answers' : List ℕ) (front : Front)
-    → FieldsTaken held (wholeFields n (take (length input - used) (drop used input))) ends answers ends' answers' front
-    → FieldsTaken held (wholeFields n (drop used input)) ends answers ends' answers' front
-lent held input used n ends answers ends' answers' front taken = rw (rest-all input used) at taken
 
 module _ (h : Held) (input old new : List ℕ) (held : Held) (used written : ℕ) (g : Taking h input old new held used written) (bytes : Bytes input) (ends answers ends' answers' : List ℕ)
     (front : Front) (taken : FieldsTaken held (wholeFields (min (length answers) (length ends)) (drop used input)) ends answers ends' answers' front) where
@@ -227,14 +217,7 @@ module _ (h : Held) (input old new : List ℕ) (held : Held) (used written : ℕ
   few = fields-most (frontSize false) (front-most false) m rest
 
   pub used-within : (used + front .used ≤ length input) × (front .count ≤ front .used)
-  used-within = (
-    omega (arith, taken .used, bytes-most (frontSize false) (front-most false) m rest, length-drop used input, g .place),
-    omega (arith, taken .used, taken .count, fields-few (frontSize false) (front-most false) m rest),
-  )
-
-  -- what is left behind these fields
-  left : whole rest ≡ gs ++ whole (drop (used + bytesOf gs) input)
-  left = fields-chunk (frontSize false) (front-most false) m rest ∙ ap (λ (r : List ℕ). gs ++ whole r) (drop-drop (bytesOf gs) used input)
+  used-within = within h input held used (g .passed) ends answers ends' answers' front taken
 
   short-lines : length (text (ledgerLines held gs)) ≤ 4 * bytesOf gs
   short-lines = lines-short held gs (three-bytes rest m) (field-bytes rest m (each-drop _ used input bytes))
@@ -246,7 +229,7 @@ module _ (h : Held) (input old new : List ℕ) (held : Held) (used written : ℕ
       let t = text ls in
       let same : tab (front .count) (answerLine rest ends' answers') ≡ ls =
       ap (λ (n : ℕ). tab n (answerLine rest ends' answers')) (taken .count) ∙ lines-are held rest m ends answers ends' answers' front taken (omega (arith, few)) (omega (arith, few)) in
-      let within = used-within .0 in
+      let inside = used-within .0 in
       let fits : _≡_ {A = Placed} (r, last) (written + length t, sets new written t) =
       w ∙ ap (λ (r : List ℕ). placedLines (tab (front .count) (answerLine r ends' answers')) new written) (rest-all input used) ∙ ap (λ (l : List Line). placedLines l new written) same
       ∙ lines-fit ls new written (omega (arith, g .size, g .room, g .short, short-lines, taken .used)) in
@@ -255,7 +238,7 @@ module _ (h : Held) (input old new : List ℕ) (held : Held) (used written : ℕ
       let all : text (g .done ++ ls) ≡ text (g .done) ++ t = text-append (g .done) ls in
       let behind = whole (drop (used + bytesOf gs) input) in
       rw (taken .held, taken .used) (record {
-        place = omega (arith, within, taken .used);
+        passed = rw (taken .held, taken .used) at (passes h input held used (g .passed) ends answers ends' answers' front taken);
         size = ap (λ (q : Placed). length (q .1)) fits ∙ length-sets new written t ∙ g .size;
         room = g .room;
         short = omega (arith, g .short, short-lines, to);
@@ -269,19 +252,15 @@ module _ (h : Held) (input old new : List ℕ) (held : Held) (used written : ℕ
             ∙ ap (sets old 0) (sym all);
         lines =
             append-assoc (g .done) ls (ledgerLines (ledgerAfter held gs) behind)
-            ∙ ap (λ (x : List Line). g .done ++ x) (sym (lines-two held gs behind) ∙ ap (ledgerLines held) (sym left))
+            ∙ ap (λ (x : List Line). g .done ++ x) (sym (lines-two held gs behind) ∙ ap (ledgerLines held) (sym (left h input held used (g .passed) ends answers ends' answers' front taken)))
             ∙ g .lines;
-        leads = sym (after-two held gs behind) ∙ ap (ledgerAfter held) (sym left) ∙ g .leads;
-        counted = omega (arith, g .counted, ap bytesOf left, bytes-two gs behind);
       })
 
   -- where none was taken, no whole field is left
   pub none-left : 0 < length answers → 0 < length ends → front .count ≡ 0 → whole rest ≡ []
   unfolding bytesOf
   none-left some-answers some-ends none-there =
-      let empty : length gs ≡ 0 = omega (arith, taken .count) in
-      let stop : frontSize false (drop (bytesOf gs) rest) ≡ 0 = fields-stop (frontSize false) (front-most false) m rest (omega arith) in
-      front-none (frontSize false) (front-most false) (length rest) rest (ap (λ (fs : List (List ℕ)). frontSize false (drop (bytesOf fs) rest)) (sym (no-entry gs empty)) ∙ stop)
+      front-none (frontSize false) (front-most false) (length rest) rest (none-taken h input held used (g .passed) ends answers ends' answers' front taken some-answers some-ends none-there)
 
 -- nothing is taken from a part for which there is no room
 pub takes-none : (h : Held) (input old : List ℕ) → length old / 4 < length input → TakesPart h input old old (record { held = h; used = 0; written = 0 })
@@ -300,17 +279,17 @@ pub takes : (h : Held) (input old new : List ℕ) (held : Held) (used written : 
 unfolding takePart ledgerLines ledgerAfter bytesOf
 takes h input old new held used written g stop =
     let done : g .done ≡ ledgerLines h (whole input) = sym (append-nil (g .done)) ∙ (rw stop at (g .lines)) in
-    let after : held ≡ ledgerAfter h (whole input) = rw stop at (g .leads) in
-    let bytes : used ≡ bytesOf (whole input) = omega (arith, rw stop at (g .counted)) in
+    let after : held ≡ ledgerAfter h (whole input) = rw stop at (g .passed .leads) in
+    let bytes : used ≡ bytesOf (whole input) = omega (arith, rw stop at (g .passed .counted)) in
     let told : written ≡ length (text (ledgerLines h (whole input))) = g .told ∙ ap (λ (ls : List Line). length (text ls)) done in
     let out : new ≡ sets old 0 (text (ledgerLines h (whole input))) = g .out ∙ ap (λ (ls : List Line). sets old 0 (text ls)) done in
     record {
       is = rw (le-leb (4 * length input) (length old) (g .room)) (λ i. (record { held = after i; used = bytes i; written = told i }, out i));
-      used = g .place;
+      used = g .passed .place;
       short = g .short;
-      fits = omega (arith, g .short, g .place, g .room);
+      fits = omega (arith, g .short, g .passed .place, g .room);
     }
 
 -- at the input's end none is left
 pub none-behind : (input : List ℕ) (used : ℕ) → length input ≤ used → whole (drop used input) ≡ []
-none-behind input used l = front-none (frontSize false) (front-most false) (length (drop used input)) (drop used input) (omega (arith, front-most false (drop used input), length-drop used input))
+none-behind input used l = front-none (frontSize false) (front-most false) (length (drop used input)) (drop used input) (past-end input used l)

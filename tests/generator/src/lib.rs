@@ -17,7 +17,7 @@ mod writer;
 pub use describe::{describe, fields};
 pub use profile::Profile;
 pub use rng::Rng;
-pub use run::run;
+pub use run::{run, start};
 pub use tie::Tie;
 pub use ties::simple_part;
 pub use timing::{accepted, refused, timing};

@@ -6,7 +6,7 @@ use Rattle.input.specs.Fields.{rest}
 use Rattle.case.specs.Input.{HeldAfter}
 use Rattle.feed.specs.Feeds.{Fed}
 use Rattle.feed.proofs.Turning.{fed-read}
-use Rattle.asking.proofs.Turning.{fed-none, fed-turn}
+use Rattle.case_feed.proofs.Turning.{fed-none, fed-turn}
 use borrow.Author.Needs.{needs}
 use Rattle.asking.proofs.read_case.Statement.{statement}
 use Rattle.asking.proofs.read_case.Tie as tie

@@ -7,7 +7,8 @@ use lib.ListN.{length}
 use Rattle.input.specs.Fields.{frontSize}
 use Rattle.input.proofs.Fronts.{front-most}
 use Rattle.input.proofs.Pieces.{passing-starts}
-use Rattle.asking.proofs.Taking.{Passed, within, goes, none-left, none-behind, finished}
+use Rattle.case.proofs.Taking.{Passed, lent, within, goes, none-left, none-behind, finished}
+use denote.Ref.{now}
 use borrow.Author.Needs.{needs}
 use Rattle.asking.proofs.take_part.Statement.{statement}
 use Rattle.asking.proofs.take_part.Tie as tie
@@ -40,16 +41,16 @@ take-fields-requires : tie.Need-take-fields-requires Inv-loop μ-loop
 take-fields-requires c κs = search needs
 
 add-used : tie.Need-add-used Inv-loop μ-loop
-add-used c = let l = c .before .before .before .before .before .before .before .before .before .before .before .loop in omega (arith, within _ _ _ _ (l .inv .0) _ _ _ _ _ (c .before .before .before .before .before .before .take-fields .ensures), c .before .before .before .before .before .before .before .before .before .before .before .before .before .good .1 .0 .0)
+add-used c = let l = c .before .before .before .before .before .before .before .before .before .before .before .loop in omega (arith, within _ _ _ _ (l .inv .0) _ _ _ _ _ (lent _ (now (c .before .before .before .before .before .before .before .before .before .before .before .before .before .args .input)) (l .used) _ _ _ _ _ _ (c .before .before .before .before .before .before .take-fields .ensures)), c .before .before .before .before .before .before .before .before .before .before .before .before .before .good .1 .0 .0)
 
 loop-less : tie.Need-loop-less Inv-loop μ-loop
-loop-less c = let l = c .before .before .before .before .before .before .before .before .before .before .before .loop in omega (arith, within _ _ _ _ (l .inv .0) _ _ _ _ _ (c .before .before .before .before .before .before .take-fields .ensures), c .before .before .if1 .left)
+loop-less c = let l = c .before .before .before .before .before .before .before .before .before .before .before .loop in omega (arith, within _ _ _ _ (l .inv .0) _ _ _ _ _ (lent _ (now (c .before .before .before .before .before .before .before .before .before .before .before .before .before .args .input)) (l .used) _ _ _ _ _ _ (c .before .before .before .before .before .before .take-fields .ensures)), c .before .before .if1 .left)
 
 loop-again : tie.Need-loop-again Inv-loop μ-loop
 loop-again c =
     let l = c .before .before .before .before .before .before .before .before .before .before .before .loop in
     let t = c .before .before .before .before .before .before .take-fields in
-    (goes _ _ _ _ (l .inv .0) _ _ _ _ _ (t .ensures), t .kept .1 .1 .1 .0 ∙ l .inv .1, t .kept .1 .1 .1 .1 .0 ∙ l .inv .2)
+    (goes _ _ _ _ (l .inv .0) _ _ _ _ _ (lent _ (now (c .before .before .before .before .before .before .before .before .before .before .before .before .before .args .input)) (l .used) _ _ _ _ _ _ (t .ensures)), t .kept .1 .1 .1 .0 ∙ l .inv .1, t .kept .1 .1 .1 .1 .0 ∙ l .inv .2)
 
 returns : tie.Need-returns Inv-loop μ-loop
 returns c = finished _ _ _ _ (c .before .loop .inv .0) (none-behind _ _ (c .loop-test .left))
@@ -57,7 +58,7 @@ returns c = finished _ _ _ _ (c .before .loop .inv .0) (none-behind _ _ (c .loop
 returns-2 : tie.Need-returns-2 Inv-loop μ-loop
 returns-2 c =
     let l = c .before .before .before .before .before .before .before .before .before .loop in
-    finished _ _ _ _ (l .inv .0) (none-left _ _ _ _ (l .inv .0) _ _ _ _ _ (c .before .before .before .before .take-fields .ensures) (omega (arith, l .inv .2)) (omega (arith, l .inv .1)) (c .if1 .taken))
+    finished _ _ _ _ (l .inv .0) (none-left _ _ _ _ (l .inv .0) _ _ _ _ _ (lent _ (now (c .before .before .before .before .before .before .before .before .before .before .before .args .input)) (l .used) _ _ _ _ _ _ (c .before .before .before .before .take-fields .ensures)) (omega (arith, l .inv .2)) (omega (arith, l .inv .1)) (c .if1 .taken))
 
 pub take-part-spec : {M : Type 1} → statement M
 take-part-spec =

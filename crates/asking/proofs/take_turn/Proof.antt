@@ -1,6 +1,6 @@
 -- `asking::take_turn` meets its contract. Assumes nothing.
 use Rattle.feed.proofs.Turning.{lent}
-use Rattle.asking.proofs.Turning.{turns}
+use Rattle.case_feed.proofs.Turning.{turns}
 use borrow.Author.Needs.{needs}
 use Rattle.asking.proofs.take_turn.Statement.{statement}
 use Rattle.asking.proofs.take_turn.Tie as tie

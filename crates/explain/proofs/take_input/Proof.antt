@@ -7,7 +7,7 @@ use Rattle.case.specs.Input.{HeldAfter}
 use Rattle.input.specs.Fields.{rest}
 use Rattle.feed.specs.Feeds.{Fed}
 use Rattle.feed.proofs.Turning.{fed-read}
-use Rattle.explain.proofs.Turning.{fed-none, fed-turn}
+use Rattle.case_feed.proofs.Turning.{fed-none, fed-turn}
 use Rattle.explain.proofs.take_input.Statement.{statement}
 use Rattle.explain.proofs.take_input.Tie as tie
 

@@ -1,6 +1,6 @@
 -- `explain::take_turn` meets its contract. Assumes nothing.
 use Rattle.feed.proofs.Turning.{lent}
-use Rattle.explain.proofs.Turning.{turns}
+use Rattle.case_feed.proofs.Turning.{turns}
 use borrow.Author.Needs.{needs}
 use Rattle.explain.proofs.take_turn.Statement.{statement}
 use Rattle.explain.proofs.take_turn.Tie as tie

@@ -6,7 +6,8 @@ use lib.ListN.{length}
 use denote.Ref.{now}
 use Rattle.lists.proofs.Each.{each-of}
 use Rattle.lists.specs.Lists.{Bytes}
-use Rattle.report.proofs.Taking.{Taking, starts, lent, goes, used-within, none-left, takes-none, takes, none-behind}
+use Rattle.case.proofs.Taking.{lent}
+use Rattle.report.proofs.Taking.{Taking, starts, goes, used-within, none-left, takes-none, takes, none-behind}
 use borrow.Author.Needs.{needs}
 use Rattle.report.proofs.take_part.Statement.{statement}
 use Rattle.report.proofs.take_part.Tie as tie
@@ -28,10 +29,10 @@ loop-holds : tie.Need-loop-holds Inv-loop μ-loop
 loop-holds c = (starts _ _ _ (omega (arith, c .if1 .left)), refl, refl)
 
 sub-rest : tie.Need-sub-rest Inv-loop μ-loop
-sub-rest c = let w = c .before .loop .inv .0 .place in search (needs, w)
+sub-rest c = let w = c .before .loop .inv .0 .passed .place in search (needs, w)
 
 part-rest-start : tie.Need-part-rest-start Inv-loop μ-loop
-part-rest-start c = let w = c .before .loop .inv .0 .place in search (needs, w)
+part-rest-start c = let w = c .before .loop .inv .0 .passed .place in search (needs, w)
 
 part-rest-end : tie.Need-part-rest-end Inv-loop μ-loop
 part-rest-end c = search needs

@@ -3,12 +3,12 @@
 //! and for words that are no call of it, and for long runs. It ends with 1 at the first difference, and where over 1,000 runs or more one of the
 //! situations that it counts never came. Run R of seed S is the first run of seed S + R.
 
-use generator::{Rng, Tie, simple_part};
+use generator::{Rng, Tie, simple_part, start};
 use model::positions::{POSITION_LIMIT, UNITS_LIMIT, WINDOW};
 use model::{Ring, expected, first_declined, sums_afresh};
 use std::collections::BTreeMap;
 use std::io::Write;
-use std::process::{Child, ChildStdin, Command, ExitCode, Stdio};
+use std::process::{ChildStdin, ExitCode};
 use std::sync::Mutex;
 use std::sync::atomic::{AtomicU64, Ordering};
 use std::thread;
@@ -82,18 +82,6 @@ fn feed(mut to: ChildStdin, input: &[u8], piece: Option<usize>) {
             return;
         }
     }
-}
-
-fn start(program: &str, words: &[String]) -> (Child, ChildStdin) {
-    let mut child = Command::new(program)
-        .args(words)
-        .stdin(Stdio::piped())
-        .stdout(Stdio::piped())
-        .stderr(Stdio::piped())
-        .spawn()
-        .expect("the program is built");
-    let to = child.stdin.take().expect("it is piped");
-    (child, to)
 }
 
 fn shown(bytes: &[u8]) -> String {

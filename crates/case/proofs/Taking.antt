@@ -1,4 +1,5 @@
--- What holds at each turn of `take_part`: what is held after the whole fields that are left is what is held after all. Assumes nothing.
+-- The whole fields of an input taken some at a time (`take_fields`): what holds at each turn is that what is held after the fields that are left is what is held
+-- after all. Assumes nothing.
 use mathlib.Core.Path.{_≡_, refl, sym, ap, _∙_}
 use mathlib.Core.Bool.{false}
 use mathlib.Core.List.{List, _++_}
@@ -11,18 +12,24 @@ use Rattle.input.specs.Fields.{frontSize, wholeFields, whole}
 use Rattle.input.proofs.Strings.{bytes-two}
 use Rattle.input.proofs.Pieces.{bytes-most, fields-few, fields-chunk, fields-stop, Passing, passing-ends}
 use Rattle.input.proofs.Fronts.{front-most, rest-all, no-entry}
 use Rattle.case.specs.declared.Held.{Held}
 use Rattle.case.specs.declared.Front.{Front}
 use Rattle.case.specs.Cases.{applied}
 use Rattle.case.specs.Input.{ledgerAfter, FieldsTaken}
 use Rattle.case.proofs.Running.{after-two}
 use Rattle.case.proofs.Parts.{after-cons, after-none}
 
 abbrev pub Passed : Held → List ℕ → Held → ℕ → Type 0
 Passed = Passing (frontSize false) (front-most false) ledgerAfter
 
+-- the rest of the input, as the code lends it
+pub lent : (held : Held) (input : List ℕ) (used n : ℕ) (ends answers ends' answers' : List ℕ) (front : Front)
+    → FieldsTaken held (wholeFields n (take (length input - used) (drop used input))) ends answers ends' answers' front
+    → FieldsTaken held (wholeFields n (drop used input)) ends answers ends' answers' front
+lent held input used n ends answers ends' answers' front taken = rw (rest-all input used) at taken
+
 module _ (h : Held) (input : List ℕ) (held : Held) (used : ℕ) (g : Passed h input held used) (ends answers ends' answers' : List ℕ) (front : Front)
-    (lent : FieldsTaken held (wholeFields (min (length answers) (length ends)) (take (length input - used) (drop used input))) ends answers ends' answers' front) where
+    (taken : FieldsTaken held (wholeFields (min (length answers) (length ends)) (drop used input)) ends answers ends' answers' front) where
   abbrev rest : List ℕ
   rest = drop used input
 
@@ -32,9 +39,6 @@ module _ (h : Held) (input : List ℕ) (held : Held) (used : ℕ) (g : Passed h 
   abbrev gs : List (List ℕ)
   gs = wholeFields m rest
 
-  taken : FieldsTaken held gs ends answers ends' answers' front
-  taken = rw (rest-all input used) at lent
-
   pub within : (used + front .used ≤ length input) × (front .count ≤ front .used)
   within = (
     omega (arith, taken .used, bytes-most (frontSize false) (front-most false) m rest, length-drop used input, g .place),
@@ -42,7 +46,7 @@ module _ (h : Held) (input : List ℕ) (held : Held) (used : ℕ) (g : Passed h 
   )
 
   -- what is left behind these fields
-  left : whole rest ≡ gs ++ whole (drop (used + bytesOf gs) input)
+  pub left : whole rest ≡ gs ++ whole (drop (used + bytesOf gs) input)
   left = fields-chunk (frontSize false) (front-most false) m rest ∙ ap (λ (r : List ℕ). gs ++ whole r) (drop-drop (bytesOf gs) used input)
 
   pub goes : Passed h input (front .held) (used + front .used)
