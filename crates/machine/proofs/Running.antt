@@ -550,6 +550,11 @@ unfolding keptFrom keptStep runFrom
 kept-run k ok e [] = (refl, e)
 kept-run k ok e (bytes ∷ calls) = kept-run (keptStep k bytes) (step-ok (k .state) ok bytes) (λ pool. kept-step pool (k .state) ok (k .gone pool) (e pool) bytes) calls
 
+-- the answer and the cents of the requirement of a state, by the full addition
+abbrev pub readingOf : State → Reading
+readingOf none = (2, 0)
+readingOf (some c) = (0, requirement c)
+
 module _ (calls : List (List ℕ)) where
   none-gone : (pool : ℕ) → pos 0 ≡ gone none pool
   unfolding leftSum leftPrices keep sumCents
@@ -581,3 +586,11 @@ module _ (calls : List (List ℕ)) where
   pub reading-declined : runFrom none calls ≡ none → reading (keptFrom nothingKept calls) ≡ (2, 0)
   unfolding reading readFrom
   reading-declined here = rw (kept-state, here) refl
+
+  -- both in one
+  pub reading-is : reading (keptFrom nothingKept calls) ≡ readingOf (runFrom none calls)
+  reading-is = by-state (runFrom none calls) refl
+    where
+      by-state : (s : State) → runFrom none calls ≡ s → reading (keptFrom nothingKept calls) ≡ readingOf s
+      by-state none here = reading-declined here
+      by-state (some c) here = reading-full c here

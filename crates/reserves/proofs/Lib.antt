@@ -1,0 +1,4 @@
+pub mod Alike
+pub mod Seen
+pub mod Text
+pub mod Claims

@@ -1,0 +1,3 @@
+pub mod Reserves
+pub mod Text
+pub mod Computing

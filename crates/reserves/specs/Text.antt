@@ -1,0 +1,32 @@
+-- Document 02, C-17, of the text that the program `ledger` prints: of two inputs whose fields are the same but for reserves, with the same bids valid, all lines are
+-- the same, but for the rank and the charge on contribution in m lines. It is proved in proofs/Claims.antt.
+use mathlib.Core.Path.{_≡_}
+use mathlib.Core.Bool.{Bool, false, _&&_, _||_}
+use mathlib.Core.List.{List, [], _∷_}
+use Prim.Native.Nat.{ℕ, suc}
+use lib.Dec.{eqb}
+use lib.ListN.{length}
+use Rattle.lists.specs.Lists.{if_then_else_, between}
+use Rattle.machine.specs.Printed.{fieldsIn, printed}
+use Rattle.reserves.specs.Reserves.{SameButReserves}
+
+-- "m: member, rank, charge on contribution, on payments": a text from a place on without the words 2 and 3 of m lines. The place stands in word w of a line, the
+-- letter being word 0, and of an m line or not; a space (32) begins the next word, a line's end (10) the next line
+unfoldable pub textFrom : Bool → ℕ → List ℕ → List ℕ
+textFrom isM w [] = []
+textFrom isM w (b ∷ s) =
+    if eqb b 10 then b ∷ textFrom false 0 s
+    else if eqb b 32 then b ∷ textFrom isM (suc w) s
+    else if isM && between 2 3 w then textFrom isM w s
+    else b ∷ textFrom (isM || (eqb w 0 && eqb b 109)) w s
+
+-- what a text shows outside the house
+abbrev pub textOutside : List ℕ → List ℕ
+textOutside s = textFrom false 0 s
+
+-- the fields of an input
+abbrev pub fieldsOf : List ℕ → List (List ℕ)
+fieldsOf input = fieldsIn (length input) input
+
+abbrev pub TextStaysAlike : Type 0
+TextStaysAlike = (input other : List ℕ) → SameButReserves (fieldsOf input) (fieldsOf other) → textOutside (printed input) ≡ textOutside (printed other)
