@@ -17,7 +17,7 @@ use Rattle.machine.specs.State as M
 use Rattle.machine.specs.Calls.{accepted}
 use Rattle.machine.specs.Refusals.{tests, refusal}
 use Rattle.machine.specs.Machine.{answered, step}
-use Rattle.machine.specs.Requirement.{requirement}
+use Rattle.machine.specs.Requirement.{owes}
 use Rattle.machine.specs.Run.{Observed, observed, runFrom, observedFrom, run}
 use Rattle.machine.specs.Running.{leftSum}
 use Rattle.machine.specs.Printed.{fieldsIn}
@@ -25,23 +25,21 @@ use Rattle.machine.proofs.Answers.{accepted-passed}
 use Rattle.machine.proofs.Invariant.{CaseOk}
 use Rattle.machine.proofs.CallsKept.{head-ok}
 use Rattle.machine.proofs.Reached.{next-ok, first-call}
+use Rattle.machine.proofs.Running.{readingOf}
+use Rattle.reserves.specs.Reserves.{outsideOf}
+use Rattle.reserves.proofs.Seen.{outsideAt}
 use Rattle.book.proofs.Sound.{Sound}
 use Rattle.case.specs.declared.Case.{Case}
 use Rattle.case.specs.declared.Held.{Held}
 use Rattle.case.specs.declared.Ran.{Ran}
 use Rattle.case.specs.View.{view}
 use Rattle.case.specs.Cases.{caseAfter, caseAnswerTo, firstAnswerTo, answerTo, afterAsked, takeAsked, applied, noHeld}
-use Rattle.case.specs.Readings.{poolPricesIn, readingIn, seen}
-use Rattle.case.specs.Claim.{Read, Agrees, ledgerFrom}
+use Rattle.case.specs.Readings.{poolPricesIn, readingIn, calledIn, owedIn, seen}
+use Rattle.case.specs.Claim.{Read, Agrees, ledgerFrom, outsideIn}
 use Rattle.case.specs.Input.{Runs, ledgerAfter, ledgerAnswers}
 use Rattle.case.proofs.Steps.{next-shown, head-shown}
 use Rattle.case.proofs.Decoded.{AllRead, read-fits, decoded-read, answer-shown, first-shown}
-use Rattle.case.proofs.Observations.{pool-sum-read, requirement-read, case-observed, none-observed, none-left, none-read}
-
--- the answer and the cents that are read of the machine's requirement
-abbrev pub requirementOf : M.State → ℕ × ℕ
-requirementOf none = (2, 0)
-requirementOf (some c) = (0, requirement c)
+use Rattle.case.proofs.Observations.{pool-sum-read, requirement-read, called-read, owed-read, case-observed, none-observed, none-left, none-read, none-called, none-owed}
 
 -- ---- what is held, and the machine's state
 
@@ -151,10 +149,29 @@ sums-seen h none t pool = none-left h t pool
 sums-seen h (some c) t pool =
     with-case h (λ s. poolPricesIn h pool ≡ leftSum (M.theCase s) pool) (λ x u. pool-sum-read (h .case) (x .roll) (u .sound) (u .ok) h (u .present) refl pool) c t
 
-pub requirement-seen : (h : Held) (s : M.State) → Tied h s → _≡_ {A = ℕ × ℕ} (readingIn h .answer, readingIn h .cents) (requirementOf s)
+pub requirement-seen : (h : Held) (s : M.State) → Tied h s → _≡_ {A = ℕ × ℕ} (readingIn h .answer, readingIn h .cents) (readingOf s)
 requirement-seen h none t = none-read h t
 requirement-seen h (some c) t =
-    with-case h (λ s. _≡_ {A = ℕ × ℕ} (readingIn h .answer, readingIn h .cents) (requirementOf s)) (λ x u. requirement-read (h .case) (x .roll) (u .sound) (u .ok) h (u .present) refl) c t
+    with-case h (λ s. _≡_ {A = ℕ × ℕ} (readingIn h .answer, readingIn h .cents) (readingOf s)) (λ x u. requirement-read (h .case) (x .roll) (u .sound) (u .ok) h (u .present) refl) c t
+
+-- ---- document 02, C-17: all that is seen outside the house
+
+called-seen : (h : Held) (s : M.State) → Tied h s → calledIn h ≡ map (λ m. M.memberAt (M.theCase s .members) m .called) (M.memberList (M.theCase s .head))
+called-seen h none t = none-called h t
+called-seen h (some c) t =
+    with-case h (λ s. calledIn h ≡ map (λ m. M.memberAt (M.theCase s .members) m .called) (M.memberList (M.theCase s .head)))
+    (λ x u. called-read (h .case) (x .roll) (u .sound) (u .ok) h (u .present) refl) c t
+
+owed-seen : (h : Held) (s : M.State) → Tied h s → owedIn h ≡ map (owes (M.theCase s .members)) (M.memberList (M.theCase s .head))
+owed-seen h none t = none-owed h t
+owed-seen h (some c) t =
+    with-case h (λ s. owedIn h ≡ map (owes (M.theCase s .members)) (M.memberList (M.theCase s .head)))
+    (λ x u. owed-read (h .case) (x .roll) (u .sound) (u .ok) h (u .present) refl) c t
+
+pub outside-seen : (h : Held) (s : M.State) → Tied h s → outsideIn h ≡ outsideAt s
+unfolding outsideIn
+outside-seen h s t =
+    λ i. outsideOf (seen-observed 0 h s t i) (λ pool. sums-seen h s t pool i) (requirement-seen h s t i) (called-seen h s t i) (owed-seen h s t i)
 
 -- ---- every list of calls
 

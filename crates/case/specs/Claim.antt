@@ -12,7 +12,7 @@ use mathlib.Core.List.{List, [], _∷_, map}
 use mathlib.Core.Option.{none, some}
 use Prim.Native.Nat.{ℕ, _+_, _≤_, _<_, _^_}
 use lib.IntN.{pos, _-ℤ_}
-use lib.ListN.{length, getD}
+use lib.ListN.{length, getD, take}
 use Rattle.lists.specs.Lists.{sum, count, Each, Bytes}
 use Rattle.lists.specs.Tests.{Passed, First}
 use Rattle.sets.specs.Set.{member, members}
@@ -26,6 +26,7 @@ use Rattle.machine.specs.Machine.{answered}
 use Rattle.machine.specs.Result.{limits}
 use Rattle.machine.specs.Run.{Result, Observed, observed, run, runFrom}
 use Rattle.machine.specs.Running.{leftSum, nothingKept, keptFrom, reading}
+use Rattle.reserves.specs.Reserves.{SameButReserves, Outside, outsideOf}
 use Rattle.wire.specs.declared.Head.{Head}
 use Rattle.wire.specs.Asked.{headOf}
 use Rattle.units.specs.declared.Units.{Units}
@@ -37,8 +38,8 @@ use Rattle.case.specs.declared.Case.{Case}
 use Rattle.case.specs.declared.Held.{Held}
 use Rattle.case.specs.declared.Reading.{Reading}
 use Rattle.case.specs.Cases.{applied, noHeld, headOutcome, outcomeOf}
-use Rattle.case.specs.Readings.{sumOfPricesIn, poolPricesIn, readingIn, shownResult, seen}
-use Rattle.case.specs.Input.{ledgerAfter}
+use Rattle.case.specs.Readings.{sumOfPricesIn, poolPricesIn, readingIn, calledIn, owedIn, shownResult, seen}
+use Rattle.case.specs.Input.{ledgerAnswers, ledgerAfter}
 
 -- what is observed after each call of a list, from what is held
 unfoldable pub ledgerFrom : Held → List (List ℕ) → List Observed
@@ -154,6 +155,21 @@ pub record Reads (r : Reading) (calls : List (List ℕ)) : Type 0 where
 abbrev pub ReadsRequirement : Type 0
 ReadsRequirement = (calls : List (List ℕ)) → Each Bytes calls → Reads (readingIn (ledgerAfter noHeld calls)) calls
 
+-- ---- document 02, C-17: "Reserves stay inside the house"
+
+-- what is seen outside the house of what is held: all but the ranks and the members' parts of the contribution layer
+unfoldable pub outsideIn : Held → Outside
+outsideIn h = let r = readingIn h in outsideOf (seen 0 h) (poolPricesIn h) (r .answer, r .cents) (calledIn h) (owedIn h)
+
+-- the ledger looks the same from outside over two lists of calls: every answer, and after any number of calls all that is seen
+pub record LooksAlike (calls others : List (List ℕ)) : Type 0 where
+  pub answers : ledgerAnswers noHeld calls ≡ ledgerAnswers noHeld others
+  pub shown : (k : ℕ) → outsideIn (ledgerAfter noHeld (take k calls)) ≡ outsideIn (ledgerAfter noHeld (take k others))
+
+-- so it does over any two lists that are the same but for reserves, by which the same bids are valid
+abbrev pub KeepsReserves : Type 0
+KeepsReserves = (calls others : List (List ℕ)) → Each Bytes calls → Each Bytes others → SameButReserves calls others → LooksAlike calls others
+
 -- ---- after an accepted FINISH
 
 -- what a layer is charged, and its limit; the layers are counted from 0
@@ -231,5 +247,6 @@ pub record Claim : Type 0 where
   pub bids : KeepsBids
   pub sums : KeepsSums
   pub requirement : ReadsRequirement
+  pub reserves : KeepsReserves
   pub finishes : Finishes
   pub finished : Finished

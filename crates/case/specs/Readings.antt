@@ -10,6 +10,7 @@ use Rattle.sets.specs.Set.{members}
 use Rattle.machine.specs.Run.{MemberResult, Result, Observed}
 use Rattle.units.specs.Steps.{zeroSum}
 use Rattle.units.specs.Shown.{countOf, holdingOf, sumOf, zeroPrices}
+use Rattle.accounts.specs.Members.{owesOf}
 use Rattle.book.specs.Stages.{letterOf}
 use Rattle.book.specs.Books.{pricesIn, requirementIn}
 use Rattle.book.specs.Results.{resultIn}
@@ -37,6 +38,13 @@ poolPricesIn h pool = if h .present then subℕ (sumOf (h .case .book .units) po
 -- the requirement, "read from this sum and the two losses alone; with no case the reading is declined by 2"
 unfoldable pub readingIn : Held → Reading
 readingIn h = if h .present then record { answer = 0; cents = requirementIn (h .case .book) } else record { answer = 2; cents = 0 }
+
+-- document 02, C-17: "every call on a member", and what each owes, in member order; none where no case is held
+unfoldable pub calledIn : Held → List ℕ
+calledIn h = let b = h .case .book in if h .present then map (λ m. getD (b .members .called) m 0) (members (b .head .set)) else []
+
+unfoldable pub owedIn : Held → List ℕ
+owedIn h = let b = h .case .book in if h .present then map (owesOf (b .members)) (members (b .head .set)) else []
 
 -- member m's rank and charges
 abbrev pub memberResultIn : Book → ℕ → MemberResult

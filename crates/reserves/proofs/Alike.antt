@@ -29,7 +29,7 @@ use Rattle.machine.specs.Refusals.{notGiven, someoneOwes, saleTooDear, noneStan
 use Rattle.machine.specs.Machine.{Answered, answered, step}
 use Rattle.machine.specs.Run.{Observed, observed, observedFrom, runFrom, run}
 use Rattle.machine.proofs.Stages.{letter-some}
-use Rattle.reserves.specs.Reserves.{TwoRounds, SameField, SameValidity, SameButReserves, valid, withoutReserves, stateWithout}
+use Rattle.reserves.specs.Reserves.{TwoRounds, SameField, SameStanding, SameAtClose, valid, answersTo, withoutReserves, stateWithout}
 
 -- two states that are the same, their reserves taken out
 abbrev pub Alike : State → State → Type 0
@@ -92,27 +92,28 @@ same-refusal s t alike call =
 
 -- ---- CLOSE: of two reserves only matters which bids they make valid
 
--- a bid that counts in an auction is of its round and pool
-in-auction : (round pool : ℕ) (b : Bid) → inAuction round pool b ≡ true → (b .round ≡ round) × (b .pool ≡ pool)
+-- a bid that counts in an auction stands in the round and is of the pool
+in-auction : (round pool : ℕ) (b : Bid) → inAuction round pool b ≡ true → (inRound round b ≡ true) × (b .round ≡ round) × (b .pool ≡ pool)
 unfolding inAuction inRound
 in-auction round pool b e =
-    (eqb-true (b .round) round (and-right (b .stands) _ (and-left _ _ e)), eqb-true (b .pool) pool (and-right (inRound round b) _ e))
+    let stands = and-left _ _ e in
+    (stands, eqb-true (b .round) round (and-right (b .stands) _ stands), eqb-true (b .pool) pool (and-right (inRound round b) _ e))
 
-module _ (c : Case) (rs : List Round) (same : Each (λ b. valid (c .rounds) b ≡ valid rs b) (c .bids)) where
-  -- the bids of a pool in a round
-  same-in-auction : (round pool : ℕ)
+module _ (c : Case) (rs : List Round) (round : ℕ) (same : Each (λ b. inRound round b ≡ true → valid (c .rounds) b ≡ valid rs b) (c .bids)) where
+  -- the bids of a pool in the round
+  same-in-auction : (pool : ℕ)
       → Each (λ (b : Bid). leb (reserve (c .rounds) round pool) (b .price) ≡ leb (reserve rs round pool) (b .price)) (keep (inAuction round pool) (c .bids))
   unfolding valid
-  same-in-auction round pool =
+  same-in-auction pool =
       let p = inAuction round pool in
       each-more _ _
-      (λ b h. let of = in-auction round pool b (h .0) in rw (of .0, of .1) at (h .1))
+      (λ b h. let of = in-auction round pool b (h .0) in rw (of .1, of .2) at (h .1 (of .0)))
       (keep p (c .bids))
-      (each-both _ _ (keep p (c .bids)) (each-keep p (c .bids)) (each-kept (λ b. valid (c .rounds) b ≡ valid rs b) p (c .bids) same))
+      (each-both _ _ (keep p (c .bids)) (each-keep p (c .bids)) (each-kept _ p (c .bids) same))
 
-  same-won : (round pool : ℕ) → wonIn c round pool ≡ wonIn (withRounds c rs) round pool
+  same-won : (pool : ℕ) → wonIn c round pool ≡ wonIn (withRounds c rs) round pool
   unfolding wonIn among validAt
-  same-won round pool =
+  same-won pool =
       let p = inAuction round pool in
       let bids = keep p (c .bids) in
       let units = map (λ (b : Bid). b .units) bids in
@@ -122,13 +123,13 @@ module _ (c : Case) (rs : List Round) (same : Each (λ b. valid (c .rounds) b �
       (λ i l g.
       let here : i < length bids = omega (arith, length-map (λ (b : Bid). b .units) bids) in
       rw (getD-map-in (λ (b : Bid). b .price) bids i noBid 0 here)
-      (each-at _ bids i noBid here (same-in-auction round pool))))
+      (each-at _ bids i noBid here (same-in-auction pool))))
 
-  same-bids-after : (round : ℕ) → bidsAfter c round ≡ bidsAfter (withRounds c rs) round
+  same-bids-after : bidsAfter c round ≡ bidsAfter (withRounds c rs) round
   unfolding bidsAfter
-  same-bids-after round =
+  same-bids-after =
       ap (λ (wins : List (List ℕ)). mapFrom 0 (wonGiven round wins) (c .bids))
-      (tab-ext (c .head .pools) (wonIn c round) (wonIn (withRounds c rs) round) (λ pool l. same-won round pool))
+      (tab-ext (c .head .pools) (wonIn c round) (wonIn (withRounds c rs) round) (λ pool l. same-won pool))
 
 -- ---- the case after an accepted call
 
@@ -147,15 +148,16 @@ module _ (c d : Case) (alike : withoutReserves c ≡ withoutReserves d) where
   other-rounds : d ≡ withRounds c (d .rounds)
   other-rounds = ap (λ (x : Case). withRounds x (d .rounds)) (sym alike)
 
-  module _ (same : SameValidity c d) where
-    same-valid : Each (λ b. valid (c .rounds) b ≡ valid (d .rounds) b) (c .bids)
+  -- CLOSE, where the same bids that stand are valid
+  module _ (same : SameStanding c d) where
+    same-valid : Each (λ b. inRound (roundOf (c .stage)) b ≡ true → valid (c .rounds) b ≡ valid (d .rounds) b) (c .bids)
     same-valid =
         let bids = ap (λ (x : Case). x .bids) alike in
-        each-of _ (c .bids) noBid (λ i l. rw bids (rw bids at (same i l (rw bids at l))))
+        each-of _ (c .bids) noBid (λ i l stands. rw bids (rw bids at (same i l (rw bids at l) stands)))
 
     same-after : bidsAfter c (roundOf (c .stage)) ≡ bidsAfter d (roundOf (d .stage))
     same-after =
-        same-bids-after c (d .rounds) same-valid (roundOf (c .stage)) ∙ ap (λ (x : Case). bidsAfter x (roundOf (x .stage))) (sym other-rounds)
+        same-bids-after c (d .rounds) (roundOf (c .stage)) same-valid ∙ ap (λ (x : Case). bidsAfter x (roundOf (x .stage))) (sym other-rounds)
 
     close-alike : withoutReserves (afterClose c) ≡ withoutReserves (afterClose d)
     unfolding afterClose
@@ -164,11 +166,11 @@ module _ (c d : Case) (alike : withoutReserves c ≡ withoutReserves d) where
         = λ x bids. withStage (withRoll (withBids x bids) (sell (roundOf (x .stage)) 0 bids (x .roll))) (After (roundOf (x .stage))) in
         λ i. closed (alike i) (same-after i)
 
-    next-alike : (call : Call) → Changes call → withoutReserves (accepted c call) ≡ withoutReserves (accepted d call)
-    unfolding accepted
-    next-alike call (as-ever same) = same c ∙ ap (λ (x : Case). accepted x call) alike ∙ sym (same d)
-    next-alike call (takes reserves) = round-alike reserves reserves
-    next-alike call reads = close-alike
+  next-alike : (call : Call) → Changes call → (call ≡ CLOSE → SameStanding c d) → withoutReserves (accepted c call) ≡ withoutReserves (accepted d call)
+  unfolding accepted
+  next-alike call (as-ever same) bids = same c ∙ ap (λ (x : Case). accepted x call) alike ∙ sym (same d)
+  next-alike call (takes reserves) bids = round-alike reserves reserves
+  next-alike call reads bids = close-alike (bids refl)
 
 -- ---- a step
 
@@ -204,17 +206,18 @@ module _ (s t : State) (alike : Alike s t) where
       (round-refusal s (r .reserves) (r .others) (r .as-many) (λ e. r .in-range e .0 ∙ sym (r .in-range e .1)) ∙ same-refusal s t alike (ROUND (r .others)))
       (round-alike (theCase s) (theCase t) cases-alike (r .reserves) (r .others)))
 
-  module _ (same : SameValidity (theCase s) (theCase t)) where
-    -- the same bytes
-    asked-alike : (asked : Option Call) → Stepped (answered s asked) (answered t asked)
-    unfolding answered
-    asked-alike none = record { answer = refl; state = alike }
-    asked-alike (some call) = taken call call (same-refusal s t alike call) (next-alike (theCase s) (theCase t) cases-alike same call (tells call .1))
+  -- the same bytes
+  asked-alike : (asked : Option Call) → (asked ≡ some CLOSE → SameStanding (theCase s) (theCase t)) → Stepped (answered s asked) (answered t asked)
+  unfolding answered
+  asked-alike none bids = record { answer = refl; state = alike }
+  asked-alike (some call) bids =
+      taken call call (same-refusal s t alike call) (next-alike (theCase s) (theCase t) cases-alike call (tells call .1) (λ e. bids (ap some e)))
 
-    step-alike : (one other : List ℕ) → SameField (theCase s) one other → Stepped (step s one) (step t other)
-    unfolding step
-    step-alike one other f =
-        ⊎-elim (λ e. subst (λ (x : List ℕ). Stepped (step s one) (step t x)) e (asked-alike (decode one))) (step-rounds one other) f
+  step-alike : (one other : List ℕ) → SameField (theCase s) one other → (decode one ≡ some CLOSE → SameStanding (theCase s) (theCase t))
+      → Stepped (step s one) (step t other)
+  unfolding step
+  step-alike one other f bids =
+      ⊎-elim (λ e. subst (λ (x : List ℕ). Stepped (step s one) (step t x)) e (asked-alike (decode one) bids)) (step-rounds one other) f
 
 -- ---- the tag
 
@@ -270,7 +273,7 @@ same-tag c one other f =
 record SameFrom (s t : State) (calls others : List (List ℕ)) : Type 0 where
   pub as-many : length calls ≡ length others
   pub fields : (k : ℕ) → k < length calls → SameField (theCase (runFrom s (take k calls))) (getD calls k []) (getD others k [])
-  pub bids : (k : ℕ) → SameValidity (theCase (runFrom s (take k calls))) (theCase (runFrom t (take k others)))
+  pub bids : (k : ℕ) → decode (getD calls k []) ≡ some CLOSE → SameStanding (theCase (runFrom s (take k calls))) (theCase (runFrom t (take k others)))
 
 -- what is the same: the tags, the answers, and the state after any number of calls
 record SameRun (s t : State) (calls others : List (List ℕ)) : Type 0 where
@@ -282,7 +285,7 @@ module _ (s t : State) (alike : Alike s t) (one other : List ℕ) (ones others :
   -- the first call
   step-first : Stepped (step s one) (step t other)
   unfolding runFrom
-  step-first = step-alike s t alike (same .bids 0) one other (same .fields 0 (omega arith))
+  step-first = step-alike s t alike one other (same .fields 0 (omega arith)) (same .bids 0)
 
   -- and the rest
   same-rest : SameFrom (step s one .state) (step t other .state) ones others
@@ -311,15 +314,15 @@ same-from s t alike (one ∷ ones) (other ∷ others) same =
     both s t alike one other ones others same
     (same-from (step s one .state) (step t other .state) (step-first s t alike one other ones others same .state) ones others (same-rest s t alike one other ones others same))
 
-module _ (calls others : List (List ℕ)) (same : SameButReserves calls others) where
+module _ (calls others : List (List ℕ)) (same : SameAtClose calls others) where
   run-alike : SameRun none none calls others
-  run-alike = same-from none none refl calls others (record { as-many = same .as-many; fields = same .fields; bids = same .bids })
+  run-alike = same-from none none refl calls others (record { as-many = same .fields .as-many; fields = same .fields .at; bids = same .bids })
 
   -- the first byte of each field, which is all that the printed text has of it
   pub same-tags : map (take 1) calls ≡ map (take 1) others
   same-tags = run-alike .tags
 
-  pub same-answers : map (λ (o : Observed). o .answer) (run calls) ≡ map (λ (o : Observed). o .answer) (run others)
+  pub same-answers : answersTo calls ≡ answersTo others
   unfolding run
   same-answers = run-alike .answers
 

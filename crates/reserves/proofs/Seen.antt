@@ -11,9 +11,9 @@ use Rattle.machine.specs.State.{Case, State, theCase, letterOf, isF, memberList
 use Rattle.machine.specs.Requirement.{requirement, contributions, owes}
 use Rattle.machine.specs.Result.{payments, limits, sixCharges, charge, uncoveredRest, onPayments}
 use Rattle.machine.specs.Run.{MemberResult, Result, sumOfPrices, resultOf, observed, runFrom}
-use Rattle.machine.specs.Running.{leftSum, nothingKept, keptFrom, reading}
+use Rattle.machine.specs.Running.{leftSum, nothingKept, keptFrom}
 use Rattle.machine.proofs.Running.{kept-state, running-sum, readingOf, reading-is}
-use Rattle.reserves.specs.Reserves.{SameButReserves, Outside, totals, totalsIf, outsideOf, outside, withoutReserves, stateWithout}
+use Rattle.reserves.specs.Reserves.{SameAtClose, Outside, totals, totalsIf, outsideOf, outside, withoutReserves, stateWithout}
 use Rattle.reserves.proofs.Alike.{Alike, same-states}
 
 -- ---- the result
@@ -73,7 +73,7 @@ seen-alike s t alike = sym (seen-without s) ∙ ap outsideAt alike ∙ seen-with
 
 -- ---- every list of calls
 
-module _ (calls others : List (List ℕ)) (same : SameButReserves calls others) where
+module _ (calls others : List (List ℕ)) (same : SameAtClose calls others) where
   pub same-outside : (k : ℕ) → outside (keptFrom nothingKept (take k calls)) ≡ outside (keptFrom nothingKept (take k others))
   same-outside k =
       outside-full (take k calls)

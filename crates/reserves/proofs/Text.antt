@@ -2,15 +2,15 @@
 -- lines of two lists of calls that are the same but for reserves are then the same. Assumes nothing.
 use mathlib.Core.Path.{_≡_, refl, sym, ap, _∙_}
 use mathlib.Core.Bool.{Bool, true, false, _&&_, _||_}
-use mathlib.Core.List.{List, [], _∷_, _++_, append-assoc, map, map-map}
+use mathlib.Core.List.{List, [], _∷_, _++_, append-assoc, append-nil, map, map-map}
 use mathlib.Core.Option.{none, some}
-use Prim.Native.Nat.{ℕ, zero, suc, _+_, _/_, _%_, _≤_}
+use Prim.Native.Nat.{ℕ, zero, suc, _+_, _/_, _%_}
 use native.Mathlib.Omega.{arith}
 use lib.Dec.{eqb, ltb}
 use lib.ListN.{length, take}
 use lib.Seq.{take-length}
 use borrow.Author.Tests.{ne-eqb}
-use Rattle.lists.specs.Lists.{if_then_else_, between, tab}
+use Rattle.lists.specs.Lists.{if_then_else_, between, joined, tab}
 use Rattle.lists.proofs.Bools.{either}
 use Rattle.lists.proofs.Each.{Each, each-append, each-always, each-map, each-tab, map-append}
 use Rattle.machine.specs.State.{Case, State, theCase, letterOf, isF, memberList}
@@ -18,9 +18,9 @@ use Rattle.machine.specs.Requirement.{requirement, contributions}
 use Rattle.machine.specs.Result.{payments, limits, sixCharges, charge, uncoveredRest, onPayments}
 use Rattle.machine.specs.Machine.{step}
 use Rattle.machine.specs.Run.{MemberResult, Observed, observed, observedFrom, run, runFrom, resultOf}
-use Rattle.machine.specs.Printed.{Line, sLine, pLine, lLine, mLine, endLines, linesFrom, decimal, numbersText, text, printed}
-use Rattle.reserves.specs.Reserves.{SameButReserves, withoutReserves, stateWithout}
-use Rattle.reserves.specs.Text.{textFrom, textOutside, fieldsOf, TextStaysAlike}
+use Rattle.machine.specs.Printed.{Line, sLine, pLine, lLine, mLine, endLines, linesFrom, decimal, numbersText, text}
+use Rattle.reserves.specs.Reserves.{SameAtClose, answersTo, withoutReserves, stateWithout}
+use Rattle.reserves.specs.Text.{textFrom, textOutside}
 use Rattle.reserves.proofs.Alike.{Alike, same-tags, same-answers, same-states}
 
 -- ---- a word
@@ -81,22 +81,41 @@ shownLine l = l .letter ∷ shownNumbers (eqb (l .letter) 109) 0 (l .numbers)
 
 -- ---- a text
 
-abbrev joined : List (List ℕ) → List ℕ
-joined [] = []
-joined (s ∷ ss) = s ++ joined ss
-
 -- each line begins with a letter
 abbrev Lettered : Line → Type 0
 Lettered l = InWord (l .letter)
 
+line-shown : (l : Line) (rest : List ℕ) → Lettered l → textOutside (l .letter ∷ numbersText (l .numbers) ++ rest) ≡ shownLine l ++ textOutside rest
+unfolding textFrom
+line-shown l rest lettered = rw (lettered .0, lettered .1) (ap (λ (s : List ℕ). l .letter ∷ s) (numbers-shown (eqb (l .letter) 109) 0 (l .numbers) rest))
+
 text-shown : (ls : List Line) → Each Lettered ls → textOutside (text ls) ≡ joined (map shownLine ls)
-unfolding textFrom text
+unfolding textFrom text joined
 text-shown [] each = refl
-text-shown (l ∷ ls) each =
-    rw (each .0 .0, each .0 .1)
-    (ap (λ (s : List ℕ). l .letter ∷ s)
-    (numbers-shown (eqb (l .letter) 109) 0 (l .numbers) (text ls)
-    ∙ ap (λ (s : List ℕ). shownNumbers (eqb (l .letter) 109) 0 (l .numbers) ++ s) (text-shown ls (each .1))))
+text-shown (l ∷ ls) each = line-shown l (text ls) (each .0) ∙ ap (λ (s : List ℕ). shownLine l ++ s) (text-shown ls (each .1))
+
+-- ---- what is left out
+
+-- nothing of lines that are no m lines
+numbers-whole : (w : ℕ) (ns : List ℕ) → shownNumbers false w ns ≡ numbersText ns
+unfolding numbersText
+numbers-whole w [] = refl
+numbers-whole w (n ∷ ns) = ap (λ (s : List ℕ). 32 ∷ decimal 20 n ++ s) (numbers-whole (suc w) ns)
+
+pub others-whole : (ls : List Line) → Each (λ l. Lettered l × (eqb (l .letter) 109 ≡ false)) ls → textOutside (text ls) ≡ text ls
+unfolding textFrom text
+others-whole [] each = refl
+others-whole (l ∷ ls) each =
+    let whole : shownLine l ≡ l .letter ∷ numbersText (l .numbers) = rw (each .0 .1) (ap (λ (s : List ℕ). l .letter ∷ s) (numbers-whole 0 (l .numbers))) in
+    line-shown l (text ls) (each .0 .0) ∙ (λ i. whole i ++ others-whole ls (each .1) i)
+
+-- of an m line the rank and the charge on contribution, and nothing else
+abbrev pub memberShown : ℕ → ℕ → List ℕ
+memberShown m onPayments = 109 ∷ 32 ∷ decimal 20 m ++ (32 ∷ 32 ∷ 32 ∷ decimal 20 onPayments ++ (10 ∷ []))
+
+pub member-line : (x : MemberResult) → textOutside (text (mLine x ∷ [])) ≡ memberShown (x .member) (x .onPayments)
+unfolding textFrom text mLine
+member-line x = line-shown (mLine x) [] (refl, refl) ∙ append-nil (memberShown (x .member) (x .onPayments))
 
 -- ---- the lines of a run
 
@@ -130,7 +149,7 @@ end-lettered s =
 
 -- an m line shows its member and the charge on payments
 members-shown : (c : Case) → map shownLine (map mLine (resultOf c .members))
-    ≡ map (λ m. 109 ∷ 32 ∷ decimal 20 m ++ (32 ∷ 32 ∷ 32 ∷ decimal 20 (onPayments c m) ++ (10 ∷ []))) (memberList (c .head))
+    ≡ map (λ m. memberShown m (onPayments c m)) (memberList (c .head))
 unfolding resultOf mLine
 members-shown c =
     ap (λ (ls : List Line). map shownLine ls) (map-map mLine _ (memberList (c .head))) ∙ map-map shownLine _ (memberList (c .head))
@@ -164,7 +183,7 @@ end-alike s t alike = sym (end-without s) ∙ ap (λ (x : State). map shownLine 
 
 -- what a whole run shows
 run-shown : (calls : List (List ℕ)) → textOutside (text (linesFrom none calls))
-    ≡ joined (map shownLine (sLines (map (take 1) calls) (map (λ (o : Observed). o .answer) (run calls))) ++ map shownLine (endLines (runFrom none calls)))
+    ≡ joined (map shownLine (sLines (map (take 1) calls) (answersTo calls)) ++ map shownLine (endLines (runFrom none calls)))
 unfolding run
 run-shown calls =
     let ss = sLines (map (take 1) calls) (map (λ (o : Observed). o .answer) (observedFrom none calls)) in
@@ -173,19 +192,15 @@ run-shown calls =
     ∙ text-shown (ss ++ es) (each-append Lettered ss es (sLines-lettered (map (take 1) calls) _) (end-lettered (runFrom none calls)))
     ∙ ap joined (map-append shownLine ss es)
 
-module _ (calls others : List (List ℕ)) (same : SameButReserves calls others) where
+module _ (calls others : List (List ℕ)) (same : SameAtClose calls others) where
   -- the case after all calls
   states-end : Alike (runFrom none calls) (runFrom none others)
   states-end =
       let longer : ℕ = length calls in
-      rw (← take-length calls, ← take-length others, ← same .as-many) (same-states calls others same longer)
+      rw (← take-length calls, ← take-length others, ← same .fields .as-many) (same-states calls others same longer)
 
   pub same-text : textOutside (text (linesFrom none calls)) ≡ textOutside (text (linesFrom none others))
   same-text =
       let shown : List (List ℕ) → List ℕ → List (List ℕ) → List ℕ = λ tags ns end. joined (map shownLine (sLines tags ns) ++ end) in
       let ends = end-alike (runFrom none calls) (runFrom none others) states-end in
       run-shown calls ∙ (λ i. shown (same-tags calls others same i) (same-answers calls others same i) (ends i)) ∙ sym (run-shown others)
-
-pub text-stays-alike : TextStaysAlike
-unfolding printed
-text-stays-alike input other same = same-text (fieldsOf input) (fieldsOf other) same

@@ -13,11 +13,11 @@ use lib.IntN.{ℤ}
 use lib.ListN.{length, getD, take}
 use Rattle.lists.specs.Lists.{all}
 use Rattle.auction.specs.Price.{priceOk}
-use Rattle.machine.specs.Wire.{ROUND, decode}
+use Rattle.machine.specs.Wire.{ROUND, CLOSE, decode}
 use Rattle.machine.specs.Roll.{Bid, noBid}
-use Rattle.machine.specs.State.{Round, Case, State, theCase, withRounds, memberList, memberAt}
+use Rattle.machine.specs.State.{Round, Case, State, theCase, withRounds, roundOf, memberList, memberAt}
 use Rattle.machine.specs.Requirement.{owes}
-use Rattle.machine.specs.Calls.{reserve}
+use Rattle.machine.specs.Calls.{reserve, inRound}
 use Rattle.machine.specs.Run.{Result, Observed, observed, runFrom, run}
 use Rattle.machine.specs.Running.{Kept, nothingKept, keptFrom, Reading, reading}
 
@@ -50,13 +50,31 @@ SameValidity c d =
 abbrev pub caseAfter : ℕ → List (List ℕ) → Case
 caseAfter k calls = theCase (runFrom none (take k calls))
 
--- as many calls; after any number k of them the next field is the same but for reserves, and the same bids are valid
-pub record SameButReserves (calls others : List (List ℕ)) : Type 0 where
+-- as many calls, and after any number k of them the next field is the same but for reserves
+pub record SameFields (calls others : List (List ℕ)) : Type 0 where
   pub as-many : length calls ≡ length others
-  pub fields : (k : ℕ) → k < length calls → SameField (caseAfter k calls) (getD calls k []) (getD others k [])
+  pub at : (k : ℕ) → k < length calls → SameField (caseAfter k calls) (getD calls k []) (getD others k [])
+
+-- THE PREMISE: the same fields but for reserves, and after any number of calls the same bids are valid
+pub record SameButReserves (calls others : List (List ℕ)) : Type 0 where
+  pub fields : SameFields calls others
   pub bids : (k : ℕ) → SameValidity (caseAfter k calls) (caseAfter k others)
 
+-- Less is enough: where a round is closed, the same bids of it that then stand are valid. So a bid that was withdrawn tells nothing, and no bid does before CLOSE
+abbrev pub SameStanding : Case → Case → Type 0
+SameStanding c d =
+    (i : ℕ) → i < length (c .bids) → i < length (d .bids) → inRound (roundOf (c .stage)) (getD (c .bids) i noBid) ≡ true
+    → valid (c .rounds) (getD (c .bids) i noBid) ≡ valid (d .rounds) (getD (d .bids) i noBid)
+
+pub record SameAtClose (calls others : List (List ℕ)) : Type 0 where
+  pub fields : SameFields calls others
+  pub bids : (k : ℕ) → decode (getD calls k []) ≡ some CLOSE → SameStanding (caseAfter k calls) (caseAfter k others)
+
 -- ---- what is seen outside the house
+
+-- "every answer"
+abbrev pub answersTo : List (List ℕ) → List ℕ
+answersTo calls = map (λ (o : Observed). o .answer) (run calls)
 
 -- "every layer's total": the loss, the six charges and the uncovered rest; and, in member order, what each member is charged on its payments
 pub record Totals : Type 0 where
@@ -123,7 +141,7 @@ stateWithout (some c) = some (withoutReserves c)
 -- two lists of calls that look the same from outside
 pub record LookAlike (calls others : List (List ℕ)) : Type 0 where
   -- "every answer"
-  pub answers : map (λ (o : Observed). o .answer) (run calls) ≡ map (λ (o : Observed). o .answer) (run others)
+  pub answers : answersTo calls ≡ answersTo others
   -- after any number of calls all that is seen outside
   pub shown : (k : ℕ) → outside (keptFrom nothingKept (take k calls)) ≡ outside (keptFrom nothingKept (take k others))
   -- and the cases are the same, their reserves taken out: so is all that is read of them without these
@@ -131,3 +149,7 @@ pub record LookAlike (calls others : List (List ℕ)) : Type 0 where
 
 abbrev pub ReservesStayInside : Type 0
 ReservesStayInside = (calls others : List (List ℕ)) → SameButReserves calls others → LookAlike calls others
+
+-- the same from less
+abbrev pub OnlyStandingTell : Type 0
+OnlyStandingTell = (calls others : List (List ℕ)) → SameAtClose calls others → LookAlike calls others
