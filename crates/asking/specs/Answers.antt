@@ -6,13 +6,15 @@ use Prim.Native.Nat.{ℕ}
 use lib.Dec.{eqb, leb}
 use lib.ListN.{length}
 use lib.Seq.{sets}
-use Rattle.lists.specs.Lists.{if_then_else_}
+use Rattle.lists.specs.Lists.{if_then_else_, Each, Bytes}
 use Rattle.machine.specs.Printed.{decimal}
+use Rattle.reserves.specs.Reserves.{SameButReserves}
 use Rattle.input.specs.Fields.{rest}
 use Rattle.case.specs.declared.Held.{Held}
 use Rattle.case.specs.declared.Reading.{Reading}
 use Rattle.case.specs.Readings.{readingIn}
-use Rattle.case.specs.Input.{HeldAfter}
+use Rattle.case.specs.Cases.{noHeld}
+use Rattle.case.specs.Input.{ledgerAfter, HeldAfter}
 use Rattle.spelling.specs.Text.{moneyText}
 use Rattle.feed.specs.Feeds.{Fed}
 use Rattle.asking.specs.Questions.{requirementWord}
@@ -97,3 +99,11 @@ pub record Runs (q : Question) (out out' : List ℕ) (r : Told) : Type 0 where
   pub kept : List ℕ
   pub fed : Fed rest (HeldAfter (read .held)) kept (read .len)
   pub is : _≡_ {A = Written} (r, out') (toldInto (saidAt q read) out)
+
+-- ---- document 02, C-17
+
+-- over two lists of calls that are the same but for reserves, by which the same bids are valid, the question for the requirement is answered alike
+abbrev pub SaysAlike : Type 0
+SaysAlike =
+    (calls others : List (List ℕ)) → Each Bytes calls → Each Bytes others → SameButReserves calls others
+    → saidTo Requirement (ledgerAfter noHeld calls) ≡ saidTo Requirement (ledgerAfter noHeld others)

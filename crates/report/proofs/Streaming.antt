@@ -5,6 +5,8 @@ use mathlib.Core.List.{List, [], _∷_, _++_, append-assoc, append-nil}
 use Prim.Native.Nat.{ℕ}
 use lib.ListN.{length, drop}
 use Rattle.machine.specs.Printed.{Line, text}
+use Rattle.reserves.specs.Text.{textOutside}
+use Rattle.reserves.proofs.Claims.{text-stays-alike}
 use Rattle.case.specs.declared.Held.{Held}
 use Rattle.case.specs.Cases.{noHeld}
 use Rattle.lists.specs.Lists.{joined}
@@ -13,7 +15,7 @@ use Rattle.input.specs.Fields.{wholeFirst, whole, rest}
 use Rattle.case.specs.Input.{ledgerAfter}
 use Rattle.case.proofs.Running.{after-two}
 use Rattle.report.specs.Texts.{ledgerLines, cutLines, heldLines}
-use Rattle.report.specs.Parts.{streamed, Streams}
+use Rattle.report.specs.Parts.{streamed, Streams, StreamsAlike}
 use Rattle.report.proofs.Placing.{text-append}
 use Rattle.input.proofs.Wholes.{fields-none}
 use Rattle.report.proofs.Taking.{lines-two}
@@ -54,3 +56,7 @@ streams-from h kept (part ∷ parts) w =
 
 pub streams : Streams
 streams parts bytes = streams-from noHeld [] parts refl ∙ sym (printed-is (joined parts) bytes)
+
+pub streams-alike : StreamsAlike
+streams-alike parts others bytes also same =
+    ap textOutside (streams parts bytes) ∙ text-stays-alike (joined parts) (joined others) same ∙ sym (ap textOutside (streams others also))
