@@ -6,6 +6,7 @@ mod lines;
 mod odd;
 mod plan;
 mod profile;
+pub mod reserves;
 mod rng;
 mod run;
 mod shown;
