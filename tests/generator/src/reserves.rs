@@ -259,7 +259,7 @@ pub fn neighbours(reserve: i64, prices: &BTreeSet<i64>) -> (Option<i64>, Option<
 fn other_reserves(rng: &mut Rng, round: &Round, bids: &[Bid]) -> Vec<i64> {
     let each = round.reserves.iter().enumerate();
     if let Some(number) = round.opens {
-        return each.map(|(pool, &reserve)| within_the_gap(rng, reserve, &prices_in(bids, number, pool))).collect();
+        return each.map(|(pool, &reserve)| within_the_gap(rng, reserve, number, pool, bids)).collect();
     }
     if !round.fits() {
         return each.map(|_| any_reserve(rng)).collect();
@@ -280,13 +280,17 @@ fn gap(reserve: i64, prices: &BTreeSet<i64>) -> (i64, i64) {
     (below.map_or(LOWEST, |price| price + 1), above.unwrap_or(HIGHEST))
 }
 
-/// Often an end of the gap, where a bid stands or the range ends, and now and then the reserve as it was.
-fn within_the_gap(rng: &mut Rng, reserve: i64, prices: &BTreeSet<i64>) -> i64 {
-    let (low, high) = gap(reserve, prices);
+/// Often an end of the gap, where a bid stands or the range ends; or beside a bid of the other round or of another pool, which is none of this reserve's; and now and
+/// then the reserve as it was.
+fn within_the_gap(rng: &mut Rng, reserve: i64, round: u8, pool: usize, bids: &[Bid]) -> i64 {
+    let (low, high) = gap(reserve, &prices_in(bids, round, pool));
+    let beside = bids.iter().flat_map(|bid| [bid.price, bid.price + 1]);
+    let beside: Vec<i64> = beside.filter(|price| (low..=high).contains(price)).collect();
     match rng.below(20) {
-        0..=6 => low,
-        7..=13 => high,
-        14..=17 => rng.between(low, high),
+        0..=5 => low,
+        6..=11 => high,
+        12..=15 if !beside.is_empty() => rng.pick(&beside),
+        12..=17 => rng.between(low, high),
         _ => reserve,
     }
 }
