@@ -1,5 +1,5 @@
-"""Deliberate mistakes in the counts model, a few in the roll, and in the model's ranking, auction alone and expected units, and some that let a reserve out: name, file, the text
-that is there once, and what stands there instead."""
+"""Deliberate mistakes in the counts model, a few in the roll, and in the model's ranking, auction alone and expected units, some that let a reserve out, and some
+in the making of pairs: name, file, the text that is there once, and what stands there instead."""
 
 COUNTS = "model/src/counts.rs"
 ROLL = "model/src/roll.rs"
@@ -8,6 +8,7 @@ AUCTION = "model/src/auction.rs"
 TEXT = "model/src/text.rs"
 FIELD = "model/src/field.rs"
 POSITIONS = "model/src/positions.rs"
+PAIRS = "generator/src/reserves.rs"
 
 # The number of the first bid of the round, for the mistakes that go by it.
 ROUND_BEGINS = (
@@ -739,4 +740,16 @@ IN_SHOWN_PAIRS = [
     ("reserve: a pool's sum with its open units at it", COUNTS, "map_or(0, |pool| pool.prices)", "map_or(0, |pool| pool.prices + pool.open as i64 * pool.reserve)"),
     ("reserve: the reading without what was won above it", COUNTS, READ, READ.replace("self.required()", f"self.required() + {WORTH}")),
     ("reserve: holdings at it", COUNTS, "own.map(|b| (b.pool as u8, b.price, b.sold)).collect();", "own.map(|b| (b.pool as u8, self.pool[b.pool].worst_reserve, b.sold)).collect();"),
+]
+
+# Mistakes in the making of pairs: `reserves` finds that the premise is not met.
+IN_PREMISE = [
+    ("pair: withdrawn bids do not bound the gap", PAIRS, "bid.round == round && usize::from(bid.pool) == pool", "bid.stands && bid.round == round && usize::from(bid.pool) == pool"),
+    ("pair: bids of the first round bound the gap of the second", PAIRS, "bid.round == round && usize::from(bid.pool) == pool", "bid.round == round.min(1) && usize::from(bid.pool) == pool"),
+    ("pair: bids of the first pool bound the gap of each", PAIRS, "bid.round == round && usize::from(bid.pool) == pool", "bid.round == round && usize::from(bid.pool) == pool.min(0)"),
+    ("pair: the gap begins a cent too low", PAIRS, "below.map_or(LOWEST, |price| price + 1)", "below.unwrap_or(LOWEST)"),
+    ("pair: the gap ends a cent too high", PAIRS, "above.unwrap_or(HIGHEST)", "above.map_or(HIGHEST, |price| price + 1)"),
+    ("pair: the gap goes past the range", PAIRS, "below.map_or(LOWEST, ", "below.map_or(LOWEST - 1, "),
+    ("pair: a ROUND that is declined goes past the range", PAIRS, "each.map(|_| in_range(rng)).collect()", "each.map(|_| any_reserve(rng)).collect()"),
+    ("pair: a ROUND that is out of range gets other reserves", PAIRS, "        return round.reserves.clone();\n", "        return each.map(|_| any_reserve(rng)).collect();\n"),
 ]

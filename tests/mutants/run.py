@@ -1,7 +1,8 @@
 #!/usr/bin/env python3
 """Tries the generator's sharpness: builds the counts model with one mistake at a time and lets `compare` look for it. Mistakes in the model's ranking, in its
 split and auction run alone and in its expected units are looked for by `rankings`, `parts` and `positions` of `linked`, beside the proved ones. Mistakes that let a reserve
-out are looked for by `reserves`, which holds two runs to each other and knows nothing of what is right.
+out are looked for by `reserves`, which holds two runs to each other and knows nothing of what is right, and so are mistakes in the making of its pairs, which it finds as it asks
+for the premise.
 
 usage: mutants/run.py [--inputs N] [--seed S] [WORD ...]     only the mistakes whose name holds a WORD
 Run from the tests folder, after `cargo build --release --offline`, and for those that `linked` looks for after `rt staticlib` of what it links.
@@ -14,7 +15,7 @@ import sys
 import tempfile
 from pathlib import Path
 
-from mistakes import IN_HOLDINGS, IN_PAIRS, IN_PARTS, IN_POSITIONS, IN_RANKING, IN_SHOWN_PAIRS, IN_TEXT
+from mistakes import IN_HOLDINGS, IN_PAIRS, IN_PARTS, IN_POSITIONS, IN_PREMISE, IN_RANKING, IN_SHOWN_PAIRS, IN_TEXT
 
 TESTS = Path(__file__).resolve().parent.parent
 COMPARE = TESTS / "target/release/compare"
@@ -90,10 +91,19 @@ def look_in_pairs(copy, inputs, seed):
     return look_by([RESERVES, copy / "target/debug/ledger-model", "-", inputs, seed], r"FAILED: (seed \d+): .*\n((?:ledger|broken).*)")
 
 
-def look_in_shown_pairs(copy, inputs, seed):
+def look_by_a_copy(copy, inputs, seed, what):
+    """`reserves` and the model's program, both with the mistake."""
     build(copy, "-p", "model", "-p", "generator")
     programs = [copy / "target/debug" / name for name in ("reserves", "ledger-model")]
-    return look_by([*programs, "-", inputs, seed], r"FAILED: (seed \d+): .*\n(counts after call \d+)")
+    return look_by([*programs, "-", inputs, seed], rf"FAILED: (seed \d+): .*\n({what})")
+
+
+def look_in_shown_pairs(copy, inputs, seed):
+    return look_by_a_copy(copy, inputs, seed, r"counts after call \d+")
+
+
+def look_in_premise(copy, inputs, seed):
+    return look_by_a_copy(copy, inputs, seed, "the pair does not meet the premise.*")
 
 
 LOOKS = [(mistake, look_in_text) for mistake in IN_TEXT]
@@ -103,6 +113,7 @@ LOOKS += [(mistake, look_in_parts) for mistake in IN_PARTS]
 LOOKS += [(mistake, look_in_positions) for mistake in IN_POSITIONS]
 LOOKS += [(mistake, look_in_pairs) for mistake in IN_PAIRS]
 LOOKS += [(mistake, look_in_shown_pairs) for mistake in IN_SHOWN_PAIRS]
+LOOKS += [(mistake, look_in_premise) for mistake in IN_PREMISE]
 
 
 def main():

@@ -280,8 +280,8 @@ fn gap(reserve: i64, prices: &BTreeSet<i64>) -> (i64, i64) {
     (below.map_or(LOWEST, |price| price + 1), above.unwrap_or(HIGHEST))
 }
 
-/// Often an end of the gap, where a bid stands or the range ends; or beside a bid of the other round or of another pool, which is none of this reserve's; and now and
-/// then the reserve as it was.
+/// Often an end of the gap, where a bid stands or the range ends; or beside some bid, which may be one of the other round or of another pool; and now and then the
+/// reserve as it was.
 fn within_the_gap(rng: &mut Rng, reserve: i64, round: u8, pool: usize, bids: &[Bid]) -> i64 {
     let (low, high) = gap(reserve, &prices_in(bids, round, pool));
     let beside = bids.iter().flat_map(|bid| [bid.price, bid.price + 1]);
