@@ -1,5 +1,5 @@
-"""Deliberate mistakes in the counts model, a few in the roll, and in the model's ranking, auction alone and expected units: name, file, the text that is there once, and what
-stands there instead."""
+"""Deliberate mistakes in the counts model, a few in the roll, and in the model's ranking, auction alone and expected units, some that let a reserve out, and some
+in the making of pairs: name, file, the text that is there once, and what stands there instead."""
 
 COUNTS = "model/src/counts.rs"
 ROLL = "model/src/roll.rs"
@@ -8,6 +8,7 @@ AUCTION = "model/src/auction.rs"
 TEXT = "model/src/text.rs"
 FIELD = "model/src/field.rs"
 POSITIONS = "model/src/positions.rs"
+PAIRS = "generator/src/reserves.rs"
 
 # The number of the first bid of the round, for the mistakes that go by it.
 ROUND_BEGINS = (
@@ -682,3 +683,73 @@ IN_PARTS = [
 
 # These show only in expected units: `positions` of `linked` holds the proved ones to them.
 IN_POSITIONS = [*other_ties("expected units", POSITIONS, "split(units, &sums[..members.len()])")]
+
+# What units won brought above the worst reserves, which the rank alone goes by.
+WORTH = "self.members().map(|m| self.standing(m).premium).sum::<u64>()"
+# Most junior rank first, each up to its limit.
+BY_RANK = ("    /// Charges the requirement to the layers in turn.\n", """    fn by_rank(&self, q: u64, limits: &[u64]) -> Vec<u64> {
+        let standings: Vec<Standing> = self.members().map(|m| self.standing(m)).collect();
+        let mut order: Vec<usize> = (0..standings.len()).collect();
+        order.sort_by(|&a, &b| standings[a].seniority(&standings[b]));
+        let mut layers = Layers { rest: q };
+        let mut shares = vec![0; limits.len()];
+        order.into_iter().for_each(|i| shares[i] = layers.charge(limits[i]));
+        shares
+    }
+
+    /// Charges the requirement to the layers in turn.
+""")
+LEAST_BID = "        if units < self.least_bid {\n"
+SECOND_TRANCHE = "        outcome.charges[4] = layers.charge(self.house - first_tranche);\n"
+NO_ROUND = "            Some(Stage::After(1)) => 2,\n            _ => return 2,\n"
+RANGE_OF_ROUND = "        if !(0..self.pools).all(|pool| price_fits(reserve(pool))) {\n            return 5;\n        }\n"
+WRONG_LENGTH = "        if !self.length_fits(tag, value.len()) {\n            return 1;\n"
+
+# Each of these lets a reserve out: `reserves` finds it in the texts of two inputs that are the same but for reserves.
+IN_PAIRS = [
+    ("reserve: a BID below it is declined before the other reasons", COUNTS, LEAST_BID, "        if price < self.pool[pool].reserve {\n            return 5;\n        }\n" + LEAST_BID),
+    # Bids that are kept are valid in both lists or in neither, so this shows where 256 are.
+    ("reserve: a BID below it is declined, last of all", COUNTS, KEPT, "        if price < self.pool[pool].reserve {\n            return 5;\n        }\n" + KEPT),
+    ("reserve: a bid at it is not valid", AUCTION, "bids[i].1 >= reserve", "bids[i].1 > reserve"),
+    ("reserve: the balance is split by what bids are above it", AUCTION, "let units: Vec<u64> = level.iter().map(|&i| bids[i].0).collect();", "let units: Vec<u64> = level.iter().map(|&i| bids[i].0 * bids[i].1.abs_diff(reserve)).collect();"),
+    ("reserve: bids of all pools are held to the first pool's", COUNTS, "allot(self.pool[pool].open, self.pool[pool].reserve, &offers)", "allot(self.pool[pool].open, self.pool[0].reserve, &offers)"),
+    ("reserve: bids of the second round are held to the worst", COUNTS, "allot(self.pool[pool].open, self.pool[pool].reserve, &offers)", "allot(self.pool[pool].open, self.pool[pool].worst_reserve, &offers)"),
+    ("reserve: WITHDRAW of a bid at it is declined", COUNTS, "        if self.bids[number].member != member {\n", "        if self.bids[number].member != member || self.bids[number].price == self.pool[self.bids[number].pool].reserve {\n"),
+    ("reserve: a second ROUND above the first is declined", COUNTS, RANGE_OF_ROUND, RANGE_OF_ROUND + "        if round == 2 && (0..self.pools).any(|pool| reserve(pool) > self.pool[pool].reserve) {\n            return 10;\n        }\n"),
+    ("reserve: of a ROUND that the stage does not allow is kept", COUNTS, NO_ROUND, NO_ROUND.replace("return 2,", "{\n                for (number, pool) in self.pool[..self.pools].iter_mut().enumerate() {\n                    pool.reserve = price_at(value, 4 * number);\n                }\n                return 2;\n            }")),
+    ("reserve: out of range with no case is 5", COUNTS, NO_ROUND, NO_ROUND.replace("            _ =>", "            None if (0..value.len() / 4).any(|pool| !price_fits(price_at(value, 4 * pool))) => return 5,\n            _ =>")),
+    ("reserve: out of range in a ROUND of a wrong length is 5", COUNTS, WRONG_LENGTH, WRONG_LENGTH.replace("return 1;", "let fit = tag != 4 || (0..value.len() / 4).all(|pool| price_fits(price_at(value, 4 * pool)));\n            return if fit { 1 } else { 5 };")),
+    ("reserve: ALLOCATE not below it", COUNTS, ALLOCATED, ALLOCATED.replace("* price", "* price.max(pool.reserve)"), "pool.allocated_price = price;", "pool.allocated_price = price.max(pool.reserve);"),
+    ("reserve: ALLOCATE to the most junior first", COUNTS, *BY_RANK, "split(placed, &shortfalls)", "self.by_rank(placed, &shortfalls)"),
+    ("reserve: TEAR at it", COUNTS, BY_TEAR, BY_TEAR.replace("price", "self.pool[pool].reserve")),
+    ("reserve: MISS at it", COUNTS, BY_MISS, BY_MISS.replace("price", "self.pool[p].reserve")),
+    ("reserve: MOVE takes those sold least above it first", COUNTS, "(self.bids[b].price, Reverse(b))", "(self.bids[b].price - self.pool[self.bids[b].pool].worst_reserve, Reverse(b))"),
+    ("reserve: CALL on the most junior first", COUNTS, *BY_RANK, "split(called, &weights)", "self.by_rank(called, &weights)"),
+    ("reserve: 12 is judged with what was won above it", COUNTS, "        if ready >= required {\n", f"        if ready + {WORTH} >= required {{\n"),
+    ("reserve: 13 is judged with what was won above it", COUNTS, "self.held_ready() < self.required()", f"self.held_ready() < self.required() + {WORTH}"),
+    ("reserve: the loss is told as if all were won at it", COUNTS, "        let mut layers = Layers { rest: loss };\n", "        let mut layers = Layers { rest: loss };\n" + f"        let loss = loss + {WORTH};\n"),
+    ("reserve: the most senior rank bears behind the second tranche", COUNTS,
+     "            seniors -= group.len();\n", "            seniors -= group.len();\n            if seniors == 0 {\n        " + SECOND_TRANCHE + "            }\n",
+     "\n" + SECOND_TRANCHE, ""),
+    ("reserve: payments of the most junior first", COUNTS, *BY_RANK, "split(outcome.charges[5], &payments)", "self.by_rank(outcome.charges[5], &payments)"),
+]
+
+# No text shows these: `reserves` finds them where it asks the model call by call.
+IN_SHOWN_PAIRS = [
+    ("reserve: open units at it are in the requirement", COUNTS, SUM, SUM.replace("pool.prices", "pool.prices + pool.open as i64 * pool.reserve")),
+    ("reserve: a pool's sum with its open units at it", COUNTS, "map_or(0, |pool| pool.prices)", "map_or(0, |pool| pool.prices + pool.open as i64 * pool.reserve)"),
+    ("reserve: the reading without what was won above it", COUNTS, READ, READ.replace("self.required()", f"self.required() + {WORTH}")),
+    ("reserve: holdings at it", COUNTS, "own.map(|b| (b.pool as u8, b.price, b.sold)).collect();", "own.map(|b| (b.pool as u8, self.pool[b.pool].worst_reserve, b.sold)).collect();"),
+]
+
+# Mistakes in the making of pairs: `reserves` finds that the premise is not met.
+IN_PREMISE = [
+    ("pair: withdrawn bids do not bound the gap", PAIRS, "bid.round == round && usize::from(bid.pool) == pool", "bid.stands && bid.round == round && usize::from(bid.pool) == pool"),
+    ("pair: bids of the first round bound the gap of the second", PAIRS, "bid.round == round && usize::from(bid.pool) == pool", "bid.round == round.min(1) && usize::from(bid.pool) == pool"),
+    ("pair: bids of the first pool bound the gap of each", PAIRS, "bid.round == round && usize::from(bid.pool) == pool", "bid.round == round && usize::from(bid.pool) == pool.min(0)"),
+    ("pair: the gap begins a cent too low", PAIRS, "below.map_or(LOWEST, |price| price + 1)", "below.unwrap_or(LOWEST)"),
+    ("pair: the gap ends a cent too high", PAIRS, "above.unwrap_or(HIGHEST)", "above.map_or(HIGHEST, |price| price + 1)"),
+    ("pair: the gap goes past the range", PAIRS, "below.map_or(LOWEST, ", "below.map_or(LOWEST - 1, "),
+    ("pair: a ROUND that is declined goes past the range", PAIRS, "each.map(|_| in_range(rng)).collect()", "each.map(|_| any_reserve(rng)).collect()"),
+    ("pair: a ROUND that is out of range gets other reserves", PAIRS, "        return round.reserves.clone();\n", "        return each.map(|_| any_reserve(rng)).collect();\n"),
+]

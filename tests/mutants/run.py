@@ -1,6 +1,8 @@
 #!/usr/bin/env python3
 """Tries the generator's sharpness: builds the counts model with one mistake at a time and lets `compare` look for it. Mistakes in the model's ranking, in its
-split and auction run alone and in its expected units are looked for by `rankings`, `parts` and `positions` of `linked`, beside the proved ones.
+split and auction run alone and in its expected units are looked for by `rankings`, `parts` and `positions` of `linked`, beside the proved ones. Mistakes that let a reserve
+out are looked for by `reserves`, which holds two runs to each other and knows nothing of what is right, and so are mistakes in the making of its pairs, which it finds as it asks
+for the premise.
 
 usage: mutants/run.py [--inputs N] [--seed S] [WORD ...]     only the mistakes whose name holds a WORD
 Run from the tests folder, after `cargo build --release --offline`, and for those that `linked` looks for after `rt staticlib` of what it links.
@@ -13,10 +15,11 @@ import sys
 import tempfile
 from pathlib import Path
 
-from mistakes import IN_HOLDINGS, IN_PARTS, IN_POSITIONS, IN_RANKING, IN_TEXT
+from mistakes import IN_HOLDINGS, IN_PAIRS, IN_PARTS, IN_POSITIONS, IN_PREMISE, IN_RANKING, IN_SHOWN_PAIRS, IN_TEXT
 
 TESTS = Path(__file__).resolve().parent.parent
 COMPARE = TESTS / "target/release/compare"
+RESERVES = TESTS / "target/release/reserves"
 
 
 def edited(text, edits):
@@ -56,14 +59,19 @@ def look_in_holdings(copy, inputs, seed):
     return look([copy / "target/debug/compare", "--self"], inputs, seed)
 
 
-def look_beside(copy, program, arguments, pattern):
-    """A program of `linked`, which stops at a difference that the pattern tells of."""
-    build(copy / "linked", "--bin", program)
-    done = subprocess.run([copy / "linked/target/debug" / program, *arguments], capture_output=True, text=True)
+def look_by(command, pattern):
+    """A program that stops at a difference that the pattern tells of."""
+    done = subprocess.run(command, capture_output=True, text=True)
     found = re.search(pattern, done.stderr + done.stdout)
     if (done.returncode != 0) != bool(found):
         raise SystemExit(done.stdout[-3000:] + done.stderr[-3000:])
-    return found and f"found at {found.group(1)}"
+    return found and f"found at {', '.join(found.groups())}"
+
+
+def look_beside(copy, program, arguments, pattern):
+    """A program of `linked`."""
+    build(copy / "linked", "--bin", program)
+    return look_by([copy / "linked/target/debug" / program, *arguments], pattern)
 
 
 def look_in_ranking(copy, inputs, seed):
@@ -78,11 +86,34 @@ def look_in_positions(copy, inputs, seed):
     return look_beside(copy, "positions", [inputs, seed], r"(run \d+) from seed \d+ differs")
 
 
+def look_in_pairs(copy, inputs, seed):
+    build(copy, "-p", "model")
+    return look_by([RESERVES, copy / "target/debug/ledger-model", "-", inputs, seed], r"FAILED: (seed \d+): .*\n((?:ledger|broken).*)")
+
+
+def look_by_a_copy(copy, inputs, seed, what):
+    """`reserves` and the model's program, both with the mistake."""
+    build(copy, "-p", "model", "-p", "generator")
+    programs = [copy / "target/debug" / name for name in ("reserves", "ledger-model")]
+    return look_by([*programs, "-", inputs, seed], rf"FAILED: (seed \d+): .*\n({what})")
+
+
+def look_in_shown_pairs(copy, inputs, seed):
+    return look_by_a_copy(copy, inputs, seed, r"counts after call \d+")
+
+
+def look_in_premise(copy, inputs, seed):
+    return look_by_a_copy(copy, inputs, seed, "the pair does not meet the premise.*")
+
+
 LOOKS = [(mistake, look_in_text) for mistake in IN_TEXT]
 LOOKS += [(mistake, look_in_holdings) for mistake in IN_HOLDINGS]
 LOOKS += [(mistake, look_in_ranking) for mistake in IN_RANKING]
 LOOKS += [(mistake, look_in_parts) for mistake in IN_PARTS]
 LOOKS += [(mistake, look_in_positions) for mistake in IN_POSITIONS]
+LOOKS += [(mistake, look_in_pairs) for mistake in IN_PAIRS]
+LOOKS += [(mistake, look_in_shown_pairs) for mistake in IN_SHOWN_PAIRS]
+LOOKS += [(mistake, look_in_premise) for mistake in IN_PREMISE]
 
 
 def main():

@@ -2,6 +2,7 @@
 
 use crate::pairs::place;
 use crate::tally::Tally;
+use generator::{shown_difference, unlike};
 use model::field::{exactly_one, price_at};
 use model::{Counts, Ledger, Roll, print, stream, write};
 use std::collections::BTreeSet;
@@ -53,33 +54,8 @@ pub fn difference(calls: &[Vec<u8>], tally: &mut Tally) -> Option<ModelDifferenc
 
 /// Everything but single holdings.
 fn observed_difference(roll: &Roll, counts: &Counts) -> Option<String> {
-    let unlike = |what: &str, a: &dyn std::fmt::Debug, b: &dyn std::fmt::Debug| {
-        let (a, b) = (format!("{a:?}"), format!("{b:?}"));
-        (a != b).then(|| format!("{what}: roll {a}, counts {b}"))
-    };
-    macro_rules! compare {
-        ($what:expr, $asked:ident($($of:expr),*)) => {
-            if roll.$asked($($of),*) != counts.$asked($($of),*) {
-                return unlike($what, &roll.$asked($($of),*), &counts.$asked($($of),*));
-            }
-        };
-    }
-    compare!("stage", stage());
-    compare!("pools given", pools_given());
-    compare!("sum of prices", sum_of_prices());
-    compare!("requirement", requirement());
-    compare!("reading", reading());
-    compare!("prefunded", prefunded());
-    compare!("result", result());
-    for pool in 0..5 {
-        compare!(&format!("counts of pool {pool}"), counts(pool));
-        compare!(&format!("sum of prices of pool {pool}"), prices_of(pool));
-    }
-    for member in 0..33 {
-        compare!(&format!("what member {member} owes"), owes(member));
-        compare!(&format!("holdings of member {member}"), holdings(member));
-    }
-    None
+    let names = ["roll", "counts"];
+    shown_difference(roll, counts, names).or_else(|| unlike("result", [roll.result(), counts.result()], names))
 }
 
 /// The running sum of each pool beside the same added up anew over the counts, and the pools' sums beside the one sum.

@@ -10,7 +10,7 @@ mod situations;
 mod tally;
 mod ties;
 
-use generator::{Profile, calls, describe, fields, input, profile_of};
+use generator::{Profile, calls, describe, fields, in_words, input, profile_of};
 use model::{Counts, Ledger, Roll};
 use options::{Options, Subject};
 use program::{LineDifference, Program};
@@ -152,14 +152,6 @@ fn compare_models(seed: u64, profile: Profile, tally: &mut Tally) -> Option<Stri
     }
     let what = itself::text_difference(&input(seed, profile))?;
     Some(format!("DIFFERENCE at seed {seed}, profile {}\n{what}", profile.name()))
-}
-
-fn in_words(title: &str, calls: &[Vec<u8>]) -> String {
-    let mut words = format!("{title}, {} in all:\n", calls.len());
-    for (number, bytes) in calls.iter().enumerate() {
-        words += &format!("  {number:>4}  {}\n", describe(bytes));
-    }
-    words
 }
 
 fn hex(bytes: &[u8]) -> String {

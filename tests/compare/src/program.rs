@@ -2,7 +2,7 @@
 
 use crate::pairs::place;
 use crate::tally::Tally;
-use generator::fields;
+use generator::{Unlike, fields, first_unlike};
 use model::{Ledger, print, write};
 use std::io::{Read, Write};
 use std::path::{Path, PathBuf};
@@ -87,13 +87,8 @@ fn start(path: &Path) -> Result<Child, String> {
 }
 
 fn first_difference(program: &[u8], model: &[u8]) -> LineDifference {
-    let lines = |text: &[u8]| -> Vec<String> {
-        text.split_inclusive(|&byte| byte == b'\n').map(|line| line.escape_ascii().to_string()).collect()
-    };
-    let (program, model) = (lines(program), lines(model));
-    let line = (0..).find(|&line| program.get(line) != model.get(line)).expect("the texts differ");
-    let shown = |lines: &[String]| lines.get(line).cloned().unwrap_or_else(|| "(no line)".to_string());
-    LineDifference { line: Some(line), program: shown(&program), model: shown(&model) }
+    let Unlike { line, one, other } = first_unlike(program, model, str::to_string).expect("the texts differ");
+    LineDifference { line: Some(line), program: one, model: other }
 }
 
 /// Counts the answers that the model gives to the fields of an input.

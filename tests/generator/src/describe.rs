@@ -14,6 +14,20 @@ pub fn fields(input: &[u8]) -> Vec<Vec<u8>> {
     fields
 }
 
+/// Whether the input ends within the field.
+pub fn is_cut_off(field: &[u8]) -> bool {
+    size(field).is_none()
+}
+
+/// A list of calls in words, one a line.
+pub fn in_words(title: &str, calls: &[Vec<u8>]) -> String {
+    let mut words = format!("{title}, {} in all:\n", calls.len());
+    for (number, bytes) in calls.iter().enumerate() {
+        words += &format!("  {number:>4}  {}\n", describe(bytes));
+    }
+    words
+}
+
 /// One call in words.
 pub fn describe(bytes: &[u8]) -> String {
     if size(bytes) != Some(bytes.len()) {

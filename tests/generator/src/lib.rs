@@ -2,22 +2,28 @@
 
 mod damage;
 mod describe;
+mod lines;
 mod odd;
 mod plan;
 mod profile;
+pub mod reserves;
 mod rng;
 mod run;
+mod shown;
 mod suit;
+pub mod tally;
 mod tie;
 mod ties;
 mod timing;
 mod withdraw;
 mod writer;
 
-pub use describe::{describe, fields};
+pub use describe::{describe, fields, in_words, is_cut_off};
+pub use lines::{Unlike, first_unlike};
 pub use profile::Profile;
 pub use rng::Rng;
 pub use run::{run, start};
+pub use shown::{shown_difference, unlike};
 pub use tie::Tie;
 pub use ties::simple_part;
 pub use timing::{accepted, refused, timing};

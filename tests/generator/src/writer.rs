@@ -739,7 +739,7 @@ fn above_margin_and_fund(head: &Head) -> i64 {
 }
 
 /// The numbers of an accepted HEAD.
-fn head_of(bytes: &[u8]) -> Head {
+pub fn head_of(bytes: &[u8]) -> Head {
     let value = &bytes[3..];
     Head {
         pools: value[0],

@@ -2,9 +2,9 @@
 //! generated input, over fronts of it that end with a field and within one, and over nothing, and the program `explain` tell the whole input call by call. What they write
 //! is held to the full addition over the roll. Then `ask` is called by bad words. Over 300 inputs or more it fails where something that has to come never did.
 
-use generator::{Rng, describe, fields, input, profile_of, run};
-use model::{Ledger, Roll, field};
-use std::collections::BTreeMap;
+use generator::tally::{Tally, all_came, counted};
+use generator::{Rng, describe, fields, input, is_cut_off, profile_of, run};
+use model::{Ledger, Roll};
 use std::process::{ExitCode, Output};
 
 const USAGE: &str = "usage: ask requirement < FIELDS\n";
@@ -23,9 +23,6 @@ const BAD_WORDS: [&[&str]; 10] = [
     &["requirement", ""],
     &["", "requirement"],
 ];
-
-/// How often each situation came.
-type Tally = BTreeMap<&'static str, u64>;
 
 const ANSWERED: &str = "asked and answered";
 const NO_CASE: &str = "asked with no case";
@@ -60,10 +57,6 @@ const SITUATIONS: [&str; 13] = [
 
 fn money(cents: u64) -> String {
     format!("{}.{:02}", cents / 100, cents % 100)
-}
-
-fn is_cut_off(bytes: &[u8]) -> bool {
-    field::size(bytes).is_none()
 }
 
 // The question
@@ -204,14 +197,8 @@ fn compare(ask: &str, explain: &str, inputs: u64, first: u64) -> Result<(), Stri
             return Err(format!("the words {words:?}: {difference}"));
         }
     }
-    let count = |name| tally.get(name).copied().unwrap_or(0);
-    let counted = SITUATIONS.map(|name| format!("{name}: {}", count(name)));
-    println!("{inputs} inputs and {} bad words: {}", BAD_WORDS.len(), counted.join(", "));
-    let missed: Vec<&str> = SITUATIONS.into_iter().filter(|name| count(name) == 0).collect();
-    if inputs >= 300 && !missed.is_empty() {
-        return Err(format!("never came: {}", missed.join("; ")));
-    }
-    Ok(())
+    println!("{inputs} inputs and {} bad words: {}", BAD_WORDS.len(), counted(&tally, &SITUATIONS));
+    if inputs >= 300 { all_came(&tally, &SITUATIONS) } else { Ok(()) }
 }
 
 fn main() -> ExitCode {
@@ -235,6 +222,7 @@ fn main() -> ExitCode {
 #[cfg(test)]
 mod tests {
     use super::*;
+    use generator::tally::times;
     use model::write::{close, example, finish};
 
     /// The example of 01, whose CLOSE sells all for −160 cents, with a call declined between CLOSE and FINISH.
@@ -294,7 +282,7 @@ mod tests {
             }
         }
         for name in [ANSWERED, NO_CASE, WITHIN_A_FIELD, ASKED_AT_0, ASKED_ABOVE] {
-            let count = tally.get(name).copied().unwrap_or(0);
+            let count = times(&tally, name);
             assert!(count >= 5, "{count} {name}");
         }
     }

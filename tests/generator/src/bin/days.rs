@@ -3,22 +3,16 @@
 //! and for words that are no call of it, and for long runs. It ends with 1 at the first difference, and where over 1,000 runs or more one of the
 //! situations that it counts never came. Run R of seed S is the first run of seed S + R.
 
+use generator::tally::{Tally, all_came, over_seeds, times};
 use generator::{Rng, Tie, simple_part, start};
 use model::positions::{POSITION_LIMIT, UNITS_LIMIT, WINDOW};
 use model::{Ring, expected, first_declined, sums_afresh};
-use std::collections::BTreeMap;
 use std::io::Write;
 use std::process::{ChildStdin, ExitCode};
-use std::sync::Mutex;
-use std::sync::atomic::{AtomicU64, Ordering};
 use std::thread;
 
 const USAGE: &str = "usage: expected members 0,1,2 units 40 [--text] < FILE\n";
 const LINE_LIMIT: usize = 65_536;
-const JOBS: usize = 2;
-
-/// How often each situation came.
-type Tally = BTreeMap<&'static str, u64>;
 
 /// Must come in 1,000 runs.
 const SITUATIONS: [&str; 37] = [
@@ -844,45 +838,14 @@ fn long_text(seed: u64) -> Vec<Case> {
     ]
 }
 
-/// All cases of a kind, by two threads: the tally, or what differs in the run of the lowest seed.
+/// All cases of a kind: the tally, or what differs in the run of the lowest seed.
 fn all(
     program: &str,
     seed: u64,
     runs: u64,
     of: impl Fn(u64, &mut Tally) -> Case + Sync,
 ) -> Result<Tally, (u64, String)> {
-    let next = AtomicU64::new(0);
-    let found: Mutex<Option<(u64, String)>> = Mutex::new(None);
-    let tally = Mutex::new(Tally::new());
-    thread::scope(|scope| {
-        for _ in 0..JOBS {
-            scope.spawn(|| {
-                let mut own = Tally::new();
-                loop {
-                    let run = next.fetch_add(1, Ordering::Relaxed);
-                    if run >= runs {
-                        break;
-                    }
-                    if let Err(difference) = check(program, &of(seed.wrapping_add(run), &mut own)) {
-                        // No run above this one is begun any more.
-                        next.fetch_max(runs, Ordering::Relaxed);
-                        let mut found = found.lock().expect("no thread fails");
-                        if found.as_ref().is_none_or(|(other, _)| run < *other) {
-                            *found = Some((run, difference));
-                        }
-                    }
-                }
-                let mut tally = tally.lock().expect("no thread fails");
-                for (name, count) in own {
-                    *tally.entry(name).or_default() += count;
-                }
-            });
-        }
-    });
-    match found.into_inner().expect("no thread fails") {
-        Some((run, difference)) => Err((seed.wrapping_add(run), difference)),
-        None => Ok(tally.into_inner().expect("no thread fails")),
-    }
+    over_seeds(seed, runs, |seed, tally| check(program, &of(seed, tally)))
 }
 
 fn each(program: &str, cases: &[Case]) -> Result<(), String> {
@@ -916,13 +879,9 @@ fn compare(program: &str, seed: u64, runs: u64) -> Result<(), String> {
     each(program, &long_text(seed)).map_err(|difference| format!("long text, seed {seed}\n{difference}"))?;
     println!("20000 days of 32 members as text: alike, also with a bad line behind them");
     for name in SITUATIONS {
-        println!("{:8} {name}", tally.get(name).copied().unwrap_or(0));
+        println!("{:8} {name}", times(&tally, name));
     }
-    let missed: Vec<&str> = SITUATIONS.into_iter().filter(|name| !tally.contains_key(name)).collect();
-    if runs >= 1_000 && !missed.is_empty() {
-        return Err(format!("never came: {}", missed.join("; ")));
-    }
-    Ok(())
+    if runs >= 1_000 { all_came(&tally, &SITUATIONS) } else { Ok(()) }
 }
 
 fn main() -> ExitCode {
@@ -954,7 +913,7 @@ mod tests {
             bytes_case(seed, &mut tally);
         }
         for name in SITUATIONS.into_iter().filter(|name| name.starts_with("bytes: ")) {
-            let count = tally.get(name).copied().unwrap_or(0);
+            let count = times(&tally, name);
             assert!(count >= 5, "{count} {name}");
         }
     }
