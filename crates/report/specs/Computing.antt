@@ -5,6 +5,7 @@ use Rattle.lists.specs.Computing.{computing as lists·computing}
 use Rattle.sets.specs.Computing.{computing as sets·computing}
 use Rattle.waterfall.specs.Computing.{computing as waterfall·computing}
 use Rattle.machine.specs.Computing.{computing as machine·computing}
+use Rattle.reserves.specs.Computing.{computing as reserves·computing}
 use Rattle.wire.specs.Computing.{computing as wire·computing}
 use Rattle.input.specs.Computing.{computing as input·computing}
 use Rattle.units.specs.Computing.{computing as units·computing}
@@ -13,5 +14,5 @@ use Rattle.book.specs.Computing.{computing as book·computing}
 use Rattle.case.specs.Computing.{computing as case·computing}
 
 unfoldable pub computing : Unit {0}
-unfolding Texts·pLineOf Texts·lLineOf Texts·mLineOf Texts·resultLines Texts·finishLines Texts·heldLines Texts·ledgerLines Texts·cutLines Texts·placedLines Texts·answerLine Texts·takePart Parts·streamed lists·computing sets·computing waterfall·computing machine·computing wire·computing input·computing units·computing accounts·computing book·computing case·computing
+unfolding Texts·pLineOf Texts·lLineOf Texts·mLineOf Texts·resultLines Texts·finishLines Texts·heldLines Texts·ledgerLines Texts·cutLines Texts·placedLines Texts·answerLine Texts·takePart Parts·streamed lists·computing sets·computing waterfall·computing machine·computing reserves·computing wire·computing input·computing units·computing accounts·computing book·computing case·computing
 computing = tt

@@ -10,7 +10,7 @@ use lib.Dec.{eqb, ltb}
 use lib.ListN.{length, take}
 use lib.Seq.{take-length}
 use borrow.Author.Tests.{ne-eqb}
-use Rattle.lists.specs.Lists.{if_then_else_, between, joined, tab}
+use Rattle.lists.specs.Lists.{if_then_else_, joined, tab}
 use Rattle.lists.proofs.Bools.{either}
 use Rattle.lists.proofs.Each.{Each, each-append, each-always, each-map, each-tab, map-append}
 use Rattle.machine.specs.State.{Case, State, theCase, letterOf, isF, memberList}
@@ -20,7 +20,7 @@ use Rattle.machine.specs.Machine.{step}
 use Rattle.machine.specs.Run.{MemberResult, Observed, observed, observedFrom, run, runFrom, resultOf}
 use Rattle.machine.specs.Printed.{Line, sLine, pLine, lLine, mLine, endLines, linesFrom, decimal, numbersText, text}
 use Rattle.reserves.specs.Reserves.{SameAtClose, answersTo, withoutReserves, stateWithout}
-use Rattle.reserves.specs.Text.{textFrom, textOutside}
+use Rattle.reserves.specs.Text.{leftOut, textFrom, textOutside}
 use Rattle.reserves.proofs.Alike.{Alike, same-tags, same-answers, same-states}
 
 -- ---- a word
@@ -38,16 +38,16 @@ digits (suc k) n =
     (either (Each InWord) (ltb n 10) tt (digits k (n / 10)))
     ((ne-eqb d 10 (λ e. omega arith), ne-eqb d 32 (λ e. omega arith)), tt)
 
--- what is shown of a word behind the letter: all of it, or nothing in the words 2 and 3 of an m line
+-- what is shown of a word behind the letter
 abbrev shownWord : Bool → ℕ → List ℕ → List ℕ
-shownWord isM w s = if isM && between 2 3 w then [] else s
+shownWord isM w s = if leftOut isM w then [] else s
 
 word-shown : (isM : Bool) (w : ℕ) (ds rest : List ℕ) → Each InWord ds
     → textFrom isM (suc w) (ds ++ rest) ≡ shownWord isM (suc w) ds ++ textFrom isM (suc w) rest
 unfolding textFrom
-word-shown isM w [] rest in-word = either (λ s. textFrom isM (suc w) rest ≡ s ++ textFrom isM (suc w) rest) (isM && between 2 3 (suc w)) refl refl
+word-shown isM w [] rest in-word = either (λ s. textFrom isM (suc w) rest ≡ s ++ textFrom isM (suc w) rest) (leftOut isM (suc w)) refl refl
 word-shown isM w (d ∷ ds) rest in-word =
-    rw (in-word .0 .0, in-word .0 .1, stays isM) (go (isM && between 2 3 (suc w)) (word-shown isM w ds rest (in-word .1)))
+    rw (in-word .0 .0, in-word .0 .1, stays isM) (go (leftOut isM (suc w)) (word-shown isM w ds rest (in-word .1)))
   where
     -- the letter alone says whether it is an m line
     stays : (b : Bool) → (b || (eqb (suc w) 0 && eqb d 109)) ≡ b
@@ -86,7 +86,7 @@ abbrev Lettered : Line → Type 0
 Lettered l = InWord (l .letter)
 
 line-shown : (l : Line) (rest : List ℕ) → Lettered l → textOutside (l .letter ∷ numbersText (l .numbers) ++ rest) ≡ shownLine l ++ textOutside rest
-unfolding textFrom
+unfolding textFrom leftOut
 line-shown l rest lettered = rw (lettered .0, lettered .1) (ap (λ (s : List ℕ). l .letter ∷ s) (numbers-shown (eqb (l .letter) 109) 0 (l .numbers) rest))
 
 text-shown : (ls : List Line) → Each Lettered ls → textOutside (text ls) ≡ joined (map shownLine ls)
@@ -98,7 +98,7 @@ text-shown (l ∷ ls) each = line-shown l (text ls) (each .0) ∙ ap (λ (s : Li
 
 -- nothing of lines that are no m lines
 numbers-whole : (w : ℕ) (ns : List ℕ) → shownNumbers false w ns ≡ numbersText ns
-unfolding numbersText
+unfolding numbersText leftOut
 numbers-whole w [] = refl
 numbers-whole w (n ∷ ns) = ap (λ (s : List ℕ). 32 ∷ decimal 20 n ++ s) (numbers-whole (suc w) ns)
 
@@ -114,7 +114,7 @@ abbrev pub memberShown : ℕ → ℕ → List ℕ
 memberShown m onPayments = 109 ∷ 32 ∷ decimal 20 m ++ (32 ∷ 32 ∷ 32 ∷ decimal 20 onPayments ++ (10 ∷ []))
 
 pub member-line : (x : MemberResult) → textOutside (text (mLine x ∷ [])) ≡ memberShown (x .member) (x .onPayments)
-unfolding textFrom text mLine
+unfolding textFrom leftOut text mLine
 member-line x = line-shown (mLine x) [] (refl, refl) ∙ append-nil (memberShown (x .member) (x .onPayments))
 
 -- ---- the lines of a run
@@ -150,7 +150,7 @@ end-lettered s =
 -- an m line shows its member and the charge on payments
 members-shown : (c : Case) → map shownLine (map mLine (resultOf c .members))
     ≡ map (λ m. memberShown m (onPayments c m)) (memberList (c .head))
-unfolding resultOf mLine
+unfolding resultOf mLine leftOut
 members-shown c =
     ap (λ (ls : List Line). map shownLine ls) (map-map mLine _ (memberList (c .head))) ∙ map-map shownLine _ (memberList (c .head))
 

@@ -10,14 +10,18 @@ use Rattle.lists.specs.Lists.{if_then_else_, between}
 use Rattle.machine.specs.Printed.{fieldsIn, printed}
 use Rattle.reserves.specs.Reserves.{SameButReserves}
 
--- "m: member, rank, charge on contribution, on payments": a text from a place on without the words 2 and 3 of m lines. The place stands in word w of a line, the
--- letter being word 0, and of an m line or not; a space (32) begins the next word, a line's end (10) the next line
+-- "m: member, rank, charge on contribution, on payments": of an m line the words 2 and 3 are left out; the letter is word 0
+unfoldable pub leftOut : Bool → ℕ → Bool
+leftOut isM w = isM && between 2 3 w
+
+-- a text without these, from a place on that stands in word w of a line, an m line or another. A space (32) begins the next word, a line's end (10) the next line, and
+-- the letter (m is 109) says what line it is
 unfoldable pub textFrom : Bool → ℕ → List ℕ → List ℕ
 textFrom isM w [] = []
 textFrom isM w (b ∷ s) =
     if eqb b 10 then b ∷ textFrom false 0 s
     else if eqb b 32 then b ∷ textFrom isM (suc w) s
-    else if isM && between 2 3 w then textFrom isM w s
+    else if leftOut isM w then textFrom isM w s
     else b ∷ textFrom (isM || (eqb w 0 && eqb b 109)) w s
 
 -- what a text shows outside the house
