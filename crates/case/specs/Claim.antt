@@ -162,13 +162,13 @@ unfoldable pub outsideIn : Held → Outside
 outsideIn h = let r = readingIn h in outsideOf (seen 0 h) (poolPricesIn h) (r .answer, r .cents) (calledIn h) (owedIn h)
 
 -- the ledger looks the same from outside over two lists of calls: every answer, and after any number of calls all that is seen
-pub record LooksAlike (calls others : List (List ℕ)) : Type 0 where
+pub record ShowsAlike (calls others : List (List ℕ)) : Type 0 where
   pub answers : ledgerAnswers noHeld calls ≡ ledgerAnswers noHeld others
   pub shown : (k : ℕ) → outsideIn (ledgerAfter noHeld (take k calls)) ≡ outsideIn (ledgerAfter noHeld (take k others))
 
 -- so it does over any two lists that are the same but for reserves, by which the same bids are valid
 abbrev pub KeepsReserves : Type 0
-KeepsReserves = (calls others : List (List ℕ)) → Each Bytes calls → Each Bytes others → SameButReserves calls others → LooksAlike calls others
+KeepsReserves = (calls others : List (List ℕ)) → Each Bytes calls → Each Bytes others → SameButReserves calls others → ShowsAlike calls others
 
 -- ---- after an accepted FINISH
 

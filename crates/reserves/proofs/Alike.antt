@@ -37,40 +37,40 @@ Alike s t = stateWithout s ≡ stateWithout t
 
 -- ---- call by call
 
--- what an accepted call makes of a case without reserves: what it makes of the case, without reserves. ROUND, which takes reserves, and CLOSE, which reads them, have
+-- a call that leaves reserves alone makes of a case without them what it makes of the case, without them. ROUND, which takes them, and CLOSE, which reads them, have
 -- laws of their own
 data Changes : Call → Type 0 where
-  as-ever : {call : Call} → ((c : Case) → withoutReserves (accepted c call) ≡ accepted (withoutReserves c) call) → Changes call
+  leaves : {call : Call} → ((c : Case) → withoutReserves (accepted c call) ≡ accepted (withoutReserves c) call) → Changes call
   takes : (reserves : List ℕ) → Changes (ROUND reserves)
   reads : Changes CLOSE
 
--- no test asks for a reserve
-abbrev Tells : Call → Type 0
-Tells call = ((c : Case) → tests (some (withoutReserves c)) (withoutReserves c) call ≡ tests (some c) c call) × Changes call
+-- what is shown of each call: no test asks for a reserve that is kept, and what the call changes
+abbrev ByCall : Call → Type 0
+ByCall call = ((c : Case) → tests (some (withoutReserves c)) (withoutReserves c) call ≡ tests (some c) c call) × Changes call
 
-tells : (call : Call) → Tells call
+by-call : (call : Call) → ByCall call
 unfolding tests letterOf notGiven someoneOwes saleTooDear noneStands totalShortfall shortfall requirement prefunded contributions calls allocation accepted afterPool afterMember afterBid afterAllocate afterTear afterCall afterPay afterMove afterMiss afterSale afterWithdraw
-tells (HEAD h) = (λ c. refl, as-ever (λ c. refl))
-tells (POOL pool units mark) = (λ c. refl, as-ever (λ c. refl))
-tells (MEMBER m contribution expected) = (λ c. refl, as-ever (λ c. refl))
-tells (ROUND reserves) = (λ c. refl, takes reserves)
-tells (BID pool m units price) = (λ c. refl, as-ever (λ c. refl))
-tells CLOSE = (λ c. refl, reads)
-tells (ALLOCATE pool price) = (λ c. refl, as-ever (λ c. refl))
-tells (TEAR pool price) = (λ c. refl, as-ever (λ c. refl))
-tells CALL = (λ c. refl, as-ever (λ c. refl))
-tells (PAY m amount) = (λ c. refl, as-ever (λ c. refl))
-tells (MOVE m) = (λ c. refl, as-ever (λ c. refl))
-tells (MISS m price) = (λ c. refl, as-ever (λ c. refl))
-tells FINISH = (λ c. refl, as-ever (λ c. refl))
-tells (SALE pool m price) = (λ c. refl, as-ever (λ c. refl))
-tells (WITHDRAW m n) = (λ c. refl, as-ever (λ c. refl))
+by-call (HEAD h) = (λ c. refl, leaves (λ c. refl))
+by-call (POOL pool units mark) = (λ c. refl, leaves (λ c. refl))
+by-call (MEMBER m contribution expected) = (λ c. refl, leaves (λ c. refl))
+by-call (ROUND reserves) = (λ c. refl, takes reserves)
+by-call (BID pool m units price) = (λ c. refl, leaves (λ c. refl))
+by-call CLOSE = (λ c. refl, reads)
+by-call (ALLOCATE pool price) = (λ c. refl, leaves (λ c. refl))
+by-call (TEAR pool price) = (λ c. refl, leaves (λ c. refl))
+by-call CALL = (λ c. refl, leaves (λ c. refl))
+by-call (PAY m amount) = (λ c. refl, leaves (λ c. refl))
+by-call (MOVE m) = (λ c. refl, leaves (λ c. refl))
+by-call (MISS m price) = (λ c. refl, leaves (λ c. refl))
+by-call FINISH = (λ c. refl, leaves (λ c. refl))
+by-call (SALE pool m price) = (λ c. refl, leaves (λ c. refl))
+by-call (WITHDRAW m n) = (λ c. refl, leaves (λ c. refl))
 
 -- ---- answers
 
 same-tests : (s : State) (call : Call) → tests (stateWithout s) (theCase (stateWithout s)) call ≡ tests s (theCase s) call
 same-tests none call = refl
-same-tests (some c) call = tells call .0 c
+same-tests (some c) call = by-call call .0 c
 
 -- whether the reserves are in range is asked only where their number is right for the case
 right-number : (s : State) (n : ℕ) → (not (noCase s) && not (eqb n (theCase s .head .pools))) ≡ false → not (isS s || isA1 s) ≡ false → n ≡ theCase s .head .pools
@@ -168,7 +168,7 @@ module _ (c d : Case) (alike : withoutReserves c ≡ withoutReserves d) where
 
   next-alike : (call : Call) → Changes call → (call ≡ CLOSE → SameStanding c d) → withoutReserves (accepted c call) ≡ withoutReserves (accepted d call)
   unfolding accepted
-  next-alike call (as-ever same) bids = same c ∙ ap (λ (x : Case). accepted x call) alike ∙ sym (same d)
+  next-alike call (leaves same) bids = same c ∙ ap (λ (x : Case). accepted x call) alike ∙ sym (same d)
   next-alike call (takes reserves) bids = round-alike reserves reserves
   next-alike call reads bids = close-alike (bids refl)
 
@@ -211,7 +211,7 @@ module _ (s t : State) (alike : Alike s t) where
   unfolding answered
   asked-alike none bids = record { answer = refl; state = alike }
   asked-alike (some call) bids =
-      taken call call (same-refusal s t alike call) (next-alike (theCase s) (theCase t) cases-alike call (tells call .1) (λ e. bids (ap some e)))
+      taken call call (same-refusal s t alike call) (next-alike (theCase s) (theCase t) cases-alike call (by-call call .1) (λ e. bids (ap some e)))
 
   step-alike : (one other : List ℕ) → SameField (theCase s) one other → (decode one ≡ some CLOSE → SameStanding (theCase s) (theCase t))
       → Stepped (step s one) (step t other)

@@ -55,20 +55,10 @@ pub record SameFields (calls others : List (List ℕ)) : Type 0 where
   pub as-many : length calls ≡ length others
   pub at : (k : ℕ) → k < length calls → SameField (caseAfter k calls) (getD calls k []) (getD others k [])
 
--- THE PREMISE: the same fields but for reserves, and after any number of calls the same bids are valid
+-- the premise: the same fields but for reserves, and after any number of calls the same bids are valid
 pub record SameButReserves (calls others : List (List ℕ)) : Type 0 where
   pub fields : SameFields calls others
   pub bids : (k : ℕ) → SameValidity (caseAfter k calls) (caseAfter k others)
-
--- Less is enough: where a round is closed, the same bids of it that then stand are valid. So a bid that was withdrawn tells nothing, and no bid does before CLOSE
-abbrev pub SameStanding : Case → Case → Type 0
-SameStanding c d =
-    (i : ℕ) → i < length (c .bids) → i < length (d .bids) → inRound (roundOf (c .stage)) (getD (c .bids) i noBid) ≡ true
-    → valid (c .rounds) (getD (c .bids) i noBid) ≡ valid (d .rounds) (getD (d .bids) i noBid)
-
-pub record SameAtClose (calls others : List (List ℕ)) : Type 0 where
-  pub fields : SameFields calls others
-  pub bids : (k : ℕ) → decode (getD calls k []) ≡ some CLOSE → SameStanding (caseAfter k calls) (caseAfter k others)
 
 -- ---- what is seen outside the house
 
@@ -121,7 +111,7 @@ outsideOf o sums requirement called owed =
       result = totalsIf (o .result);
     }
 
--- what is seen of a state and of the running sums that are kept with it
+-- what is seen of a state and of the running sums that are kept with it (0 stands for an answer, which is not taken)
 unfoldable pub outside : Kept → Outside
 outside k =
     let c = theCase (k .state) in
@@ -150,6 +140,18 @@ pub record LookAlike (calls others : List (List ℕ)) : Type 0 where
 abbrev pub ReservesStayInside : Type 0
 ReservesStayInside = (calls others : List (List ℕ)) → SameButReserves calls others → LookAlike calls others
 
--- the same from less
+-- ---- the same from less
+
+-- where a round is closed, the same bids of it that then stand are valid: nothing else is asked about bids. So a bid that was withdrawn tells nothing, and no bid does
+-- before CLOSE
+abbrev pub SameStanding : Case → Case → Type 0
+SameStanding c d =
+    (i : ℕ) → i < length (c .bids) → i < length (d .bids) → inRound (roundOf (c .stage)) (getD (c .bids) i noBid) ≡ true
+    → valid (c .rounds) (getD (c .bids) i noBid) ≡ valid (d .rounds) (getD (d .bids) i noBid)
+
+pub record SameAtClose (calls others : List (List ℕ)) : Type 0 where
+  pub fields : SameFields calls others
+  pub bids : (k : ℕ) → decode (getD calls k []) ≡ some CLOSE → SameStanding (caseAfter k calls) (caseAfter k others)
+
 abbrev pub OnlyStandingTell : Type 0
 OnlyStandingTell = (calls others : List (List ℕ)) → SameAtClose calls others → LookAlike calls others
