@@ -421,6 +421,7 @@ quotes(indented('2. A small pool sold first'), 20, 'agreed', 'sales')
 quotes(indented('3. The auctions', '7. The tables'), 12, 'withdrawals', 'open-round')
 quotes(indented('Watching the requirement'), 20, 'requirement')
 quotes(indented('Odd units and cents'), 5, 'ties')
+quotes(indented('What a member can learn of the reserves'), 9, 'reserves', 'other-reserves')
 
 # ---- the scripts, with an `rt` that says what they are told
 
