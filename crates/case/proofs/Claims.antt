@@ -8,18 +8,16 @@ use lib.Dec.{eqb}
 use lib.ListN.{length, getD, take}
 use borrow.Author.Tests.{lt-ltb, eqb-true, ne-eqb}
 use Rattle.lists.specs.Lists.{if_then_else_, sum, Bytes}
-use Rattle.lists.proofs.Each.{Each, each-take}
+use Rattle.lists.proofs.Each.{each-take}
 use Rattle.lists.proofs.Places.{getD-tab}
 use Rattle.machine.specs.Wire.{Call, HEAD}
 use Rattle.machine.specs.State as M
 use Rattle.machine.specs.Machine.{answered}
 use Rattle.machine.specs.Result.{limits, charge, spent}
 use Rattle.machine.specs.Run.{Observed, observed, fiveCounts, resultOf, runFrom}
-use Rattle.machine.specs.Running.{nothingKept, keptFrom}
 use Rattle.machine.proofs.Claims as C
 use Rattle.machine.proofs.Finish as F
 use Rattle.machine.proofs.Running.{readingOf, reading-is}
-use Rattle.reserves.specs.Reserves.{outside}
 use Rattle.reserves.proofs.Seen.{outside-full}
 use Rattle.reserves.proofs.Claims.{reserves-stay-inside}
 use Rattle.wire.specs.Asked.{headOf}
@@ -30,7 +28,7 @@ use Rattle.case.specs.declared.Case.{Case}
 use Rattle.case.specs.Cases.{applied, noHeld, caseAnswerTo, answerTo, firstAnswerTo, firstAnswer, afterAsked, caseAfter, takeAsked, headOutcome, outcomeOf}
 use Rattle.case.specs.Readings.{seen}
 use Rattle.case.specs.Input.{ledgerAfter}
-use Rattle.case.specs.Claim.{AnswersFirst, OneOfFive, MethodsAgree, HeadAgrees, KeepsSales, KeepsBids, KeepsSums, ReadsRequirement, KeepsReserves, outsideIn, Covers, Finished, Claim}
+use Rattle.case.specs.Claim.{AnswersFirst, OneOfFive, MethodsAgree, HeadAgrees, KeepsSales, KeepsBids, KeepsSums, ReadsRequirement, ShowsOutside, KeepsReserves, Covers, Finished, Claim}
 use Rattle.case.proofs.Claim.{Holds, taken, takes, none-tied, seen-observed, sums-seen, requirement-seen, outside-seen, agrees, ledger-tied, ledger-answers, ledger-shows}
 use Rattle.case.proofs.Finishes.{after-finish}
 
@@ -132,16 +130,15 @@ reads-requirement calls each =
 
 -- ---- reserves stay inside the house
 
--- what is seen of the ledger after a list of calls is what is seen of the machine
-outside-shown : (calls : List (List ℕ)) → Each Bytes calls → outsideIn (ledgerAfter noHeld calls) ≡ outside (keptFrom nothingKept calls)
-outside-shown calls each = outside-seen (ledgerAfter noHeld calls) (runFrom none calls) (ledger-tied calls each) ∙ sym (outside-full calls)
+shows-outside : ShowsOutside
+shows-outside calls each = outside-seen (ledgerAfter noHeld calls) (runFrom none calls) (ledger-tied calls each) ∙ sym (outside-full calls)
 
 keeps-reserves : KeepsReserves
 keeps-reserves calls others each also same =
     let alike = reserves-stay-inside calls others same in
     record {
       answers = ledger-answers calls each ∙ alike .answers ∙ sym (ledger-answers others also);
-      shown = λ k. outside-shown (take k calls) (each-take Bytes k calls each) ∙ alike .shown k ∙ sym (outside-shown (take k others) (each-take Bytes k others also));
+      shown = λ k. shows-outside (take k calls) (each-take Bytes k calls each) ∙ alike .shown k ∙ sym (shows-outside (take k others) (each-take Bytes k others also));
     }
 
 -- ---- a finished case
@@ -189,6 +186,7 @@ claim =
       bids = keeps-bids;
       sums = keeps-sums;
       requirement = reads-requirement;
+      outside = shows-outside;
       reserves = keeps-reserves;
       finishes = after-finish;
       finished = finished;

@@ -26,7 +26,7 @@ use Rattle.machine.specs.Machine.{answered}
 use Rattle.machine.specs.Result.{limits}
 use Rattle.machine.specs.Run.{Result, Observed, observed, run, runFrom}
 use Rattle.machine.specs.Running.{leftSum, nothingKept, keptFrom, reading}
-use Rattle.reserves.specs.Reserves.{SameButReserves, Outside, outsideOf}
+use Rattle.reserves.specs.Reserves.{SameButReserves, Outside, outsideOf, outside}
 use Rattle.wire.specs.declared.Head.{Head}
 use Rattle.wire.specs.Asked.{headOf}
 use Rattle.units.specs.declared.Units.{Units}
@@ -161,6 +161,10 @@ ReadsRequirement = (calls : List (List ℕ)) → Each Bytes calls → Reads (rea
 unfoldable pub outsideIn : Held → Outside
 outsideIn h = let r = readingIn h in outsideOf (seen 0 h) (poolPricesIn h) (r .answer, r .cents) (calledIn h) (owedIn h)
 
+-- after every list of calls it is what is seen of the machine
+abbrev pub ShowsOutside : Type 0
+ShowsOutside = (calls : List (List ℕ)) → Each Bytes calls → outsideIn (ledgerAfter noHeld calls) ≡ outside (keptFrom nothingKept calls)
+
 -- the ledger looks the same from outside over two lists of calls: every answer, and after any number of calls all that is seen
 pub record ShowsAlike (calls others : List (List ℕ)) : Type 0 where
   pub answers : ledgerAnswers noHeld calls ≡ ledgerAnswers noHeld others
@@ -247,6 +251,7 @@ pub record Claim : Type 0 where
   pub bids : KeepsBids
   pub sums : KeepsSums
   pub requirement : ReadsRequirement
+  pub outside : ShowsOutside
   pub reserves : KeepsReserves
   pub finishes : Finishes
   pub finished : Finished
