@@ -18,7 +18,7 @@ use Rattle.machine.specs.Machine.{step}
 use Rattle.machine.specs.Run.{runFrom}
 use Rattle.machine.proofs.CallBytes.{−_, head, pool, member, round, bid, close, call, pay, move, finish, sale, withdraw}
 use Rattle.machine.proofs.Worked.{Worked, AllShow, shown, p, l, m}
-use Rattle.reserves.specs.Reserves.{TwoRounds, SameField, SameValidity, SameButReserves, Outside, LookAlike, valid}
+use Rattle.reserves.specs.Reserves.{TwoRounds, SameField, SameFields, SameValidity, SameButReserves, Outside, LookAlike, valid}
 use Rattle.reserves.specs.Computing.{computing}
 use Rattle.reserves.proofs.Claims.{reserves-stay-inside}
 
@@ -82,10 +82,11 @@ fields-at end k l = absurd (omega arith)
 fields-at (next f rest) zero l = f
 fields-at (next f rest) (suc k) l = fields-at rest k (omega arith)
 
+same-fields : {calls others : List (List ℕ)} → FieldsFrom none calls others → SameFields calls others
+same-fields h = record { as-many = fields-many h; at = fields-at h }
+
 computed : (calls others : List (List ℕ)) → FieldsFrom none calls others → flagsFrom none calls ≡ flagsFrom none others → SameButReserves calls others
-computed calls others h e =
-    let long = fields-many h in
-    record { fields = record { as-many = long; at = fields-at h }; bids = flags-bids none none calls others long e }
+computed calls others h e = record { fields = same-fields h; bids = flags-bids none none calls others (fields-many h) e }
 
 -- two ROUNDs, by their reserves as they are held
 two : {pools : ℕ} {one other : List ℕ} (reserves others : List ℕ) → decode one ≡ some (ROUND reserves) → decode other ≡ some (ROUND others) → length reserves ≡ length others
@@ -313,7 +314,8 @@ calls-same =
 
 -- ---- ROUNDs that are declined
 
--- With no case by 2; where there are as many reserves as the case has no pools, by 1, whatever they are; before a member is given by 10; in an open round by 2.
+-- With no case by 2; where their number is not that of the case's pools by 1, whatever the reserves are; before a member is given by 10; in an open round by 2. The
+-- fourth is accepted.
 abbrev declined : (first second third fourth fifth : List ℕ) → List (List ℕ)
 declined first second third fourth fifth =
     first ∷ head 1 1 1 0 0 0 0 0 ∷ pool 0 1 0 ∷ second ∷ third ∷ member 0 0 0 0 0 0 ∷ fourth ∷ fifth ∷ []
@@ -427,16 +429,16 @@ pub other-range-told : LookAlike (auction one) (auction (round ((− 30) ∷ 1_0
 unfolding computing
 other-range-told same = let z : _≡_ {A = ℕ} 0 5 = ap (λ (ns : List ℕ). getD ns 5 0) (same .answers) in omega arith
 
--- the same bids valid: by −9 bid 0 is not, and FINISH finds open units, which declines it by 11. All else of the premise holds
+-- the same bids valid: by −9 bid 0 is not, and FINISH finds open units, which declines it by 11. The fields are the same but for reserves, as the premise asks
 abbrev third : List ℕ
 third = round ((− 9) ∷ (− 20) ∷ [])
 
-third-fields : FieldsFrom none (auction one) (auction third)
+pub third-fields : SameFields (auction one) (auction third)
 unfolding computing
 third-fields =
-    then-rest given (one ∷ auctioned) (third ∷ auctioned)
-    (next (inr (two (999_970 ∷ 999_980 ∷ []) (999_991 ∷ 999_980 ∷ []) refl refl refl (λ e. (refl, refl))))
-    (all-same auctioned))
+    same-fields
+    (then-rest given (one ∷ auctioned) (third ∷ auctioned)
+    (next (inr (two (999_970 ∷ 999_980 ∷ []) (999_991 ∷ 999_980 ∷ []) refl refl refl (λ e. (refl, refl)))) (all-same auctioned)))
 
 pub other-bids-told : LookAlike (auction one) (auction third) → ⊥
 unfolding computing
