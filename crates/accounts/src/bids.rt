@@ -2,7 +2,7 @@
 ghost use Rattle.std.specs.Prelude.{◌≡◌, ◌&&◌, cond, [], ◌∷◌, ◌+◌, ◌-◌, ◌*◌, min, get_or};
 ghost use Rattle.accounts.specs.Bids.{no_bids, put_bid, stands_for, withdraw_bid, units_in, wins_of, with_wins, won_table, gain_table};
 
-#[derive(Drop)]
+#[derive(Clone, Copy)]
 pub struct Bids {
     pub kept: usize,
     pub round: [u8; 256],

@@ -5,7 +5,7 @@ ghost use Rattle.lists.specs.Adding.{most16, most32, held_to};
 ghost use Rattle.sets.specs.Set.{members};
 ghost use Rattle.accounts.specs.Members.{no_members, owes_of, someone_owes_in, shortfalls_of, over_pools, over_pools_at, without_pools, put_member, add_shares, with_shares, with_calls, with_payment, with_move, with_won};
 
-#[derive(Drop)]
+#[derive(Clone, Copy)]
 pub struct Members {
     pub given: u32,
     pub moved: u32,

@@ -2,7 +2,7 @@
 ghost use Rattle.std.specs.Prelude.{◌≡◌, get_or};
 ghost use Rattle.accounts.specs.Pools.{no_pools, put_pool};
 
-#[derive(Drop)]
+#[derive(Clone, Copy)]
 pub struct Pools {
     pub given: u8,
     pub units: [u16; 4],

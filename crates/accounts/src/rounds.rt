@@ -2,7 +2,7 @@
 ghost use Rattle.std.specs.Prelude.{◌≡◌, ◌<◌};
 ghost use Rattle.accounts.specs.Rounds.{no_rounds, put_round, reserve_of, worst_in, worst_of, worsts_of};
 
-#[derive(Drop)]
+#[derive(Clone, Copy)]
 pub struct Rounds {
     pub held: u8,
     pub reserves: [u32; 8],

@@ -13,7 +13,7 @@ ghost use Rattle.asking.specs.Answers.{sentence, requirement_text, refusal_text,
 use case::{Held, Reading};
 
 // The questions about a case; `Unknown` is none of them.
-#[derive(Drop)]
+#[derive(Clone, Copy)]
 pub enum Question {
     Requirement,
     Unknown,
@@ -21,7 +21,7 @@ pub enum Question {
 
 // What is held when the reading stops, how many bytes of a field that is cut off are left at the buffer's front, and whether the input ended: where it did not, a
 // read failed, or the buffer is too short.
-#[derive(Drop)]
+#[derive(Clone, Copy)]
 pub struct Rest {
     pub held: Held,
     pub len: usize,
@@ -29,21 +29,21 @@ pub struct Rest {
 }
 
 // Whether the question is answered, and the length of the text at the buffer's front: the answer, or why there is none.
-#[derive(Drop)]
+#[derive(Clone, Copy)]
 pub struct Told {
     pub good: bool,
     pub len: usize,
 }
 
 // What is held after a part of an input, and the bytes that its whole fields took.
-#[derive(Drop)]
+#[derive(Clone, Copy)]
 struct Taken {
     held: Held,
     used: usize,
 }
 
 // What is held after a turn, and how many bytes are kept at the buffer's front.
-#[derive(Drop)]
+#[derive(Clone, Copy)]
 struct Turn {
     held: Held,
     len: usize,

@@ -238,14 +238,14 @@ pub extern "C" fn ledger_auction(
 
 // A bid as it is lent: its units and its price in cents, positive paid to the house and negative by the house.
 #[repr(C)]
-#[derive(Drop)]
+#[derive(Clone, Copy)]
 pub struct BidRecord {
     pub units: u16,
     pub price: i32,
 }
 
 // The bids of a lent run in flat arrays, of which the first n are used.
-#[derive(Drop)]
+#[derive(Clone, Copy)]
 pub struct Bids {
     pub units: [u64; BID_LIMIT],
     pub prices: [u32; BID_LIMIT],

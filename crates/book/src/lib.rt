@@ -16,7 +16,7 @@ use units::Units;
 use wire::{Call, Head};
 
 // "S setup, B bidding, A after a round (B and A in round 1 or 2), C calls out, F finished"
-#[derive(Drop)]
+#[derive(Clone, Copy)]
 pub enum Stage {
     Setup,
     Bidding(u8),
@@ -25,7 +25,7 @@ pub enum Stage {
     Finished,
 }
 
-#[derive(Drop)]
+#[derive(Clone, Copy)]
 pub struct Book {
     pub head: Head,
     pub pools: Pools,
@@ -36,7 +36,7 @@ pub struct Book {
 }
 
 // What FINISH gives: the loss, the six charges, the uncovered rest, and of each of the 32 places its rank and its charges.
-#[derive(Drop)]
+#[derive(Clone, Copy)]
 pub struct Result {
     pub loss: u64,
     pub charges: [u64; 6],

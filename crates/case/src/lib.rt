@@ -16,42 +16,42 @@ use units::Units;
 use wire::{Call, Head};
 
 // "The case holds its stage together with the round it belongs to".
-#[derive(Drop)]
+#[derive(Clone, Copy)]
 pub struct Case {
     pub stage: Stage,
     pub book: Book,
 }
 
 // The answer to a call, and the case handed back.
-#[derive(Drop)]
+#[derive(Clone, Copy)]
 pub struct Outcome {
     pub answer: u8,
     pub case: Case,
 }
 
 // No case, or a case.
-#[derive(Drop)]
+#[derive(Clone, Copy)]
 pub struct Held {
     pub present: bool,
     pub case: Case,
 }
 
 // The answer to a call, and what is held after it.
-#[derive(Drop)]
+#[derive(Clone, Copy)]
 pub struct Applied {
     pub answer: u8,
     pub held: Held,
 }
 
 // What is read of what is held: an answer, and cents where it is 0.
-#[derive(Drop)]
+#[derive(Clone, Copy)]
 pub struct Reading {
     pub answer: u8,
     pub cents: u64,
 }
 
 // What is held after the fields at an input's front, the bytes that they took, and how many they are.
-#[derive(Drop)]
+#[derive(Clone, Copy)]
 pub struct Front {
     pub held: Held,
     pub used: usize,
@@ -59,7 +59,7 @@ pub struct Front {
 }
 
 // What `run` gives: how many fields were answered, and what is held then.
-#[derive(Drop)]
+#[derive(Clone, Copy)]
 pub struct Ran {
     pub count: usize,
     pub held: Held,

@@ -10,14 +10,14 @@ ghost use Rattle.expected.specs.Shares.{member_text, place_text, members_text, s
 use libc::STDERR_FILENO;
 
 // A number that a word says, and whether it says one.
-#[derive(Drop)]
+#[derive(Clone, Copy)]
 struct Said {
     good: bool,
     number: u32,
 }
 
 // What the program is asked for, and whether it is asked for anything: the members, the units of the pool, and whether the days are text.
-#[derive(Drop)]
+#[derive(Clone, Copy)]
 struct Asked {
     good: bool,
     set: u32,

@@ -15,7 +15,7 @@ use case::Held;
 use texts::Line;
 
 // What is held after a part of an input, the bytes that its whole fields took, and the place behind the text.
-#[derive(Drop)]
+#[derive(Clone, Copy)]
 struct Taken {
     held: Held,
     used: usize,
@@ -23,14 +23,14 @@ struct Taken {
 }
 
 // What is held after a field, and the place behind its text.
-#[derive(Drop)]
+#[derive(Clone, Copy)]
 struct Step {
     held: Held,
     at: usize,
 }
 
 // What is held after a turn, how many bytes are kept at the buffer's front, and the place behind the text.
-#[derive(Drop)]
+#[derive(Clone, Copy)]
 struct Turn {
     held: Held,
     len: usize,
@@ -38,7 +38,7 @@ struct Turn {
 }
 
 // What is held when the reading stops, how many bytes of a field that is cut off are kept at the buffer's front, and whether the input ended.
-#[derive(Drop)]
+#[derive(Clone, Copy)]
 struct Rest {
     held: Held,
     len: usize,

@@ -5,7 +5,7 @@ use forms::Tagged;
 use wire::{Call, Head};
 
 // The text that names a number, and its range.
-#[derive(Drop)]
+#[derive(Clone, Copy)]
 struct Limits {
     text: usize,
     low: u32,

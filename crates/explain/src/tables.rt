@@ -471,7 +471,7 @@ fn write_members(finished: bool, book: Book, out: &mut [u8], at: usize) -> usize
 // ---- units held
 
 // The place behind rows, with their units and the prices of these together.
-#[derive(Drop)]
+#[derive(Clone, Copy)]
 struct Rows {
     at: usize,
     units: u64,

@@ -6,7 +6,7 @@ use wire::Call;
 use words::Amount;
 
 // A text by its number, and the numbers that are put into it. A number below 0 is one in two's complement.
-#[derive(Drop)]
+#[derive(Clone, Copy)]
 pub struct Line {
     pub text: usize,
     pub numbers: [u64; 9],

@@ -20,7 +20,7 @@ use case::{Case, Held};
 // What is shown of a case. Where none is held every number is 0; so is the result before an accepted FINISH. Bids are numbered from 0 as accepted, so the next
 // one gets the number `bids`. The counts are open, sold, allocated, moved and torn of pool 0, then of pools 1 to 3. Money and prices are in cents.
 #[repr(C)]
-#[derive(Drop)]
+#[derive(Clone, Copy)]
 pub struct Shown {
     pub present: bool,
     pub stage: u8,
@@ -43,7 +43,7 @@ pub struct Shown {
 
 // What is read of the requirement: an answer, and cents where it is 0.
 #[repr(C)]
-#[derive(Drop)]
+#[derive(Clone, Copy)]
 pub struct Reading {
     pub answer: u8,
     pub cents: u64,
@@ -51,7 +51,7 @@ pub struct Reading {
 
 // Whether a whole text was written, and its length.
 #[repr(C)]
-#[derive(Drop)]
+#[derive(Clone, Copy)]
 pub struct Printed {
     pub whole: bool,
     pub len: usize,

@@ -7,7 +7,7 @@ ghost use Rattle.feed.specs.Feeds.{Reads, Slides};
 use libc::{EINTR, STDIN_FILENO, STDOUT_FILENO};
 
 // How many bytes came; where none did, whether the input has ended, or else the read failed.
-#[derive(Drop)]
+#[derive(Clone, Copy)]
 pub struct Got {
     pub len: usize,
     pub ended: bool,

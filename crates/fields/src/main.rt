@@ -3,7 +3,7 @@
 use libc::STDERR_FILENO;
 
 // What the program is asked for.
-#[derive(Drop)]
+#[derive(Clone, Copy)]
 enum Task {
     ToFields,
     ToText,

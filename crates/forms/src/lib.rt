@@ -8,7 +8,7 @@ ghost use Rattle.forms.specs.Put.{Put, Written, put_into};
 use wire::Call;
 
 // A call's tag, and its first `count` of eight numbers. Tag 0 is no call.
-#[derive(Drop)]
+#[derive(Clone, Copy)]
 pub struct Tagged {
     pub tag: u8,
     pub count: usize,

@@ -15,14 +15,14 @@ use rows::Part;
 
 // What became of a run: whether it is known what its text gives, since the input was read to its end, a line is refused, or the set or the units are declined; and
 // whether the shares are given. It is not known where a read failed or a buffer is too small.
-#[derive(Drop)]
+#[derive(Clone, Copy)]
 pub struct Outcome {
     pub known: bool,
     pub given: bool,
 }
 
 // The bytes of the lines that were taken, the number of lines up to then, the row of the ring that the next day takes, and whether the next line is refused.
-#[derive(Drop)]
+#[derive(Clone, Copy)]
 struct Took {
     used: usize,
     lines: u64,
@@ -31,7 +31,7 @@ struct Took {
 }
 
 // How many bytes are kept at the buffer's front after a turn, the number of lines, the row that the next day takes, and whether the next line is refused.
-#[derive(Drop)]
+#[derive(Clone, Copy)]
 struct Turn {
     len: usize,
     lines: u64,
@@ -41,7 +41,7 @@ struct Turn {
 
 // How many bytes are kept at the buffer's front when the reading stops, the number of lines, the row that the next day takes, whether the input ended or a line is
 // refused, and whether it is that.
-#[derive(Drop)]
+#[derive(Clone, Copy)]
 struct Rest {
     len: usize,
     lines: u64,

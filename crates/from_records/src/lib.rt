@@ -10,7 +10,7 @@ use feed::Got;
 use libc::STDERR_FILENO;
 
 // After a turn: the row that the next day takes, how many bytes are kept at the buffer's front, how many days came, and why the next one is declined, or 0.
-#[derive(Drop)]
+#[derive(Clone, Copy)]
 struct Turn {
     row: usize,
     len: usize,
@@ -19,7 +19,7 @@ struct Turn {
 }
 
 // When the reading stops: the sums, how many bytes of a record are left, whether the input ended, how many days came, and why the next one is declined, or 0.
-#[derive(Drop)]
+#[derive(Clone, Copy)]
 struct Rest {
     sums: [u64; 32],
     len: usize,
@@ -29,7 +29,7 @@ struct Rest {
 }
 
 // Whether the answer to the run is known, and the answer: it is not known where a read failed.
-#[derive(Drop)]
+#[derive(Clone, Copy)]
 pub struct Outcome {
     pub known: bool,
     pub answer: u8,

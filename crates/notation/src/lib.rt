@@ -6,7 +6,7 @@ ghost use Rattle.notation.specs.Reading.{letter_of, grown, key_code, tag_named, 
 use wire::Call;
 
 // What is known of a line while it is read.
-#[derive(Drop)]
+#[derive(Clone, Copy)]
 pub struct Scan {
     pub phase: u8,
     pub tag: u8,
@@ -22,7 +22,7 @@ pub struct Scan {
 
 // What a line is: nothing, where it is empty or a comment; a call; or refused, at a place counted from 0, for a reason, with the
 // call's tag (0 before its name is read) and the number that was to come.
-#[derive(Drop)]
+#[derive(Clone, Copy)]
 pub enum Read {
     Nothing,
     Called(Call),

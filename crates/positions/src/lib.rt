@@ -14,7 +14,7 @@ ghost use Rattle.positions.specs.Keeping.{keeping, no_days, row_of, rolled, roll
 // Where a part of a run led to: the row of the ring that the next day takes, how many bytes of the part were records that were taken, and why the next one is
 // declined, or 0. The bytes that were not used go before the next part.
 #[repr(C)]
-#[derive(Drop)]
+#[derive(Clone, Copy)]
 pub struct Part {
     pub row: usize,
     pub used: usize,
@@ -22,7 +22,7 @@ pub struct Part {
 }
 
 // The sums over a whole run, how many of its bytes were records that were taken, and why the next one is declined, or 0.
-#[derive(Drop)]
+#[derive(Clone, Copy)]
 struct Sums {
     sums: [u64; 32],
     used: usize,
@@ -30,7 +30,7 @@ struct Sums {
 }
 
 // Why a split is declined, or 0, and then its shares in member order.
-#[derive(Drop)]
+#[derive(Clone, Copy)]
 struct Shares {
     answer: u8,
     shares: [u64; 32],

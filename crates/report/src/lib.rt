@@ -12,7 +12,7 @@ use book::Result;
 use case::{Case, Held};
 
 // What is held after the whole fields at the front of a part of an input, the bytes that they took, and the bytes of text written.
-#[derive(Drop)]
+#[derive(Clone, Copy)]
 pub struct Taken {
     pub held: Held,
     pub used: usize,
@@ -20,7 +20,7 @@ pub struct Taken {
 }
 
 // Whether a whole text was written, and its length.
-#[derive(Drop)]
+#[derive(Clone, Copy)]
 pub struct Written {
     pub whole: bool,
     pub len: usize,

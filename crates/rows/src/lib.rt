@@ -9,7 +9,7 @@ ghost use Rattle.rows.specs.Days.{too_long, day_of, four_each, IsDay, NextDay, W
 use text_lines::LONGEST;
 
 // What is known of a line while it is read.
-#[derive(Drop)]
+#[derive(Clone, Copy)]
 struct Scan {
     phase: u8,
     start: usize,
@@ -20,7 +20,7 @@ struct Scan {
 }
 
 // What a line is: its numbers; nothing, where it has none and is empty or a comment; or refused, at a place counted from 0, for a reason that is not 0.
-#[derive(Drop)]
+#[derive(Clone, Copy)]
 pub struct Row {
     pub reason: u8,
     pub at: usize,
@@ -29,7 +29,7 @@ pub struct Row {
 }
 
 // A line's bytes, and the numbers in it; no bytes where it is not to be taken.
-#[derive(Drop)]
+#[derive(Clone, Copy)]
 struct Day {
     size: usize,
     count: usize,
@@ -37,7 +37,7 @@ struct Day {
 }
 
 // How many lines were written, the bytes that they took, and the bytes of their records.
-#[derive(Drop)]
+#[derive(Clone, Copy)]
 pub struct Part {
     pub count: usize,
     pub used: usize,

@@ -8,7 +8,7 @@ ghost use Rattle.stream.specs.Turns.{TakesTurn, FedTo, Last, Ends};
 use case::Held;
 
 // What is held after a turn, how many bytes are kept at the buffer's front, and how many bytes of text are to be written.
-#[derive(Drop)]
+#[derive(Clone, Copy)]
 pub struct Turn {
     pub held: Held,
     pub len: usize,
@@ -16,7 +16,7 @@ pub struct Turn {
 }
 
 // What is held when the reading stops, how many bytes of a field that is cut off are kept at the buffer's front, and whether the input ended.
-#[derive(Drop)]
+#[derive(Clone, Copy)]
 pub struct Rest {
     pub held: Held,
     pub len: usize,
@@ -24,7 +24,7 @@ pub struct Rest {
 }
 
 // Whether the input ended, and how many bytes of text at the buffer's front are then still to be written.
-#[derive(Drop)]
+#[derive(Clone, Copy)]
 pub struct Ending {
     pub ended: bool,
     pub len: usize,

@@ -15,14 +15,14 @@ use text_lines::LONGEST;
 use wire::Call;
 
 // A line's bytes, and the call that it asks for; no bytes where it is not to be taken.
-#[derive(Drop)]
+#[derive(Clone, Copy)]
 struct Line {
     size: usize,
     call: Call,
 }
 
 // How many lines were written, the bytes that they took, and the bytes of their fields.
-#[derive(Drop)]
+#[derive(Clone, Copy)]
 pub struct Part {
     pub count: usize,
     pub used: usize,
@@ -30,7 +30,7 @@ pub struct Part {
 }
 
 // The bytes of the lines that were written, the number of lines up to then, whether a write has failed, and whether the next line is refused.
-#[derive(Drop)]
+#[derive(Clone, Copy)]
 struct Wrote {
     used: usize,
     lines: u64,
@@ -39,7 +39,7 @@ struct Wrote {
 }
 
 // How many bytes are kept at the buffer's front after a turn, the number of lines, whether a write has failed, and whether the next line is refused.
-#[derive(Drop)]
+#[derive(Clone, Copy)]
 struct Turn {
     len: usize,
     lines: u64,
@@ -48,7 +48,7 @@ struct Turn {
 }
 
 // How many bytes are kept at the buffer's front when the reading stops, the number of lines, whether the input ended, and whether a write has failed.
-#[derive(Drop)]
+#[derive(Clone, Copy)]
 struct Rest {
     len: usize,
     lines: u64,
@@ -57,7 +57,7 @@ struct Rest {
 }
 
 // Whether all was read and written and is good, whether a write has failed, and how many bytes at the buffer's front are still to be written.
-#[derive(Drop)]
+#[derive(Clone, Copy)]
 struct Ending {
     good: bool,
     failed: bool,

@@ -11,7 +11,7 @@ ghost use Rattle.to_text.specs.Turns.{size_within, WritesFields, FedTo, cut_text
 use feed::Got;
 
 // How many fields were written, the bytes that they took, and the bytes of their text.
-#[derive(Drop)]
+#[derive(Clone, Copy)]
 pub struct Part {
     pub count: usize,
     pub used: usize,
@@ -19,28 +19,28 @@ pub struct Part {
 }
 
 // The bytes of the fields that were written, and whether a write has failed.
-#[derive(Drop)]
+#[derive(Clone, Copy)]
 struct Wrote {
     used: usize,
     failed: bool,
 }
 
 // How many bytes are kept at the buffer's front after a turn, and whether a write has failed.
-#[derive(Drop)]
+#[derive(Clone, Copy)]
 struct Turn {
     len: usize,
     failed: bool,
 }
 
 // How many bytes of a field that is cut off are kept at the buffer's front when the reading stops, and whether the input ended and no write failed.
-#[derive(Drop)]
+#[derive(Clone, Copy)]
 struct Rest {
     len: usize,
     ended: bool,
 }
 
 // Whether the input ended, and how many bytes of text at the buffer's front are then still to be written.
-#[derive(Drop)]
+#[derive(Clone, Copy)]
 struct Ending {
     ended: bool,
     len: usize,

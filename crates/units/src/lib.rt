@@ -10,7 +10,7 @@ ghost use Rattle.units.specs.Shown.{open_of, agreed_of, buyer_of, sale_price_of,
 // moved to a member; from 516 on those torn up that were open or allocated, and from 648 on those that were moved; from 776 on those of a pool sold by agreement.
 // `sums`: the sum of the prices of a pool's units that are not open, as cents + 1,000,000,000.
 // `allocation`: the price of a pool's ALLOCATE. `noted`: the prices of the places from 516 on. `buyers`: the member to whom a pool was sold by agreement.
-#[derive(Drop)]
+#[derive(Clone, Copy)]
 pub struct Units {
     pub counts: [u16; 780],
     pub sums: [u32; 4],

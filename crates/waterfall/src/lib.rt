@@ -14,7 +14,7 @@ pub const CASE_UNIT_LIMIT: u64 = 4_000;
 pub const D_LIMIT: u64 = 8_000_000_000;
 
 // What a member's rank depends on: D, units won and units expected.
-#[derive(Drop)]
+#[derive(Clone, Copy)]
 struct Performance {
     d: u64,
     won: u64,
@@ -149,7 +149,7 @@ pub fn ranks(d: [u64; 32], won: [u64; 32], expected: [u64; 32], set: u32) -> [u8
 }
 
 // What each layer is charged, and what is uncovered.
-#[derive(Drop)]
+#[derive(Clone, Copy)]
 pub struct Charged {
     pub charges: [u64; 6],
     pub rest: u64,

@@ -5,7 +5,7 @@ ghost use Rattle.machine.specs.Wire.{number, price, right_length, call_of, decod
 ghost use Rattle.wire.specs.Asked.{asked};
 
 // The numbers of HEAD.
-#[derive(Drop)]
+#[derive(Clone, Copy)]
 pub struct Head {
     pub pools: u8,
     pub least: u16,
@@ -42,7 +42,7 @@ impl Head {
 }
 
 // The thirteen calls, SALE and WITHDRAW, and what bytes are that are none of them. Prices are held as cents + 1,000,000.
-#[derive(Drop)]
+#[derive(Clone, Copy)]
 pub enum Call {
     Head(Head),
     Pool {

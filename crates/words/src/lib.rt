@@ -6,7 +6,7 @@ ghost use Rattle.words.specs.Amounts.{difference_of, amount_of};
 ghost use Rattle.words.specs.Columns.{blanks, placed_right};
 
 // An amount of cents with its sign.
-#[derive(Drop)]
+#[derive(Clone, Copy)]
 pub struct Amount {
     pub negative: bool,
     pub cents: u64,
