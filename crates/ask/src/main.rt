@@ -1,5 +1,7 @@
 // The program `ask` (document 02, C-16): a question about the case whose fields stand on standard input. `ask requirement` prints the requirement. Where there is no
 // answer, the reason stands on standard error.
+#![tactic(auto)]
+
 use asking::{Question, Told};
 use libc::STDERR_FILENO;
 

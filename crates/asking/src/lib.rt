@@ -1,6 +1,8 @@
 // A case read from standard input, and a question about it answered in text (document 02, C-16: "The committee watches the requirement"). No contract can say what
 // is read: there are parts, those that were read, and what is held is what the ledger holds after their whole fields. What is told is one equation
 // with the question and what was read.
+#![tactic(auto)]
+
 ghost use Rattle.std.specs.Prelude.{◌≡◌, false, ◌+◌, ◌≤◌, length, take};
 ghost use Rattle.input.specs.Strings.{bytes_of};
 ghost use Rattle.input.specs.Fields.{whole, rest};

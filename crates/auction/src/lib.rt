@@ -1,4 +1,6 @@
 // The auction (document 01, CLOSE): open units are allotted to bids, the highest prices first. A price is held as its cents + 1,000,000.
+#![tactic(auto)]
+
 ghost use Rattle.std.specs.Prelude.{◌≡◌, cond, ◌<◌, ◌≤◌, min, leb, length, get_or};
 ghost use Rattle.lists.specs.Lists.{between, all};
 ghost use Rattle.splitting.specs.Limits.{Answer};

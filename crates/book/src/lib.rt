@@ -1,4 +1,6 @@
 // The book of a case (documents 01 and 02): all but its stage. It says how each call changes it, what is called and what is charged.
+#![tactic(auto)]
+
 ghost use Rattle.std.specs.Prelude.{◌≡◌, ℕ, ◌≤◌, get_or};
 ghost use Rattle.lists.specs.Lists.{sum};
 ghost use Rattle.lists.specs.Adding.{most16};

@@ -1,4 +1,6 @@
 // The case (documents 01 and 02): its stage and its book, and the fifteen calls. "Each call takes the case and hands the case back."
+#![tactic(auto)]
+
 ghost use Rattle.std.specs.Prelude.{◌≡◌, Bool, [], ◌∷◌, ◌<◌, ◌^◌, set};
 ghost use Rattle.std.proofs.Math.Option.{some};
 ghost use Rattle.std.proofs.Math.IntN.{sub_ℕ};

@@ -1,6 +1,8 @@
 // A checked run. Its file stdin holds inputs, each behind its length in four bytes; it prints the text of each and a line `--`. The file stdout is what
 // the independent model prints (tests/target/release/checked): K9, annexure 1 of document 000, the example of document 01 cut off at every byte, and lists
 // that give each number of refusal to each call that can get it.
+#![tactic(auto)]
+
 ghost use Rattle.std.specs.Prelude.{◌+◌, ◌≤◌, ◌<◌, length};
 
 use libc::{STDIN_FILENO, STDOUT_FILENO};

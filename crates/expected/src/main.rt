@@ -1,5 +1,7 @@
 // The program `expected` (document 02, C-11): the expected units of members from their daily positions. `expected members 0,1,2 units 40` reads day records from
 // standard input, and with `--text` lines of positions; it prints a line for each member, with the units that its MEMBER call expects in the pool, and a total.
+#![tactic(auto)]
+
 ghost use Rattle.std.specs.Prelude.{◌≡◌, ◌+◌, ◌%◌, ◌^◌, ◌<◌, ◌≤◌, false, length, take};
 ghost use Rattle.lists.specs.Lists.{sum, Each};
 ghost use Rattle.machine.specs.Printed.{decimal};

@@ -1,4 +1,6 @@
 // The program `explain`: reads the same fields as `ledger` and prints for people what was asked, what was answered and why, and at the end tables.
+#![tactic(auto)]
+
 mod answers;
 mod ranges;
 mod tables;

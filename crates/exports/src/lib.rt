@@ -1,5 +1,7 @@
 // The ledger for C and Rust. A case holds enums, and such a value cannot be handed over, so a caller hands over the calls made so far and is
 // shown what they lead to; include/ledger.h says how each function is called.
+#![tactic(auto)]
+
 ghost use Rattle.std.specs.Prelude.{◌≡◌, ◌++◌, map, min, length, set, drop};
 ghost use Rattle.std.proofs.Math.Option.{none};
 ghost use Rattle.machine.specs.Printed.{fields_in};

@@ -1,5 +1,7 @@
 // The program `fields`: a case as text on standard input, one call a line, to its fields on standard output. With the argument `--text` the other way:
 // fields to lines, and what is no call as a comment.
+#![tactic(auto)]
+
 use libc::STDERR_FILENO;
 
 // What the program is asked for.

@@ -1,4 +1,6 @@
 // A call as its tag and its numbers, and the bytes of a call: what `wire` reads is written here.
+#![tactic(auto)]
+
 ghost use Rattle.std.specs.Prelude.{◌≡◌, ◌+◌, ◌%◌, ◌<◌, ◌≤◌, [], ◌∷◌, length, take};
 ghost use Rattle.wire.specs.Asked.{asked};
 ghost use Rattle.forms.specs.Forms.{kind_of, flat_of, flat_round, flattened};

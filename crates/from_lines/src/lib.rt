@@ -1,5 +1,7 @@
 // Lines of positions, one line a day, read part by part: the sums over the last 66 days are kept as the lines go by, and at the input's end the units are split by
 // them. At the first line that is refused, and where the input cannot be read, the reading stops and no shares are given.
+#![tactic(auto)]
+
 mod messages;
 
 ghost use Rattle.std.specs.Prelude.{◌≡◌, ◌+◌, ◌%◌, ◌^◌, ◌≤◌, false, length, take};

@@ -1,5 +1,7 @@
 // A run of day records, read from standard input part by part. What is kept of a run of any length is a ring of days, their sums, and less than a record of bytes.
 // No contract can say what is read; there are parts, those that were read, and what is given is what document 02 says of the parts joined.
+#![tactic(auto)]
+
 ghost use Rattle.std.specs.Prelude.{◌≤◌, length, take};
 ghost use Rattle.sets.specs.Set.{members};
 ghost use Rattle.feed.specs.Feeds.{Reads};

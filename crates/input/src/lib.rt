@@ -1,4 +1,6 @@
 // An input as the fields of document 01: the fields at its front, whole or cut off by its end, and strings by where they end in a run of bytes.
+#![tactic(auto)]
+
 ghost use Rattle.std.specs.Prelude.{◌≡◌, ◌<◌, min};
 ghost use Rattle.lists.specs.Lists.{if◌then◌else◌};
 ghost use Rattle.input.specs.Strings.{cut_at};

@@ -1,4 +1,6 @@
 // Lines of decimal numbers (document 01: "in decimal throughout"), put into a lent buffer.
+#![tactic(auto)]
+
 ghost use Rattle.std.specs.Prelude.{◌≡◌, ◌∷◌, ◌+◌, ◌≤◌, min, length, take, set};
 ghost use Rattle.std.proofs.lemmas.List.Edits.{sets};
 ghost use Rattle.machine.specs.Printed.{decimal, numbers_text};

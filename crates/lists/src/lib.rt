@@ -1,4 +1,6 @@
 // The words that loops and refusals are written in, as code: a test as a number, the smaller of two, the first number that applies.
+#![tactic(auto)]
+
 ghost use Rattle.std.specs.Prelude.{◌≡◌, ◌&&◌, ◌||◌, cond, ◌+◌, ◌-◌, ◌≤◌, ◌<◌, min};
 ghost use Rattle.lists.specs.Lists.{one_if};
 ghost use Rattle.lists.specs.Adding.{most16, most32, most64, add_at};

@@ -1,4 +1,6 @@
 // A line of text as a call: the notation in which a clerk writes a case.
+#![tactic(auto)]
+
 ghost use Rattle.std.specs.Prelude.{◌≡◌, cond, ◌+◌, ◌-◌, ◌%◌, ◌^◌, ◌≤◌, ◌<◌, min, eqb, set};
 ghost use Rattle.notation.specs.Scans.{begin, with_phase, in_word, named, longer, negative, gathered, stored, refused};
 ghost use Rattle.notation.specs.Reading.{letter_of, grown, key_code, tag_named, limit_of, number_of, strangeness, strange, settle_name, settle_key, settle_number, settle_dash, settle, next_point, more_digits, on_letter, on_digit, on_minus, on_point, on_member, on_list, on_comma, complete, ended, returned, behind, mark_read, byte_read, step, scan, call_of, outcome, read_line};

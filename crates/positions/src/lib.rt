@@ -1,6 +1,8 @@
 // Expected units from daily positions (document 02, C-11): a long run of day records is read, with sums over the last 66 days kept as it goes by; at its end a
 // pool's units are split by the sums. A whole run is one call of `expected`. A run in parts keeps a ring and sums that the caller lends, which begin as zeros:
 // `take_days` for each part, and `end`.
+#![tactic(auto)]
+
 ghost use Rattle.std.specs.Prelude.{◌≡◌, ◌+◌, ◌-◌, ◌*◌, ◌<◌, ◌≤◌, ◌++◌, length, take, set, replicate, slice_index};
 ghost use Rattle.std.proofs.lemmas.List.Edits.{sets};
 ghost use Rattle.lists.specs.Lists.{tab};

@@ -1,4 +1,6 @@
 // Why a call is declined (documents 01 and 02): for each call the first number of 01's list that applies, read off the stage and the book, or 0.
+#![tactic(auto)]
+
 ghost use Rattle.std.specs.Prelude.{◌≡◌, [], ◌∷◌, take};
 ghost use Rattle.lists.specs.Lists.{between, all};
 ghost use Rattle.auction.specs.Price.{price_ok};

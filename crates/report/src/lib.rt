@@ -1,5 +1,7 @@
 // The printed text of a run (document 01): "s: tag, answer .. p, per pool given: pool, open, sold, allocated, moved, torn .. l: loss, six charges, uncovered; m:
 // member, rank, charge on contribution, on payments", in decimal, into a lent buffer.
+#![tactic(auto)]
+
 ghost use Rattle.std.specs.Prelude.{◌≡◌, [], ◌∷◌, map, ◌<◌, get_or};
 ghost use Rattle.lists.specs.Lists.{tab};
 ghost use Rattle.sets.specs.Set.{members};

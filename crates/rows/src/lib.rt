@@ -1,5 +1,7 @@
 // A line of whole numbers between commas, read in one pass: the positions of members on a day, a set of members, a number of units; and the lines of a text
 // as records.
+#![tactic(auto)]
+
 ghost use Rattle.std.specs.Prelude.{◌≡◌, cond, ◌+◌, ◌-◌, ◌*◌, ◌≤◌, min, length, take, set};
 ghost use Rattle.forms.specs.Put.{Put};
 ghost use Rattle.rows.specs.Scans.{begin, with_phase, in_number, stored, refused};

@@ -1,4 +1,6 @@
 // Sets of up to 32 members, as the bits of a u32: bit i is member i. Whether two sets are the same is `==` on the numbers.
+#![tactic(auto)]
+
 ghost use Rattle.std.specs.Prelude.{◌≡◌, length, drop};
 ghost use Rattle.sets.specs.Set.{member, members, with_member, head_or};
 

@@ -1,4 +1,6 @@
 // The text of a call, into a lent buffer.
+#![tactic(auto)]
+
 ghost use Rattle.std.specs.Prelude.{◌≡◌, [], ◌∷◌, ◌+◌, ◌*◌, ◌≤◌, ◌<◌, length, take, get_or};
 ghost use Rattle.sets.specs.Set.{members};
 ghost use Rattle.machine.specs.Printed.{decimal};

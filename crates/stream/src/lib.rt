@@ -2,6 +2,8 @@
 // `report`: the loop reads as much as there is, has every whole field of it taken, writes the s lines at once, and keeps what is left for the next read.
 // No contract can say what is read or written; that the text does not depend on where the reads end is `Streams` in the specs of `report`, and that
 // the loop is that of `Streams` is `TakesTurn` and `FedTo` in the specs here. A read or a write that fails is told on standard error, and nothing more is written.
+#![tactic(auto)]
+
 ghost use Rattle.std.specs.Prelude.{◌*◌, ◌≤◌, length, take};
 ghost use Rattle.stream.specs.Turns.{TakesTurn, FedTo, Last, Ends};
 

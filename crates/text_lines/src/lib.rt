@@ -1,4 +1,6 @@
 // A text as its lines.
+#![tactic(auto)]
+
 ghost use Rattle.std.specs.Prelude.{◌≡◌};
 ghost use Rattle.lines.specs.Placed.{Placed, placed};
 ghost use Rattle.text_lines.specs.Lines.{length_to, line_size, start_of, line_at};

@@ -1,4 +1,6 @@
 // A call timed by itself: the calls before it are taken once, and then it is taken again and again from the case that they lead to (bench/src/bin/calls.rs).
+#![tactic(auto)]
+
 ghost use Rattle.std.specs.Prelude.{◌≡◌, map, set};
 ghost use Rattle.case.specs.Cases.{no_held};
 ghost use Rattle.case.specs.Input.{ledger_after};

@@ -1,6 +1,8 @@
 // Text as fields, line by line. `take_some` has the whole contract of what is written; the loop reads as much as there is, has every line of it written, and keeps
 // what is left for the next read. At the first line that is refused, and where the input cannot be read, the reading stops, and the fields end in one that
 // is cut off, so that nobody takes them for the whole case.
+#![tactic(auto)]
+
 mod messages;
 
 ghost use Rattle.std.specs.Prelude.{◌≡◌, ◌+◌, ◌%◌, ◌^◌, ◌≤◌, true, false, length, take};

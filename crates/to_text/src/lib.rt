@@ -1,5 +1,7 @@
 // Fields as lines of text: a call as its line in the notation, and what is no call as a comment. `take_some` has the whole contract of what is written; the loop reads
 // as much as there is, has every whole field of it written, and keeps what is left for the next read.
+#![tactic(auto)]
+
 ghost use Rattle.std.specs.Prelude.{◌≡◌, true, false, ◌++◌, ◌+◌, ◌*◌, ◌≤◌, ◌<◌, length, take};
 ghost use Rattle.input.specs.Fields.{front_size, rest};
 ghost use Rattle.forms.specs.Put.{Put};

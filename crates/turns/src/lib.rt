@@ -1,5 +1,7 @@
 // The turns of MOVE: units pass by groups, those of one place at once. The units that may move are counted at 384 places behind the first four; each place has a
 // key, and the least key has its turn first.
+#![tactic(auto)]
+
 ghost use Rattle.std.specs.Prelude.{◌≡◌, ◌/◌, ◌<◌, min};
 ghost use Rattle.turns.specs.Keys.{allocated_key, sold_key, key_at, live_key, live_keys, least_key, key_place, key_price, needed};
 

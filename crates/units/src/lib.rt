@@ -1,5 +1,7 @@
 // The units of a case (documents 01 and 02), counted at 780 places, each for units that are alike: the open units of a pool, those allocated or moved to a member in a
 // pool, those sold to a bid, those torn up, by where they came from, and those sold by agreement. A unit changes by passing from one place to another.
+#![tactic(auto)]
+
 ghost use Rattle.std.specs.Prelude.{◌≡◌, cond, ◌+◌, ◌-◌, ◌*◌, ◌<◌, ◌≤◌, min, get_or};
 ghost use Rattle.auction.specs.Price.{zero_price};
 ghost use Rattle.units.specs.Steps.{no_units, transferred, repriced, with_counts, put_up_units, sell_units, allocate_units, noted_at, tear_units, miss_units, sale_units};

@@ -1,4 +1,6 @@
 // Seniority, ranks, and a loss charged in turn (document 01, "Rank and layers"). Every public function takes any numbers.
+#![tactic(auto)]
+
 ghost use Rattle.std.specs.Prelude.{◌≡◌, false, ◌<◌, ◌≤◌, max, min, leb, eqb};
 ghost use Rattle.lists.specs.Lists.{if◌then◌else◌};
 ghost use Rattle.sets.specs.Set.{with_member, of_members};

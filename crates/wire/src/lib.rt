@@ -1,4 +1,6 @@
 // The calls of document 01, and SALE and WITHDRAW of document 02, as values, and how a call is read from any bytes.
+#![tactic(auto)]
+
 ghost use Rattle.std.specs.Prelude.{◌≡◌, ◌+◌, ◌<◌, ◌≤◌, true, length};
 ghost use Rattle.std.proofs.Math.Option.{some};
 ghost use Rattle.machine.specs.Wire.{number, price, right_length, call_of, decode};

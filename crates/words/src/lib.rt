@@ -1,4 +1,6 @@
 // Text for people in a lent buffer: words, whole numbers, amounts with their sign, and columns. Every function that puts something gives the place behind it.
+#![tactic(auto)]
+
 ghost use Rattle.std.specs.Prelude.{◌≡◌, ◌-◌, min};
 ghost use Rattle.lines.specs.Placed.{Placed, placed};
 ghost use Rattle.machine.specs.Printed.{decimal};

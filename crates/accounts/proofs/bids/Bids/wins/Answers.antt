@@ -1,0 +1,8 @@
+-- `accounts::bids::Bids::wins` meets its contract. Assumes nothing.
+use Rattle.accounts.proofs.Winning.{wins-left}
+use Rattle.accounts.proofs.bids.Bids.wins.Goals as goal
+
+pub returns : goal.returns
+returns c = let a = c.args in
+    wins-left a.self a.round a.pool a.open-units a.reserve _ c.allot.result _
+    c.units_in-units.ensures c.allot.ensures

@@ -1,0 +1,31 @@
+-- `auction::units_from` meets its contract. The invariant: the units counted so far, at most 1000 for each place. Assumes nothing.
+use mathlib.Core.Path.{◌≡◌}
+use Prim.Native.Nat.{◌-◌}
+use native.Mathlib.Omega.{arith}
+use lib.ListN.{length}
+use Rattle.lists.proofs.Sums.{sum_to-none, sum_to-next}
+use Rattle.auction.specs.Edge.{counted_at, from}
+use Rattle.auction.proofs.Levels.{counted-le}
+use Rattle.auction.proofs.units_from.Goals as goal
+
+pub loop-i-init : goal.loop-i-init
+loop-i-init c =
+    let a = c.args in
+    omega (arith, sum_to-none (counted_at a.units.now a.prices.now a.t))
+
+pub overflow_add-sum : goal.overflow_add-sum
+overflow_add-sum c =
+    let i = c.loop-i.i in
+    omega (arith, counted-le c.args.units.now c.args.prices.now c.args.t i, c.requires.units i)
+
+pub loop-i-preserved : goal.loop-i-preserved
+loop-i-preserved c =
+    let i = c.loop-i.i in
+    let f = counted_at c.args.units.now c.args.prices.now c.args.t in
+    omega (arith, counted-le c.args.units.now c.args.prices.now c.args.t i, c.requires.units i, sum_to-next i f)
+
+pub returns : goal.returns
+unfolding from
+returns c =
+    let all : c.loop-i.i ≡ length c.args.units.now = omega arith in
+    cc

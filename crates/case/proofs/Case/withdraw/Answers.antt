@@ -1,0 +1,15 @@
+-- `case::Case::withdraw` meets its contract. Assumes nothing.
+use mathlib.Core.Path.{ap}
+use mathlib.Core.Option.{some}
+use Rattle.machine.specs.Wire.{WITHDRAW}
+use Rattle.case.specs.Cases.{case_of, case_answer_to, case_answer, after_asked, case_after}
+use Rattle.case.proofs.Outcomes.{declined, accepted}
+use Rattle.case.proofs.Case.withdraw.Goals as goal
+
+pub returns-then-answer-ne0 : goal.returns-then-answer-ne0
+unfolding case_answer_to case_answer
+returns-then-answer-ne0 c = declined c.args.self (some (WITHDRAW c.args.m c.args.n)) _ c.withdraw_answer-answer.ensures c.if-answer-ne0.true _ c.declined.ensures
+
+pub returns : goal.returns
+unfolding case_answer_to case_answer after_asked case_after
+returns c = accepted c.args.self (some (WITHDRAW c.args.m c.args.n)) _ c.withdraw_answer-answer.ensures c.if-answer-ne0.false _ (ap (case_of c.args.self.stage) c.take_withdraw.ensures) _ c.accepted.ensures

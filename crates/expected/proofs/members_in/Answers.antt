@@ -1,0 +1,16 @@
+-- `expected::members_in` meets its contract. Assumes nothing.
+use Rattle.std.proofs.Common.{◌∙◌, eq-eqb, ne_eqb}
+use Rattle.expected.specs.Words.{members_in}
+use Rattle.expected.proofs.Texts.{members-within}
+use Rattle.expected.proofs.members_in.Goals as goal
+
+pub returns-then-row-eq0 : goal.returns-then-row-eq0
+unfolding members_in
+returns-then-row-eq0 c = c.nothing.ensures ∙ rw (← c.read_row-row.ensures, eq-eqb _ 0 c.if-row-eq0.true)
+
+pub set_of-requires : goal.set_of-requires
+set_of-requires c = members-within c.args.word.now _ c.read_row-row.ensures
+
+pub returns : goal.returns
+unfolding members_in
+returns c = rw (← c.read_row-row.ensures, ne_eqb _ 0 c.if-row-eq0.false, c.set_of.ensures)

@@ -1,0 +1,32 @@
+-- `expected::put_members` meets its contract. The invariant: the lines of the places passed are written. Assumes nothing.
+use Rattle.std.proofs.Common.{◌≡◌, ◌+◌, ◌-◌, ◌*◌, refl, ◌∙◌, arith, rules}
+use Rattle.lists.specs.Lists.{tab, joined}
+use Rattle.forms.proofs.Puts.{put-none, put_as}
+use Rattle.expected.specs.Shares.{members_text}
+use Rattle.expected.proofs.Texts.{lines-turn}
+use Rattle.expected.proofs.put_members.Goals as goal
+
+pub loop-m-init : goal.loop-m-init
+unfolding tab joined
+loop-m-init c = (search rules, refl, put_as 0 (omega arith) refl (put-none _ 0))
+
+pub put_place-to-requires : goal.put_place-to-requires
+put_place-to-requires c =
+    let at = c.loop-m in
+    omega (arith, at.invariant.2.behind, at.invariant.2.short, at.invariant.1)
+
+pub loop-m-preserved : goal.loop-m-preserved
+loop-m-preserved c =
+    let a = c.args in
+    let at = c.loop-m in
+    (search rules, c.put_place-to.auto.0 ∙ at.invariant.1, put_as ((at.m + 1) * 88) (omega arith) refl (lines-turn a.set a.t3 _ at.out _ at.m at.to _ (at.m * 88) at.invariant.2 c.put_place-to.ensures))
+
+pub shape_of-out : goal.shape_of-out
+shape_of-out c = c.loop-m.invariant.1
+
+pub returns : goal.returns
+unfolding members_text
+returns c =
+    let at = c.loop-m in
+    let all : at.m ≡ 32 = omega arith in
+    put_as 2816 (omega arith) (rw all) at.invariant.2

@@ -1,0 +1,10 @@
+-- `explain::texts::put_members` meets its contract: it ends. Assumes nothing.
+use Rattle.std.proofs.Common.{◌≡◌, ◌^◌, ◌<◌, length}
+use Rattle.sets.specs.Set.{members}
+use Rattle.explain.proofs.texts.put_members.Given as goal
+
+abbrev pub invariant-loop-left : goal.invariant-loop-left
+invariant-loop-left l = (l.left < 2 ^ 32) × (length l.out ≡ length l.initial.out)
+
+abbrev pub decreases-loop-left : goal.decreases-loop-left
+decreases-loop-left l = length (members l.left)

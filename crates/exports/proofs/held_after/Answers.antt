@@ -1,0 +1,5 @@
+-- `exports::held_after` meets its contract. Assumes nothing.
+use Rattle.exports.proofs.held_after.Goals as goal
+
+pub returns : goal.returns
+returns c = (rw c.none.ensures at c.replay.ensures).held

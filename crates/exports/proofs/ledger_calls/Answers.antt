@@ -1,0 +1,13 @@
+-- `exports::ledger_calls` meets its contract. Assumes nothing.
+use Prim.Native.Nat.{ℕ, ◌<◌}
+use native.Mathlib.Omega.{arith}
+use Rattle.lists.proofs.Each.{each_of}
+use Rattle.exports.proofs.Machine.{called}
+use Rattle.exports.proofs.ledger_calls.Goals as goal
+
+pub returns : goal.returns
+returns c =
+    let a = c.args in
+    called a.bytes.now a.ends.now
+    (each_of (λ (b : ℕ). b < 256) a.bytes.now 0 (λ i h. omega (arith, c.shared_slice_known-1.given i)))
+    _ _ _ (rw c.none.ensures at c.replay-held.ensures) _ c.show.ensures

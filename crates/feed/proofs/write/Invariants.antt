@@ -1,0 +1,10 @@
+-- `feed::write` meets its contract. Assumes nothing.
+use Prim.Native.Nat.{◌≤◌}
+use lib.ListN.{length}
+use Rattle.feed.proofs.write.Given as goal
+
+abbrev pub invariant-loop-done : goal.invariant-loop-done
+invariant-loop-done l = l.done ≤ length l.text
+
+abbrev pub decreases-loop-done : goal.decreases-loop-done
+decreases-loop-done l = l.turns

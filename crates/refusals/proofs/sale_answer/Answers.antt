@@ -1,0 +1,22 @@
+-- `refusals::sale_answer` meets its contract. The tests stand in the order of their numbers. Assumes nothing.
+use Rattle.lists.specs.Tests.{first_of}
+use Rattle.refusals.specs.Answers.{sale_answer}
+use Rattle.refusals.proofs.sale_answer.Goals as goal
+
+pub returns : goal.returns
+unfolding sale_answer first_of
+returns c = simp (
+  c.decline_if.ensures,
+  c.decline_if-a3.ensures,
+  c.decline_if-a4.ensures,
+  c.decline_if-a5.ensures,
+  c.decline_if-a8.ensures,
+  c.decline_if-a10.ensures,
+  c.either.ensures,
+  c.decline_if-a17.ensures,
+  c.price_ok-ok.ensures,
+  c.too_dear-dear.ensures,
+  c.open_units-open.ensures,
+  c.has-in_set.ensures,
+  c.letter-letter.ensures,
+)

@@ -1,0 +1,8 @@
+-- `rows::with_number` meets its contract. Assumes nothing.
+use mathlib.Core.Path.{sym}
+use lib.Seq.{set_out}
+use borrow.Author.Rules.{rules}
+use Rattle.rows.proofs.with_number.Goals as goal
+
+pub returns-then-i-ge32 : goal.returns-then-i-ge32
+returns-then-i-ge32 c = sym (set_out _ _ _ (search rules))

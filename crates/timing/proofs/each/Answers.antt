@@ -1,0 +1,54 @@
+-- `timing::each` meets its contract. The invariant is `Going`; its laws begin, keep and end it. Assumes nothing.
+use mathlib.Core.Path.{refl, sym, ◌∙◌}
+use Prim.Native.Nat.{◌-◌, ◌≤◌}
+use native.Mathlib.Omega.{arith}
+use lib.ListN.{length, get_or}
+use Rattle.input.proofs.Strings.{cut-from, cut-to}
+use Rattle.timing.proofs.Turns.{declined, accepted, starts, goes, all_told}
+use borrow.Author.Rules.{rules}
+use Rattle.timing.proofs.each.Goals as goal
+
+pub loop-k-init : goal.loop-k-init
+loop-k-init c = starts _ _ _ _ _
+
+pub slice_bounds-read_call-count : goal.slice_bounds-read_call-count
+slice_bounds-read_call-count c =
+    let a = c.args in
+    let l = c.loop-k in
+    omega (arith, cut-from l.at (length a.bytes.now) (get_or a.ends.now l.k 0) l.invariant.place, c.cut_at-end.ensures)
+
+pub slice_bounds-read_call-start : goal.slice_bounds-read_call-start
+slice_bounds-read_call-start c =
+    let a = c.args in
+    let l = c.loop-k in
+    let w : l.at ≤ c.cut_at-end.result = omega (arith, cut-from l.at (length a.bytes.now) (get_or a.ends.now l.k 0) l.invariant.place, c.cut_at-end.ensures) in
+    search (rules, w)
+
+pub slice_bounds-read_call-end : goal.slice_bounds-read_call-end
+slice_bounds-read_call-end c =
+    let a = c.args in
+    let l = c.loop-k in
+    let w : c.cut_at-end.result ≤ length a.bytes.now = omega (arith, cut-to l.at (length a.bytes.now) (get_or a.ends.now l.k 0) l.invariant.place, c.cut_at-end.ensures) in
+    search (rules, w)
+
+pub overflow_add-k : goal.overflow_add-k
+overflow_add-k c = omega (arith, c.loop-k.invariant.turns)
+
+pub loop-k-preserved-then-answer-eq0 : goal.loop-k-preserved-then-answer-eq0
+loop-k-preserved-then-answer-eq0 c =
+    let l = c.loop-k in
+    goes _ _ _ _ _ _ _ _ _ l.invariant c.loop-k-test.true _ c.cut_at-end.ensures _
+    (accepted _ _ _ l.invariant.same _ _ _ c.answer_to-answer.ensures c.read_call-call.ensures _ c.if-answer-eq0.true _
+    (c.after-case.ensures _ (sym c.answer_to-answer.ensures ∙ c.if-answer-eq0.true)) c.reading.ensures) _ c.put.ensures _ refl
+
+pub loop-k-preserved : goal.loop-k-preserved
+loop-k-preserved c =
+    let l = c.loop-k in
+    goes _ _ _ _ _ _ _ _ _ l.invariant c.loop-k-test.true _ c.cut_at-end.ensures _
+    (declined _ _ _ l.invariant.same _ _ _ c.answer_to-answer.ensures c.read_call-call.ensures _ c.if-answer-eq0.false c.wide.ensures) _ c.put-else-answer-eq0.ensures _ l.invariant.same
+
+pub shape_of-numbers : goal.shape_of-numbers
+shape_of-numbers c = c.loop-k.invariant.size
+
+pub returns : goal.returns
+returns c = all_told _ _ _ _ _ _ _ _ _ c.loop-k.invariant c.loop-k-test.false

@@ -1,0 +1,6 @@
+-- `timing::ledger_each` meets its contract. Assumes nothing.
+use Rattle.timing.proofs.ledger_each.Goals as goal
+
+pub returns : goal.returns
+returns c =
+    rw (← c.none.ensures, ← c.replay-held.ensures.held) c.each.ensures

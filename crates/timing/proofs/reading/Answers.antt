@@ -1,0 +1,12 @@
+-- `timing::reading` meets its contract. Assumes nothing.
+use mathlib.Core.Path.{◌∙◌}
+use Rattle.timing.specs.Numbers.{reading_of}
+use Rattle.timing.proofs.reading.Goals as goal
+
+pub returns-then-res : goal.returns-then-res
+unfolding reading_of
+returns-then-res c = rw (c.if-res.taken, ← c.result-given.ensures) c.smaller.ensures
+
+pub returns : goal.returns
+unfolding reading_of
+returns c = rw c.if-res.left (c.wide16.ensures.0 ∙ c.open_units.ensures)

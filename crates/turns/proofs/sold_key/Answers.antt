@@ -1,0 +1,13 @@
+-- `turns::sold_key` meets its contract. Assumes nothing.
+use native.Mathlib.Omega.{arith}
+use borrow.Author.Tests.{lt-ltb, le-ltb}
+use Rattle.turns.specs.Keys.{sold_key}
+use Rattle.turns.proofs.sold_key.Goals as goal
+
+pub returns-then-price-lt1000000 : goal.returns-then-price-lt1000000
+unfolding sold_key
+returns-then-price-lt1000000 c = rw (lt-ltb c.args.price 1000000 (omega arith))
+
+pub returns-else-price-lt1000000 : goal.returns-else-price-lt1000000
+unfolding sold_key
+returns-else-price-lt1000000 c = rw (le-ltb c.args.price 1000000 (omega arith))

@@ -1,0 +1,12 @@
+-- `waterfall::held_from` meets its contract. The invariant and its laws are those of a sum over members (`Rattle.sets.proofs.Adding`), and no
+-- sum passes 32 times the limit of a holding. The measure is the number of members left. Assumes nothing.
+use lib.ListN.{length}
+use Rattle.sets.specs.Set.{members}
+use Rattle.sets.proofs.Adding.{Adding}
+use Rattle.waterfall.proofs.held_from.Given as goal
+
+abbrev pub invariant-loop-left : goal.invariant-loop-left
+invariant-loop-left l = Adding (adds l.ranks l.holds l.r) l.set l.total l.left
+
+abbrev pub decreases-loop-left : goal.decreases-loop-left
+decreases-loop-left l = length (members l.left)
