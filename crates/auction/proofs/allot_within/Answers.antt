@@ -8,4 +8,4 @@ slice_bounds-allot_with-end c = sym (length-take-le _ _ c.requires.ready.bids.fe
 
 pub allot_with-requires : goal.allot_with-requires
 allot_with-requires c =
-    (c.requires.ready, (length-take-le _ _ c.requires.ready.bids.few, c.requires.won_len))
+    record { ready = c.requires.ready; weights_len = (length-take-le _ _ c.requires.ready.bids.few, c.requires.won_len) }

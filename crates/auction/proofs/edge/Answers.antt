@@ -7,7 +7,7 @@ use Rattle.auction.proofs.edge.Goals as goal
 
 pub loop-low-init : goal.loop-low-init
 loop-low-init c =
-(
+    (
       omega arith,
       omega arith,
       omega arith,

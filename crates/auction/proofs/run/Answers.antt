@@ -10,7 +10,7 @@ pub allot_within-requires : goal.allot_within-requires
 allot_within-requires c =
     let a = c.args in
     let w = refusal-within a.least a.places a.open-units a.reserve a.units.now a.prices.now (length a.counts.now) (omega arith) in
-    (within-ready _ _ _ _ _ _ _ c.requires w, w.counted)
+    record { ready = within-ready _ _ _ _ _ _ _ c.requires w; won_len = w.counted }
 
 pub returns-then-why-eq0 : goal.returns-then-why-eq0
 unfolding allot_into

@@ -6,11 +6,8 @@ use native.Mathlib.Numerals.{add-one}
 use Prim.Native.Nat.{ℕ, suc, ◌+◌, ◌-◌, ◌≤◌, ◌<◌}
 use lib.ListN.{length, take, drop, set, get_or, length-set, length-drop}
 use lib.Seq.{length-take-le, take-suc, drop-cons, append_snoc, set_at, drop_at, get_or-drop}
+use Rattle.feed.proofs.slide.Invariants.{moved}
 use Rattle.feed.proofs.slide.Goals as goal
-
--- the first i bytes of a part at the front
-abbrev moved : List ℕ → List ℕ → ℕ → List ℕ
-moved old part i = take i part ++ drop i old
 
 -- what stands behind the bytes that are moved is not yet overwritten
 unread : (old part : List ℕ) (i k : ℕ) → i ≤ k → i ≤ length part → get_or (moved old part i) k 0 ≡ get_or old k 0

@@ -3,4 +3,4 @@ use Rattle.std.proofs.Common.{set, refl, ap}
 use Rattle.positions.proofs.roll.Goals as goal
 
 pub returns : goal.returns
-returns c = (refl, ap (set c.args.sums.now c.args.m) c.rolled.ensures)
+returns c = record { ring_after = refl; sums_after = ap (set c.args.sums.now c.args.m) c.rolled.ensures }

@@ -16,7 +16,4 @@ slice_bounds-split-end-2 c =
 
 pub returns : goal.returns
 returns c =
-    let a = c.args in (
-      split-answer a.units a.n _ _ _ (omega arith) c.split-answer.ensures,
-      split-shares a.units a.n _ _ _ (omega arith) c.split-answer.ensures,
-    )
+    let a = c.args in record { answer_value = split-answer a.units a.n _ _ _ (omega arith) c.split-answer.ensures; shares_value = split-shares a.units a.n _ _ _ (omega arith) c.split-answer.ensures }

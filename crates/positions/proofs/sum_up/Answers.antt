@@ -7,4 +7,4 @@ pub returns : goal.returns
 unfolding no_days
 returns c =
     let run = sym c.take_records-part.ensures in
-    (ap (λ (t : Taken). t.kept.sums) run, (ap (λ (t : Taken). t.used) run, ap (λ (t : Taken). t.answer) run))
+    record { bytes_value = ap (λ (t : Taken). t.kept.sums) run; bytes_value_2 = ap (λ (t : Taken). t.used) run; bytes_value_3 = ap (λ (t : Taken). t.answer) run }

@@ -22,4 +22,4 @@ unfolding day_at
 returns c =
     let at = c.loop-m in
     let all : at.m ≡ c.args.n = omega arith in
-    (rw all at at.invariant.1, rw all at at.invariant.2)
+    record { ring_after = rw all at at.invariant.1; sums_after = rw all at at.invariant.2 }

@@ -1,26 +1,19 @@
 -- `waterfall::charge_by_rank` meets its contract. The loop is that of `Writes` (sets): what is written so far, with the members still left
 -- written too, is the whole. The measure is the number of members left. Assumes nothing.
 use mathlib.Core.Path.{◌∙◌}
-use mathlib.Core.List.{List}
-use Prim.Native.Nat.{ℕ}
 use native.Mathlib.Omega.{arith}
 use Rattle.sets.proofs.Bits.{members-none}
 use Rattle.sets.proofs.Members.{Taken, taken}
 use Rattle.sets.proofs.Writes.{written}
-use Rattle.waterfall.specs.Charging.{charged_by_rank}
-use Rattle.waterfall.specs.Limits.{rank_at, held_at, charges_of}
+use Rattle.waterfall.specs.Limits.{charges_of}
 use Rattle.waterfall.proofs.Steps.{charges-of-members}
 use Rattle.waterfall.proofs.charge_by_rank.Goals as goal
 use Rattle.waterfall.proofs.charge_by_rank.Goals.{After-without_least-left}
 
--- what each member is charged
-abbrev charge : ℕ → List ℕ → List ℕ → ℕ → ℕ → ℕ
-charge set ranks holds whole = charged_by_rank set (rank_at ranks) (held_at holds) whole
-
 -- the next member, known and taken off
 next-taken : (c : After-without_least-left) → Taken c.loop-left.left c.next-m.result c.without_least-left.result
 next-taken c =
-        taken c.loop-left.left _ _ c.loop-left-test.true c.loop-left.invariant.0 c.next-m.ensures
+    taken c.loop-left.left _ _ c.loop-left-test.true c.loop-left.invariant.0 c.next-m.ensures
     c.without_least-left.ensures
 
 -- the place at which a turn's member was taken off

@@ -12,12 +12,9 @@ use Rattle.sets.proofs.Adding.{start, turn, at_most, end, sum-members-le}
 use Rattle.splitting.specs.Limits.{weight_limit}
 use Rattle.waterfall.specs.Limits.{rank_at, held_at}
 use Rattle.waterfall.proofs.ByRank.{held-adds}
+use Rattle.waterfall.proofs.held_from.Invariants.{adds}
 use Rattle.waterfall.proofs.held_from.Goals as goal
 use Rattle.waterfall.proofs.held_from.Goals.{After-holding_if-total, After-without_least-left}
-
--- what each member adds
-abbrev adds : List ℕ → List ℕ → ℕ → ℕ → ℕ
-adds ranks holds r m = if leb r (rank_at ranks m) then held_at holds m else 0
 
 adds-le : (ranks holds : List ℕ) (r m : ℕ) → adds ranks holds r m ≤ weight_limit
 adds-le ranks holds r m = either (λ x. x ≤ weight_limit) (leb r (rank_at ranks m)) {x = held_at holds m} {y = 0} (omega arith) (omega arith)
@@ -25,7 +22,7 @@ adds-le ranks holds r m = either (λ x. x ≤ weight_limit) (leb r (rank_at rank
 -- the next member, known and taken off
 next-taken : (c : After-without_least-left) → Taken c.loop-left.left c.next-m.result c.without_least-left.result
 next-taken c =
-        taken c.loop-left.left _ _ c.loop-left-test.true c.loop-left.invariant.left-fits c.next-m.ensures
+    taken c.loop-left.left _ _ c.loop-left-test.true c.loop-left.invariant.left-fits c.next-m.ensures
     c.without_least-left.ensures
 
 -- the place at which a turn's member was taken off

@@ -1,25 +1,16 @@
 -- `waterfall::of_rank` meets its contract. The loop is that of `Writes` (sets): what is written so far, with the members still left
 -- written too, is the whole. The measure is the number of members left. Assumes nothing.
-use mathlib.Core.List.{List}
-use Prim.Native.Nat.{ℕ}
 use native.Mathlib.Omega.{arith}
-use lib.Dec.{eqb}
-use Rattle.lists.specs.Lists.{if◌then◌else◌}
 use Rattle.sets.proofs.Bits.{members-none}
 use Rattle.sets.proofs.Members.{Taken, taken}
 use Rattle.sets.proofs.Writes.{written}
-use Rattle.waterfall.specs.Limits.{rank_at, held_at}
 use Rattle.waterfall.proofs.of_rank.Goals as goal
 use Rattle.waterfall.proofs.of_rank.Goals.{After-without_least-left}
-
--- what stands at each member
-abbrev weight : List ℕ → List ℕ → ℕ → ℕ → ℕ
-weight ranks holds r m = if eqb r (rank_at ranks m) then held_at holds m else 0
 
 -- the next member, known and taken off
 next-taken : (c : After-without_least-left) → Taken c.loop-left.left c.next-m.result c.without_least-left.result
 next-taken c =
-        taken c.loop-left.left _ _ c.loop-left-test.true c.loop-left.invariant.0 c.next-m.ensures
+    taken c.loop-left.left _ _ c.loop-left-test.true c.loop-left.invariant.0 c.next-m.ensures
     c.without_least-left.ensures
 
 -- the place at which a turn's member was taken off

@@ -13,7 +13,7 @@ use Rattle.waterfall.proofs.rank_of.Goals.{After-without_least-left}
 -- the next member, known and taken off
 next-taken : (c : After-without_least-left) → Taken c.loop-left.left c.next-o.result c.without_least-left.result
 next-taken c =
-        taken c.loop-left.left _ _ c.loop-left-test.true c.loop-left.invariant.left-fits c.next-o.ensures
+    taken c.loop-left.left _ _ c.loop-left-test.true c.loop-left.invariant.left-fits c.next-o.ensures
     c.without_least-left.ensures
 
 pub performance_at-mine-requires : goal.performance_at-mine-requires

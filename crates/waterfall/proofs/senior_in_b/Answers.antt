@@ -20,22 +20,22 @@ q-le : (c : After-divisor_of-q) → c.divisor_of-q.result ≤ case_unit_limit
 q-le c = divisor-le (b-within c) c.divisor_of-q.ensures
 
 pub overflow_mul-q : goal.overflow_mul-q
-overflow_mul-q c =units-times (q-le (goal.at.overflow_mul-q c).After-divisor_of-q) (deficit-le (b-within (goal.at.overflow_mul-q c).After-divisor_of-q))
+overflow_mul-q c = units-times (q-le (goal.at.overflow_mul-q c).After-divisor_of-q) (deficit-le (b-within (goal.at.overflow_mul-q c).After-divisor_of-q))
 
 pub overflow_mul-a : goal.overflow_mul-a
-overflow_mul-a c =d-times-units (a-within (goal.at.overflow_mul-a c).After-divisor_of-q).D-le (q-le (goal.at.overflow_mul-a c).After-divisor_of-q) (deficit-le (b-within (goal.at.overflow_mul-a c).After-divisor_of-q))
+overflow_mul-a c = d-times-units (a-within (goal.at.overflow_mul-a c).After-divisor_of-q).D-le (q-le (goal.at.overflow_mul-a c).After-divisor_of-q) (deficit-le (b-within (goal.at.overflow_mul-a c).After-divisor_of-q))
 
 pub overflow_mul-p : goal.overflow_mul-p
-overflow_mul-p c =units-times (p-le (goal.at.overflow_mul-p c).After-divisor_of-q) (deficit-le (a-within (goal.at.overflow_mul-p c).After-divisor_of-q))
+overflow_mul-p c = units-times (p-le (goal.at.overflow_mul-p c).After-divisor_of-q) (deficit-le (a-within (goal.at.overflow_mul-p c).After-divisor_of-q))
 
 pub overflow_mul-b : goal.overflow_mul-b
-overflow_mul-b c =d-times-units (b-within (goal.at.overflow_mul-b c).After-divisor_of-q).D-le (p-le (goal.at.overflow_mul-b c).After-divisor_of-q) (deficit-le (a-within (goal.at.overflow_mul-b c).After-divisor_of-q))
+overflow_mul-b c = d-times-units (b-within (goal.at.overflow_mul-b c).After-divisor_of-q).D-le (p-le (goal.at.overflow_mul-b c).After-divisor_of-q) (deficit-le (a-within (goal.at.overflow_mul-b c).After-divisor_of-q))
 
 pub overflow_mul-a-2 : goal.overflow_mul-a-2
-overflow_mul-a-2 c =d-times (a-within (goal.at.overflow_mul-a-2 c).After-divisor_of-q).D-le (q-le (goal.at.overflow_mul-a-2 c).After-divisor_of-q)
+overflow_mul-a-2 c = d-times (a-within (goal.at.overflow_mul-a-2 c).After-divisor_of-q).D-le (q-le (goal.at.overflow_mul-a-2 c).After-divisor_of-q)
 
 pub overflow_mul-b-2 : goal.overflow_mul-b-2
-overflow_mul-b-2 c =d-times (b-within (goal.at.overflow_mul-b-2 c).After-divisor_of-q).D-le (p-le (goal.at.overflow_mul-b-2 c).After-divisor_of-q)
+overflow_mul-b-2 c = d-times (b-within (goal.at.overflow_mul-b-2 c).After-divisor_of-q).D-le (p-le (goal.at.overflow_mul-b-2 c).After-divisor_of-q)
 
 pub returns : goal.returns
 unfolding first_higher

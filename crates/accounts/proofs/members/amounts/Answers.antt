@@ -9,7 +9,7 @@ use Rattle.accounts.proofs.members.amounts.Goals.{After-without_least-left}
 -- the next member, known and taken off
 next-taken : (c : After-without_least-left) → Taken c.loop-left.left c.next-m.result c.without_least-left.result
 next-taken c =
-        taken c.loop-left.left _ _ c.loop-left-test.true c.loop-left.invariant.0.left-fits c.next-m.ensures
+    taken c.loop-left.left _ _ c.loop-left-test.true c.loop-left.invariant.0.left-fits c.next-m.ensures
     c.without_least-left.ensures
 
 pub loop-left-init : goal.loop-left-init
@@ -31,7 +31,7 @@ pub loop-left-smaller : goal.loop-left-smaller
 loop-left-smaller c = (next-taken (goal.at.loop-left-smaller c).After-without_least-left).shorter
 
 pub loop-left-preserved : goal.loop-left-preserved
-loop-left-preserved c =(
+loop-left-preserved c = (
   rw c.wide32-total.ensures.0 (turn _ _ _ _ _ _ c.loop-left.invariant.0 (next-taken (goal.at.loop-left-preserved c).After-without_least-left) (omega (arith, c))),
   omega (arith, (next-taken (goal.at.loop-left-preserved c).After-without_least-left).shorter),
 )

@@ -19,7 +19,7 @@ use Rattle.accounts.proofs.members.shortfalls.Goals.{After-without_least-left}
 -- the next member, known and taken off
 next-taken : (c : After-without_least-left) → Taken c.loop-left.left c.next-m.result c.without_least-left.result
 next-taken c =
-        taken c.loop-left.left _ _ c.loop-left-test.true c.loop-left.invariant.0 c.next-m.ensures
+    taken c.loop-left.left _ _ c.loop-left-test.true c.loop-left.invariant.0 c.next-m.ensures
     c.without_least-left.ensures
 
 pub returns-then-pool-ge4 : goal.returns-then-pool-ge4
@@ -70,7 +70,7 @@ loop-left-smaller c = (next-taken (goal.at.loop-left-smaller c).After-without_le
 
 pub loop-left-preserved : goal.loop-left-preserved
 unfolding shortfall_at
-loop-left-preserved c =(
+loop-left-preserved c = (
   omega (arith, c),
   rw c.shortfall.ensures.0 (rw (next-taken (goal.at.loop-left-preserved c).After-without_least-left).cons at c.loop-left.invariant.1),
   λ i. set_cases (λ (x : ℕ). x ≤ most16) c.loop-left.out _ c.shortfall.result 0 i (λ e. c.shortfall.ensures.1) (c.loop-left.invariant.2 i),

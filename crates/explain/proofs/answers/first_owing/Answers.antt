@@ -7,7 +7,7 @@ use Rattle.explain.proofs.answers.first_owing.Goals.{After-without_least-left}
 -- the next member, known and taken off
 next-taken : (c : After-without_least-left) → Taken c.loop-left.left c.next-m.result c.without_least-left.result
 next-taken c =
-        taken c.loop-left.left _ _ c.loop-left-test.true c.loop-left.invariant c.next-m.ensures c.without_least-left.ensures
+    taken c.loop-left.left _ _ c.loop-left-test.true c.loop-left.invariant c.next-m.ensures c.without_least-left.ensures
 
 pub overflow_cast-m : goal.overflow_cast-m
 overflow_cast-m c = omega (arith, (next-taken (goal.at.overflow_cast-m c).After-without_least-left).below)
