@@ -7,7 +7,7 @@ use Rattle.auction.proofs.allot_with.Goals as goal
 pub returns : goal.returns
 returns c =
     steps _ _ _ _ _ c.edge-t.ensures c.requires.ready _ _ _ _ _ _
-    (ap (λ (x : ℕ). c.args.open-units - x) c.units_from.ensures)
+    (ap (λ (x : ℕ). c.args.open_units - x) c.units_from.ensures)
     c.weigh.ensures
     c.requires.weights_len.1
     c.split.ensures
