@@ -15,17 +15,18 @@ import time
 os.chdir(os.path.join(os.path.dirname(os.path.abspath(__file__)), ".."))
 name = sys.argv[1]
 rows = int(sys.argv[2]) if len(sys.argv) > 2 else 20
+folder = "crates/" + name
 # what the crate leans on is proved first, so that it is not counted
-subprocess.run(["rt", "dev", name], capture_output=True)
-shutil.rmtree("target/inc/" + name, ignore_errors=True)
+subprocess.run(["rt", "check"], cwd=folder, capture_output=True)
+shutil.rmtree(folder + "/out/incremental", ignore_errors=True)
 began = time.time()
-said = subprocess.run(["rt", "dev", name], stdout=subprocess.PIPE, stderr=subprocess.STDOUT, text=True).stdout
-saved = sorted((os.stat(f).st_mtime_ns / 1e9, os.path.basename(f)[: -len(".oantt")]) for f in glob.glob("target/inc/%s/*/*.oantt" % name))
+said = subprocess.run(["rt", "check"], cwd=folder, stdout=subprocess.PIPE, stderr=subprocess.STDOUT, text=True).stdout
+saved = sorted((os.stat(f).st_mtime_ns / 1e9, os.path.basename(f)[: -len(".oantt")]) for f in glob.glob(folder + "/out/incremental/*/*.oantt"))
 before = began
 modules = []
 kinds = collections.Counter()
 for at, module in saved:
-    modules.append((at - before, module.replace("Rattle·%s·proofs.proofs." % name, "")))
+    modules.append((at - before, module.replace("Rattle-%s-proofs." % name, "")))
     last = module.split(".")[-1]
     kinds[last if last in ("Lts", "Tie", "Proof") else "all else"] += at - before
     before = at

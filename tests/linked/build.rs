@@ -1,4 +1,4 @@
-//! Where `rt staticlib` writes the archives.
+//! Where `tools/build` puts the archives.
 fn main() {
     let root = std::path::Path::new(env!("CARGO_MANIFEST_DIR")).join("../../target/staticlib");
     println!("cargo:rustc-link-search=native={}", root.display());

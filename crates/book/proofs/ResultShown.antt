@@ -11,14 +11,14 @@ use Rattle.lists.proofs.Places.{get_or-tab}
 use Rattle.sets.specs.Set.{member}
 use Rattle.splitting.specs.Limits.{split_into, amount_limit, weight_limit}
 use Rattle.waterfall.specs.Seniority.{Standing}
-use Rattle.waterfall.specs.Charging.{charged, uncovered}
+use Rattle.waterfall.specs.Charging.{charged}
 use Rattle.waterfall.specs.Limits.{standing_at, Within, charges_of}
 use Rattle.waterfall.proofs.Layers.{charge-le}
 use Rattle.waterfall.proofs.Exact.{ranks-exact, charges-exact}
 use Rattle.machine.specs.Roll.{Entry}
 use Rattle.machine.specs.State as M
-use Rattle.machine.specs.Requirement.{first_tranche, second_tranche, requirement, contributions, contribution_of}
-use Rattle.machine.specs.Result.{standing, rank, payments, limits, six_charges, charge, uncovered_rest, on_contribution, on_payments}
+use Rattle.machine.specs.Requirement.{first_tranche, second_tranche, requirement, contribution_of}
+use Rattle.machine.specs.Result.{standing, rank, limits, six_charges, charge, uncovered_rest, on_contribution, on_payments}
 use Rattle.machine.proofs.Invariant.{CaseOk}
 use Rattle.machine.proofs.Bounds.{in-set-below, member-ok, D-small, W-small, expected-small, contributions-small, payments-small}
 use Rattle.accounts.specs.Members.{over_pools, without_pools}

@@ -14,7 +14,7 @@ use Rattle.lists.proofs.Bools.{and-false, lt-or-le, ltb-same}
 use Rattle.lists.proofs.Each.{Each, each_more}
 use Rattle.lists.proofs.Sums.{sum_to-ext}
 use Rattle.lists.proofs.Counts.{count_none, any-count, any_sum}
-use Rattle.sets.specs.Set.{member, members}
+use Rattle.sets.specs.Set.{member}
 use Rattle.auction.specs.Price.{zero_price}
 use Rattle.auction.proofs.Cents.{sub_same, sum-cents}
 use Rattle.machine.specs.Roll as M

@@ -29,7 +29,6 @@ use Rattle.machine.proofs.Running.{reading_of}
 use Rattle.reserves.specs.Reserves.{outside_of}
 use Rattle.reserves.proofs.Seen.{outside_at}
 use Rattle.book.proofs.Sound.{Sound}
-use Rattle.case.specs.declared.Case.{Case}
 use Rattle.case.specs.declared.Held.{Held}
 use Rattle.case.specs.declared.Ran.{Ran}
 use Rattle.case.specs.View.{view}

@@ -24,7 +24,6 @@ use Rattle.wire.specs.Asked.{head_of}
 use Rattle.units.specs.Shown.{agreed_of}
 use Rattle.units.proofs.Shown as U
 use Rattle.case.specs.declared.Held.{Held}
-use Rattle.case.specs.declared.Case.{Case}
 use Rattle.case.specs.Cases.{applied, no_held, case_answer_to, answer_to, first_answer_to, first_answer, after_asked, case_after, take_asked, head_outcome, outcome_of}
 use Rattle.case.specs.Readings.{seen}
 use Rattle.case.specs.Input.{ledger_after}

@@ -8,7 +8,7 @@ use Prim.Native.Nat.{ℕ, ◌<◌}
 use lib.ListN.{get_or}
 use borrow.Author.Tests.{eqb-true}
 use Rattle.lists.proofs.Bools.{lt-or-le}
-use Rattle.sets.specs.Set.{member, members}
+use Rattle.sets.specs.Set.{member}
 use Rattle.sets.proofs.Bits.{member-high}
 use Rattle.sets.proofs.Members.{sum-members-ext}
 use Rattle.machine.specs.Wire.{FINISH}

@@ -8,7 +8,7 @@ use lib.Dec.{leb}
 use lib.ListN.{length, take, drop}
 use borrow.Author.Tests.{leb-true}
 use Rattle.lists.proofs.Bools.{and_left, and_right}
-use Rattle.input.specs.Fields.{field_size, whole_first, front_size, whole_fields, whole}
+use Rattle.input.specs.Fields.{field_size, whole_first, front_size, whole_fields}
 use Rattle.input.proofs.Fields.{size-whole}
 use Rattle.input.proofs.Pieces.{front-none, front-next}
 use Rattle.input.proofs.Fronts.{front-most}

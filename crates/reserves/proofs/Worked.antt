@@ -17,7 +17,7 @@ use Rattle.machine.specs.State.{State, the_case}
 use Rattle.machine.specs.Machine.{step}
 use Rattle.machine.specs.Run.{run_from}
 use Rattle.machine.proofs.CallBytes.{−◌, head, pool, member, round, bid, close, call, pay, move, finish, sale, withdraw}
-use Rattle.machine.proofs.Worked.{Worked, AllShow, shown, p, l, m}
+use Rattle.machine.proofs.Worked.{Worked, AllShow, p, l, m}
 use Rattle.reserves.specs.Reserves.{TwoRounds, SameField, SameFields, SameValidity, SameButReserves, Outside, LookAlike, valid}
 use Rattle.reserves.specs.Computing.{computing}
 use Rattle.reserves.proofs.Claims.{reserves-stay-inside}

@@ -1,6 +1,5 @@
 -- `book::sum_of_shortfalls` meets its contract. The invariant: the sum of the shortfalls passed, and a bound on it that keeps it within a u64. Assumes nothing.
 use mathlib.Core.Path.{◌≡◌, sym, ◌∙◌}
-use Prim.Native.Nat.{◌-◌}
 use native.Mathlib.Omega.{arith}
 use lib.ListN.{length, get_or}
 use Rattle.lists.proofs.Sums.{sum_to-none, sum_to-next, sum-places}

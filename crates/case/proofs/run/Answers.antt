@@ -1,6 +1,6 @@
 -- `case::run` meets its contract. The invariant is `Going`; its laws begin, keep and end it. The measure is the number of bytes left. Assumes nothing.
 use mathlib.Core.Path.{refl, ap, ◌∙◌}
-use Prim.Native.Nat.{ℕ, ◌-◌, ◌≤◌, ◌<◌}
+use Prim.Native.Nat.{ℕ, ◌≤◌, ◌<◌}
 use native.Mathlib.Omega.{arith}
 use lib.ListN.{length}
 use Rattle.lists.proofs.Each.{each_of}

@@ -1,5 +1,4 @@
 -- `exports::ask` meets its contract. The invariant: the questions passed are answered in front. Assumes nothing.
-use Prim.Native.Nat.{◌-◌}
 use native.Mathlib.Omega.{arith}
 use Rattle.exports.proofs.Asking.{begins, asks-next, asked-all}
 use Rattle.exports.proofs.ask.Goals as goal

@@ -1,5 +1,4 @@
 -- `exports::counts` meets its contract. The invariant: the places passed hold their counts. Assumes nothing.
-use Prim.Native.Nat.{◌-◌}
 use native.Mathlib.Omega.{arith}
 use lib.ListN.{length-set}
 use borrow.Author.Count.{below_none}

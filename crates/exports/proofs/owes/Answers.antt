@@ -1,5 +1,4 @@
 -- `exports::owes` meets its contract. The invariant: the places passed hold what they owe. Assumes nothing.
-use Prim.Native.Nat.{◌-◌}
 use native.Mathlib.Omega.{arith}
 use lib.ListN.{length-set}
 use borrow.Author.Count.{below_none}

@@ -1,7 +1,6 @@
 -- `input::cut` meets its contract. The invariant is `Cutting`; its laws begin, keep and end it. Assumes nothing.
 use mathlib.Core.Path.{◌≡◌, refl, ap, ◌∙◌}
 use mathlib.Core.Logic.{inl, inr}
-use Prim.Native.Nat.{◌-◌}
 use native.Mathlib.Omega.{arith}
 use lib.ListN.{drop, length-drop}
 use Rattle.input.specs.Fields.{front_size}

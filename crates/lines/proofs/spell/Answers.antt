@@ -7,9 +7,8 @@ use lib.ListN.{length, set, length-set}
 use Rattle.machine.specs.Printed.{decimal}
 use lib.Seq.{sets}
 use borrow.Author.Rules.{rules}
-use Rattle.lines.proofs.Decimals.{Spelling, spelling-none, spelling-turn, spelling-done, spelling-some}
+use Rattle.lines.proofs.Decimals.{spelling-none, spelling-turn, spelling-done, spelling-some}
 use Rattle.lists.proofs.Stores.{sets-earlier}
-use Rattle.lines.proofs.spell.Invariants.{Spelled}
 use Rattle.lines.proofs.spell.Goals as goal
 
 pub overflow_sub-i : goal.overflow_sub-i

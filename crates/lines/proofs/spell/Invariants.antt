@@ -1,7 +1,7 @@
 -- `lines::spell` meets its contract. The invariant: the digits spelled stand behind the place. Assumes nothing.
 use mathlib.Core.Path.{◌≡◌}
 use mathlib.Core.List.{List}
-use Prim.Native.Nat.{ℕ, ◌+◌, ◌-◌, ◌≤◌}
+use Prim.Native.Nat.{ℕ, ◌+◌, ◌≤◌}
 use lib.ListN.{length}
 use Rattle.machine.specs.Printed.{decimal}
 use lib.Seq.{sets}

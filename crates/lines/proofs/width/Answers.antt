@@ -1,6 +1,5 @@
 -- `lines::width` meets its contract. The invariant: the bytes counted, and those of what is left, are all and one more. Assumes nothing.
 use mathlib.Core.Path.{ap}
-use Prim.Native.Nat.{◌-◌}
 use native.Mathlib.Omega.{arith}
 use lib.ListN.{length}
 use borrow.Author.Rules.{rules}

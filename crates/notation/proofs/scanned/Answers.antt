@@ -2,7 +2,6 @@
 use Rattle.notation.specs.declared.Scan.{Scan}
 use mathlib.Core.Path.{sym, ap, ◌∙◌}
 use borrow.Author.Rules.{rules}
-use Prim.Native.Nat.{◌-◌}
 use Rattle.notation.specs.Reading.{scan}
 use Rattle.notation.proofs.Scanning.{scan-next, scan-end}
 use Rattle.notation.proofs.scanned.Goals as goal

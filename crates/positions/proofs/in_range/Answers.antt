@@ -1,5 +1,5 @@
 -- `positions::in_range` meets its contract. The invariant: all positions are within the limit exactly if those left to look at are. Assumes nothing.
-use Rattle.std.proofs.Common.{◌≡◌, ◌+◌, ◌-◌, ◌*◌, true, false, sym, refl, ◌∙◌, arith, rules, le-leb}
+use Rattle.std.proofs.Common.{◌≡◌, ◌+◌, ◌*◌, true, false, sym, refl, ◌∙◌, arith, rules, le-leb}
 use borrow.Author.Tests.{lt-leb}
 use Rattle.machine.specs.Wire.{number}
 use Rattle.positions.specs.Days.{in_range}

@@ -1,5 +1,5 @@
 -- `positions::spread` meets its contract. The invariant: the places passed hold the numbers of their members. Assumes nothing.
-use Rattle.std.proofs.Common.{◌≡◌, ◌+◌, ◌-◌, sym, arith, rules}
+use Rattle.std.proofs.Common.{◌≡◌, ◌+◌, sym, arith, rules}
 use Rattle.lists.proofs.Bools.{one_if-small}
 use Rattle.lists.proofs.Stores.{front-turn}
 use Rattle.lists.proofs.Sums.{sum_to-none, count_small}

@@ -1,5 +1,5 @@
 -- `positions::take_records` meets its contract. The invariant: what is left of the records goes on from what is kept. Assumes nothing.
-use Rattle.std.proofs.Common.{◌+◌, ◌-◌, length, drop, sym, refl, ap, ◌∙◌, mul-zero, div-le_self, arith, rules}
+use Rattle.std.proofs.Common.{◌+◌, length, drop, sym, refl, ap, ◌∙◌, mul-zero, div-le_self, arith, rules}
 use Rattle.positions.specs.Days.{size, days_of}
 use Rattle.positions.specs.Keeping.{taken}
 use Rattle.positions.proofs.Days.{next-at, record-fits}

@@ -1,6 +1,6 @@
 -- `report::take_part` meets its contract. The invariant is `Taking`; its laws begin, keep and end it. The measure is the number of bytes left. Assumes nothing.
 use mathlib.Core.Path.{refl, ◌∙◌}
-use Prim.Native.Nat.{ℕ, ◌-◌, ◌<◌}
+use Prim.Native.Nat.{ℕ, ◌<◌}
 use native.Mathlib.Omega.{arith}
 use Rattle.lists.proofs.Each.{each_of}
 use Rattle.lists.specs.Lists.{Bytes}

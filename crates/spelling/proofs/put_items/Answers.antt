@@ -1,6 +1,6 @@
 -- `spelling::put_items` meets its contract. The invariant: what is put and what is left make up the text. Assumes nothing.
 use mathlib.Core.Path.{refl, ◌∙◌}
-use Prim.Native.Nat.{◌+◌, ◌*◌, ◌-◌}
+use Prim.Native.Nat.{◌+◌, ◌*◌}
 use native.Mathlib.Omega.{arith}
 use borrow.Author.Rules.{rules}
 use Rattle.forms.proofs.Puts.{putting-start, putting-turn, putting-last, putting-most, put_as}

@@ -1,6 +1,6 @@
 -- `timing::each` meets its contract. The invariant is `Going`; its laws begin, keep and end it. Assumes nothing.
 use mathlib.Core.Path.{refl, sym, ◌∙◌}
-use Prim.Native.Nat.{◌-◌, ◌≤◌}
+use Prim.Native.Nat.{◌≤◌}
 use native.Mathlib.Omega.{arith}
 use lib.ListN.{length, get_or}
 use Rattle.input.proofs.Strings.{cut-from, cut-to}

@@ -1,5 +1,5 @@
 -- `turns::live_keys` meets its contract. The invariant: the places passed hold their keys. Assumes nothing.
-use Prim.Native.Nat.{◌+◌, ◌-◌}
+use Prim.Native.Nat.{◌+◌}
 use native.Mathlib.Omega.{arith}
 use lib.ListN.{get_or, length-set}
 use borrow.Author.Count.{below_none}

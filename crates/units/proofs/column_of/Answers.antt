@@ -2,7 +2,7 @@
 use mathlib.Core.Path.{sym}
 use Rattle.lists.proofs.Sums.{sum_to-none}
 use mathlib.Core.Path.{◌≡◌}
-use Prim.Native.Nat.{◌+◌, ◌*◌, ◌-◌}
+use Prim.Native.Nat.{◌+◌, ◌*◌}
 use native.Mathlib.Omega.{arith}
 use lib.ListN.{get_or}
 use Rattle.lists.proofs.Sums.{sum_to-next}

@@ -1,6 +1,5 @@
 -- `waterfall::charge_layers` meets its contract. The invariant and its three laws are in `proofs/InTurn.antt`. Assumes nothing.
 use mathlib.Core.Path.{◌≡◌, sym}
-use Prim.Native.Nat.{◌-◌}
 use native.Mathlib.Omega.{arith}
 use borrow.Author.Rules.{rules}
 use lib.ListN.{length, replicate}

@@ -1,7 +1,6 @@
 -- `waterfall::ranks` meets its contract. The invariant: the places passed hold their ranks. The measure is the number of places left.
 -- Assumes nothing.
 use mathlib.Core.Path.{refl}
-use Prim.Native.Nat.{◌-◌}
 use native.Mathlib.Omega.{arith}
 use lib.ListN.{length-set}
 use Rattle.lists.proofs.Places.{tab-of, filled_next}

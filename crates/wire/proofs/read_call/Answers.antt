@@ -1,6 +1,5 @@
 -- `wire::read_call` meets its contract. Each test is one of those of `decode`. Assumes nothing.
 use Rattle.std.proofs.Common.{sym, refl, ◌∙◌, arith}
-use borrow.Author.Tests.{not-true, not-false}
 use Rattle.wire.specs.Asked.{asked}
 use Rattle.wire.proofs.Numbers.{decode-short, decode-low, decode-high, decode-size, decode-length, decode_call}
 use Rattle.wire.proofs.read_call.Goals as goal

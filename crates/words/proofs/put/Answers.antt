@@ -1,6 +1,6 @@
 -- `words::put` meets its contract. The invariant: the bytes copied stand in the buffer. Assumes nothing.
 use mathlib.Core.Path.{refl, sym, ◌∙◌}
-use Prim.Native.Nat.{◌+◌, ◌-◌}
+use Prim.Native.Nat.{◌+◌}
 use native.Mathlib.Omega.{arith}
 use lib.ListN.{length-set}
 use Rattle.lines.proofs.Numbers.{placed-not}

@@ -1,5 +1,4 @@
 -- `accounts::members::over_pools` meets its contract. The invariant: the places passed hold their sums. Assumes nothing.
-use Prim.Native.Nat.{◌-◌}
 use native.Mathlib.Omega.{arith}
 use lib.ListN.{length-set}
 use borrow.Author.Count.{below_none}

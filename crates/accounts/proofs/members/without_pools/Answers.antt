@@ -1,5 +1,4 @@
 -- `accounts::members::without_pools` meets its contract. The invariant: the places passed hold their numbers. Assumes nothing.
-use Prim.Native.Nat.{◌-◌}
 use native.Mathlib.Omega.{arith}
 use lib.ListN.{length-set}
 use borrow.Author.Count.{below_none}

@@ -1,6 +1,5 @@
 -- `units::Units::sell` meets its contract. The invariant: the bids passed have their units. Assumes nothing.
 use mathlib.Core.Path.{◌≡◌, refl}
-use Prim.Native.Nat.{◌-◌}
 use native.Mathlib.Numerals.{add-one}
 use native.Mathlib.Omega.{arith}
 use Rattle.units.specs.Steps.{sold_counts, sold_sums, sell_units}

@@ -1,6 +1,5 @@
 -- `accounts::bids::Bids::gain_table` meets its contract. The invariant: the run has the sums over the places passed. Assumes nothing.
 use mathlib.Core.Path.{sym, ap, ◌∙◌}
-use Prim.Native.Nat.{◌-◌}
 use native.Mathlib.Omega.{arith}
 use lib.ListN.{length}
 use Rattle.lists.specs.Lists.{places}

@@ -1,8 +1,6 @@
 -- `accounts::members::Members::someone_owes` meets its contract. The invariant: one is found or one of those left owes exactly if one of the set
 -- does. The measure is the number of members left. Assumes nothing.
-use Prim.Native.Nat.{◌-◌}
 use native.Mathlib.Omega.{arith}
-use Rattle.sets.specs.Set.{member}
 use Rattle.sets.proofs.Members.{Taken, taken}
 use Rattle.accounts.specs.Members.{owes_of, someone_owes_in}
 use Rattle.accounts.proofs.Asking.{start, turn, end}
