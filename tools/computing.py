@@ -22,11 +22,11 @@ def text(crate, deps):
         mod = line.split()[2]
         found = re.findall(r"^unfoldable pub (\S+) ", open(os.path.join(specs(crate), mod + ".antt")).read(), re.M)
         if found:
-            uses.append("use Rattle·%s·specs.specs.%s.{%s}" % (crate, mod, ", ".join("%s as %s·%s" % (f, mod, f) for f in found)))
+            uses.append("use Rattle.%s.specs.%s.{%s}" % (crate, mod, ", ".join("%s as %s·%s" % (f, mod, f) for f in found)))
             names += ["%s·%s" % (mod, f) for f in found]
     for dep in deps:
         if os.path.exists(os.path.join(specs(dep), "Computing.antt")):
-            uses.append("use Rattle·%s.specs.Computing.{computing as %s·computing}" % (dep, dep))
+            uses.append("use Rattle.%s.specs.Computing.{computing as %s·computing}" % (dep, dep))
             names.append("%s·computing" % dep)
     return HEAD + "\n".join(uses) + "\n\nunfoldable pub computing : Unit {0}\nunfolding " + " ".join(names) + "\ncomputing = tt\n"
 
