@@ -23,7 +23,7 @@ use Rattle.machine.specs.Running.{left_sum}
 use Rattle.machine.specs.Printed.{fields_in}
 use Rattle.machine.proofs.Answers.{accepted-passed}
 use Rattle.machine.proofs.Invariant.{CaseOk}
-use Rattle.machine.proofs.CallsKept.{head_ok}
+use Rattle.machine.proofs.CallsKept.{head_ok_lem}
 use Rattle.machine.proofs.Reached.{next-ok, first-call}
 use Rattle.machine.proofs.Running.{reading_of}
 use Rattle.reserves.specs.Reserves.{outside_of}
@@ -78,7 +78,7 @@ head-tied h head small p =
       present = refl;
       shows = shown.0;
       sound = shown.1;
-      ok = subst CaseOk (sym shown.0) (head_ok head (not-false _ p.1.0));
+      ok = subst CaseOk (sym shown.0) (head_ok_lem head (not-false _ p.1.0));
     }
 
 -- what is held after an accepted call is tied to the machine's state

@@ -9,6 +9,7 @@ use Prim.Native.Nat.{ℕ, zero, suc, ◌+◌, ◌*◌, ◌<◌}
 use native.Mathlib.Omega.{arith}
 use lib.Dec.{eqb, leb}
 use lib.ListN.{length, get_or, take}
+use lib.Seq.{take-nil}
 use borrow.Author.Tests.{eqb-true, not-false}
 use Rattle.lists.specs.Lists.{if◌then◌else◌, between, keep, put_back, among, map_from, all}
 use Rattle.lists.specs.Tests.{first_of}
@@ -307,7 +308,7 @@ module _ (s t : State) (alike : Alike s t) (one other : List ℕ) (ones others :
 
 same_from : (s t : State) → Alike s t → (calls others : List (List ℕ)) → SameFrom s t calls others → SameRun s t calls others
 unfolding run_from observed_from
-same_from s t alike [] [] same = record { tags = refl; answers = refl; states = λ k. elim k [ zero ↦ alike | suc k ↦ alike ] }
+same_from s t alike [] [] same = record { tags = refl; answers = refl; states = λ k. rw (take-nil {A = List ℕ} k) alike }
 same_from s t alike [] (other ∷ others) same = absurd (omega (arith, same.as_many))
 same_from s t alike (one ∷ ones) [] same = absurd (omega (arith, same.as_many))
 same_from s t alike (one ∷ ones) (other ∷ others) same =

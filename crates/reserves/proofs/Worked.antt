@@ -63,13 +63,13 @@ data FieldsFrom : State → List (List ℕ) → List (List ℕ) → Type 0 where
 -- the same fields to the end
 all_same : {s : State} (calls : List (List ℕ)) → FieldsFrom s calls calls
 all_same [] = end
-all_same (call ∷ calls) = next (inl refl) (all_same calls)
+all_same {s = s} (call ∷ calls) = next (inl refl) (all_same {s = (step s call).state} calls)
 
 -- the same fields, and then others
 then-rest : {s : State} (calls ones others : List (List ℕ)) → FieldsFrom (run_from s calls) ones others → FieldsFrom s (calls ++ ones) (calls ++ others)
 unfolding run_from
 then-rest [] ones others rest = rest
-then-rest (call ∷ calls) ones others rest = next (inl refl) (then-rest calls ones others rest)
+then-rest {s = s} (call ∷ calls) ones others rest = next (inl refl) (then-rest {s = (step s call).state} calls ones others rest)
 
 fields-many : {s : State} {calls others : List (List ℕ)} → FieldsFrom s calls others → length calls ≡ length others
 fields-many end = refl

@@ -9,69 +9,68 @@ use Rattle.case.proofs.after.Goals as goal
 
 pub returns-in-Head : goal.returns-in-Head
 unfolding asked after_asked case_after
-returns-in-Head c = λ present e. rw c.call-1.given.1 c.new.ensures
+returns-in-Head c = λ present e. rw c.in-Head.is c.new.ensures
 
 pub returns-in-Pool : goal.returns-in-Pool
 unfolding asked first_answer_to first_answer
-returns-in-Pool c = rw c.call-in-Pool-1.given.1 (λ present e. c.case_of.ensures ∙ handed c.args.case _ (λ z. absurd (omega arith)) _ c.pool.ensures present e)
+returns-in-Pool c = rw c.in-Pool.is (λ present e. c.case_of.ensures ∙ handed c.args.case _ (λ z. absurd (omega arith)) _ c.pool.ensures present e)
 
 pub returns-in-Member : goal.returns-in-Member
 unfolding asked first_answer_to first_answer
-returns-in-Member c = rw c.call-in-Member-1.given.1 (λ present e. c.case_of-in-Member.ensures ∙ handed c.args.case _ (λ z. absurd (omega arith)) _ c.member.ensures present e)
+returns-in-Member c = rw c.in-Member.is (λ present e. c.case_of-in-Member.ensures ∙ handed c.args.case _ (λ z. absurd (omega arith)) _ c.member.ensures present e)
 
 pub returns-in-Round : goal.returns-in-Round
 returns-in-Round c =
-    let x = c.call-in-Round-1.given.0 in
-    rw c.call-in-Round-1.given.1
+    rw c.in-Round.is
     (λ present e.
     c.case_of-in-Round.ensures
-    ∙ handed c.args.case (asked (Round x.0 x.1.0 x.1.1.0 x.1.1.1.0 x.1.1.1.1.0))
-    (round-later x.0 x.1.0 x.1.1.0 x.1.1.1.0 x.1.1.1.1.0) _ c.round.ensures present e)
+    ∙ handed c.args.case (asked (Round c.in-Round.count c.in-Round.a c.in-Round.b c.in-Round.c c.in-Round.d))
+    (round-later c.in-Round.count c.in-Round.a c.in-Round.b c.in-Round.c c.in-Round.d) _ c.round.ensures present e)
 
 pub returns-in-Bid : goal.returns-in-Bid
 unfolding asked first_answer_to first_answer
-returns-in-Bid c = rw c.call-in-Bid-1.given.1 (λ present e. c.case_of-in-Bid.ensures ∙ handed c.args.case _ (λ z. absurd (omega arith)) _ c.bid.ensures present e)
+returns-in-Bid c = rw c.in-Bid.is (λ present e. c.case_of-in-Bid.ensures ∙ handed c.args.case _ (λ z. absurd (omega arith)) _ c.bid.ensures present e)
 
 pub returns-in-Close : goal.returns-in-Close
 unfolding asked first_answer_to first_answer
-returns-in-Close c = rw c.enum_told-1.given.1 (λ present e. c.case_of-in-Close.ensures ∙ handed c.args.case _ (λ z. absurd (omega arith)) _ c.close.ensures present e)
+returns-in-Close c = rw c.in-Close.is (λ present e. c.case_of-in-Close.ensures ∙ handed c.args.case _ (λ z. absurd (omega arith)) _ c.close.ensures present e)
 
 pub returns-in-Allocate : goal.returns-in-Allocate
 unfolding asked first_answer_to first_answer
-returns-in-Allocate c = rw c.call-in-Allocate-1.given.1 (λ present e. c.case_of-in-Allocate.ensures ∙ handed c.args.case _ (λ z. absurd (omega arith)) _ c.allocate.ensures present e)
+returns-in-Allocate c = rw c.in-Allocate.is (λ present e. c.case_of-in-Allocate.ensures ∙ handed c.args.case _ (λ z. absurd (omega arith)) _ c.allocate.ensures present e)
 
 pub returns-in-Tear : goal.returns-in-Tear
 unfolding asked first_answer_to first_answer
-returns-in-Tear c = rw c.call-in-Tear-1.given.1 (λ present e. c.case_of-in-Tear.ensures ∙ handed c.args.case _ (λ z. absurd (omega arith)) _ c.tear.ensures present e)
+returns-in-Tear c = rw c.in-Tear.is (λ present e. c.case_of-in-Tear.ensures ∙ handed c.args.case _ (λ z. absurd (omega arith)) _ c.tear.ensures present e)
 
 pub returns-in-Call : goal.returns-in-Call
 unfolding asked first_answer_to first_answer
-returns-in-Call c = rw c.enum_told-in-Call-1.given.1 (λ present e. c.case_of-in-Call.ensures ∙ handed c.args.case _ (λ z. absurd (omega arith)) _ c.call.ensures present e)
+returns-in-Call c = rw c.in-Call.is (λ present e. c.case_of-in-Call.ensures ∙ handed c.args.case _ (λ z. absurd (omega arith)) _ c.call.ensures present e)
 
 pub returns-in-Pay : goal.returns-in-Pay
 unfolding asked first_answer_to first_answer
-returns-in-Pay c = rw c.call-in-Pay-1.given.1 (λ present e. c.case_of-in-Pay.ensures ∙ handed c.args.case _ (λ z. absurd (omega arith)) _ c.pay.ensures present e)
+returns-in-Pay c = rw c.in-Pay.is (λ present e. c.case_of-in-Pay.ensures ∙ handed c.args.case _ (λ z. absurd (omega arith)) _ c.pay.ensures present e)
 
 pub returns-in-Move : goal.returns-in-Move
 unfolding asked first_answer_to first_answer
-returns-in-Move c = rw c.call-in-Move-1.given.1 (λ present e. c.case_of-in-Move.ensures ∙ handed c.args.case _ (λ z. absurd (omega arith)) _ c.move_units.ensures present e)
+returns-in-Move c = rw c.in-Move.is (λ present e. c.case_of-in-Move.ensures ∙ handed c.args.case _ (λ z. absurd (omega arith)) _ c.move_units.ensures present e)
 
 pub returns-in-Miss : goal.returns-in-Miss
 unfolding asked first_answer_to first_answer
-returns-in-Miss c = rw c.call-in-Miss-1.given.1 (λ present e. c.case_of-in-Miss.ensures ∙ handed c.args.case _ (λ z. absurd (omega arith)) _ c.miss.ensures present e)
+returns-in-Miss c = rw c.in-Miss.is (λ present e. c.case_of-in-Miss.ensures ∙ handed c.args.case _ (λ z. absurd (omega arith)) _ c.miss.ensures present e)
 
 pub returns-in-Finish : goal.returns-in-Finish
 unfolding asked first_answer_to first_answer
-returns-in-Finish c = rw c.enum_told-in-Finish-1.given.1 (λ present e. c.case_of-in-Finish.ensures ∙ handed c.args.case _ (λ z. absurd (omega arith)) _ c.finish.ensures present e)
+returns-in-Finish c = rw c.in-Finish.is (λ present e. c.case_of-in-Finish.ensures ∙ handed c.args.case _ (λ z. absurd (omega arith)) _ c.finish.ensures present e)
 
 pub returns-in-Sale : goal.returns-in-Sale
 unfolding asked first_answer_to first_answer
-returns-in-Sale c = rw c.call-in-Sale-1.given.1 (λ present e. c.case_of-in-Sale.ensures ∙ handed c.args.case _ (λ z. absurd (omega arith)) _ c.sale.ensures present e)
+returns-in-Sale c = rw c.in-Sale.is (λ present e. c.case_of-in-Sale.ensures ∙ handed c.args.case _ (λ z. absurd (omega arith)) _ c.sale.ensures present e)
 
 pub returns-in-Withdraw : goal.returns-in-Withdraw
 unfolding asked first_answer_to first_answer
-returns-in-Withdraw c = rw c.call-in-Withdraw-1.given.1 (λ present e. c.case_of-in-Withdraw.ensures ∙ handed c.args.case _ (λ z. absurd (omega arith)) _ c.withdraw.ensures present e)
+returns-in-Withdraw c = rw c.in-Withdraw.is (λ present e. c.case_of-in-Withdraw.ensures ∙ handed c.args.case _ (λ z. absurd (omega arith)) _ c.withdraw.ensures present e)
 
 pub returns-in-Unknown : goal.returns-in-Unknown
 unfolding asked after_asked
-returns-in-Unknown c = λ present e. rw c.enum_told-in-Unknown-1.given.1
+returns-in-Unknown c = λ present e. rw c.in-Unknown.is

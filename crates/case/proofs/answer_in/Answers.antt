@@ -7,63 +7,63 @@ use Rattle.case.proofs.answer_in.Goals as goal
 
 pub returns-in-Head : goal.returns-in-Head
 unfolding asked case_answer_to case_answer
-returns-in-Head c = simp c.enum_told-1.given.1
+returns-in-Head c = simp c.in-Head.is
 
 pub returns-in-Pool : goal.returns-in-Pool
 unfolding asked case_answer_to case_answer
-returns-in-Pool c = simp (c.call-1.given.1, c.pool_answer.ensures)
+returns-in-Pool c = simp (c.in-Pool.is, c.pool_answer.ensures)
 
 pub returns-in-Member : goal.returns-in-Member
 unfolding asked case_answer_to case_answer
-returns-in-Member c = simp (c.call-in-Member-1.given.1, c.member_answer.ensures)
+returns-in-Member c = simp (c.in-Member.is, c.member_answer.ensures)
 
 pub returns-in-Round : goal.returns-in-Round
-returns-in-Round c = rw c.call-in-Round-1.given.1 (c.reserves_answer.ensures ∙ reserves-answered _ _ _ _ _ _)
+returns-in-Round c = rw c.in-Round.is (c.reserves_answer.ensures ∙ reserves-answered _ _ _ _ _ _)
 
 pub returns-in-Bid : goal.returns-in-Bid
 unfolding asked case_answer_to case_answer
-returns-in-Bid c = simp (c.call-in-Bid-1.given.1, c.bid_answer.ensures)
+returns-in-Bid c = simp (c.in-Bid.is, c.bid_answer.ensures)
 
 pub returns-in-Close : goal.returns-in-Close
 unfolding asked case_answer_to case_answer
-returns-in-Close c = simp (c.enum_told-in-Close-1.given.1, c.close_answer.ensures)
+returns-in-Close c = simp (c.in-Close.is, c.close_answer.ensures)
 
 pub returns-in-Allocate : goal.returns-in-Allocate
 unfolding asked case_answer_to case_answer
-returns-in-Allocate c = simp (c.call-in-Allocate-1.given.1, c.allocate_answer.ensures)
+returns-in-Allocate c = simp (c.in-Allocate.is, c.allocate_answer.ensures)
 
 pub returns-in-Tear : goal.returns-in-Tear
 unfolding asked case_answer_to case_answer
-returns-in-Tear c = simp (c.call-in-Tear-1.given.1, c.tear_answer.ensures)
+returns-in-Tear c = simp (c.in-Tear.is, c.tear_answer.ensures)
 
 pub returns-in-Call : goal.returns-in-Call
 unfolding asked case_answer_to case_answer
-returns-in-Call c = simp (c.enum_told-in-Call-1.given.1, c.call_answer.ensures)
+returns-in-Call c = simp (c.in-Call.is, c.call_answer.ensures)
 
 pub returns-in-Pay : goal.returns-in-Pay
 unfolding asked case_answer_to case_answer
-returns-in-Pay c = simp (c.call-in-Pay-1.given.1, c.pay_answer.ensures)
+returns-in-Pay c = simp (c.in-Pay.is, c.pay_answer.ensures)
 
 pub returns-in-Move : goal.returns-in-Move
 unfolding asked case_answer_to case_answer
-returns-in-Move c = simp (c.call-in-Move-1.given.1, c.move_answer.ensures)
+returns-in-Move c = simp (c.in-Move.is, c.move_answer.ensures)
 
 pub returns-in-Miss : goal.returns-in-Miss
 unfolding asked case_answer_to case_answer
-returns-in-Miss c = simp (c.call-in-Miss-1.given.1, c.miss_answer.ensures)
+returns-in-Miss c = simp (c.in-Miss.is, c.miss_answer.ensures)
 
 pub returns-in-Finish : goal.returns-in-Finish
 unfolding asked case_answer_to case_answer
-returns-in-Finish c = simp (c.enum_told-in-Finish-1.given.1, c.finish_answer.ensures)
+returns-in-Finish c = simp (c.in-Finish.is, c.finish_answer.ensures)
 
 pub returns-in-Sale : goal.returns-in-Sale
 unfolding asked case_answer_to case_answer
-returns-in-Sale c = simp (c.call-in-Sale-1.given.1, c.sale_answer.ensures)
+returns-in-Sale c = simp (c.in-Sale.is, c.sale_answer.ensures)
 
 pub returns-in-Withdraw : goal.returns-in-Withdraw
 unfolding asked case_answer_to case_answer
-returns-in-Withdraw c = simp (c.call-in-Withdraw-1.given.1, c.withdraw_answer.ensures)
+returns-in-Withdraw c = simp (c.in-Withdraw.is, c.withdraw_answer.ensures)
 
 pub returns-in-Unknown : goal.returns-in-Unknown
 unfolding asked case_answer_to case_answer
-returns-in-Unknown c = simp c.enum_told-in-Unknown-1.given.1
+returns-in-Unknown c = simp c.in-Unknown.is

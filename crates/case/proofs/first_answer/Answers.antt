@@ -6,65 +6,64 @@ use Rattle.case.proofs.first_answer.Goals as goal
 
 pub returns-in-Head : goal.returns-in-Head
 unfolding asked first_answer_to first_answer
-returns-in-Head c = simp (c.call-1.given.1, c.head_answer.ensures)
+returns-in-Head c = simp (c.in-Head.is, c.head_answer.ensures)
 
 pub returns-in-Pool : goal.returns-in-Pool
 unfolding asked first_answer_to first_answer
-returns-in-Pool c = simp c.enum_told-1.given.1
+returns-in-Pool c = simp c.in-Pool.is
 
 pub returns-in-Member : goal.returns-in-Member
 unfolding asked first_answer_to first_answer
-returns-in-Member c = simp c.enum_told-in-Member-1.given.1
+returns-in-Member c = simp c.in-Member.is
 
 pub returns-in-Round : goal.returns-in-Round
 returns-in-Round c =
-    let x = c.call-in-Round-1.given.0 in
-    rw c.call-in-Round-1.given.1 (simp (c.decline_if.ensures, c.both.ensures) (round-first x.0 x.1.0 x.1.1.0 x.1.1.1.0 x.1.1.1.1.0))
+    rw c.in-Round.is (simp (c.decline_if.ensures, c.both.ensures) (round-first c.in-Round.count c.in-Round.a c.in-Round.b c.in-Round.c c.in-Round.d))
 
 pub returns-in-Bid : goal.returns-in-Bid
 unfolding asked first_answer_to first_answer
-returns-in-Bid c = simp c.enum_told-in-Bid-1.given.1
+returns-in-Bid c = simp c.in-Bid.is
 
 pub returns-in-Close : goal.returns-in-Close
 unfolding asked first_answer_to first_answer
-returns-in-Close c = simp c.enum_told-in-Close-1.given.1
+returns-in-Close c = simp c.in-Close.is
 
 pub returns-in-Allocate : goal.returns-in-Allocate
 unfolding asked first_answer_to first_answer
-returns-in-Allocate c = simp c.enum_told-in-Allocate-1.given.1
+returns-in-Allocate c = simp c.in-Allocate.is
 
 pub returns-in-Tear : goal.returns-in-Tear
 unfolding asked first_answer_to first_answer
-returns-in-Tear c = simp c.enum_told-in-Tear-1.given.1
+returns-in-Tear c = simp c.in-Tear.is
 
 pub returns-in-Call : goal.returns-in-Call
 unfolding asked first_answer_to first_answer
-returns-in-Call c = simp c.enum_told-in-Call-1.given.1
+returns-in-Call c = simp c.in-Call.is
 
 pub returns-in-Pay : goal.returns-in-Pay
 unfolding asked first_answer_to first_answer
-returns-in-Pay c = simp c.enum_told-in-Pay-1.given.1
+returns-in-Pay c = simp c.in-Pay.is
 
 pub returns-in-Move : goal.returns-in-Move
 unfolding asked first_answer_to first_answer
-returns-in-Move c = simp c.enum_told-in-Move-1.given.1
+returns-in-Move c = simp c.in-Move.is
 
 pub returns-in-Miss : goal.returns-in-Miss
 unfolding asked first_answer_to first_answer
-returns-in-Miss c = simp c.enum_told-in-Miss-1.given.1
+returns-in-Miss c = simp c.in-Miss.is
 
 pub returns-in-Finish : goal.returns-in-Finish
 unfolding asked first_answer_to first_answer
-returns-in-Finish c = simp c.enum_told-in-Finish-1.given.1
+returns-in-Finish c = simp c.in-Finish.is
 
 pub returns-in-Sale : goal.returns-in-Sale
 unfolding asked first_answer_to first_answer
-returns-in-Sale c = simp c.enum_told-in-Sale-1.given.1
+returns-in-Sale c = simp c.in-Sale.is
 
 pub returns-in-Withdraw : goal.returns-in-Withdraw
 unfolding asked first_answer_to first_answer
-returns-in-Withdraw c = simp c.enum_told-in-Withdraw-1.given.1
+returns-in-Withdraw c = simp c.in-Withdraw.is
 
 pub returns-in-Unknown : goal.returns-in-Unknown
 unfolding asked first_answer_to first_answer
-returns-in-Unknown c = simp c.enum_told-in-Unknown-1.given.1
+returns-in-Unknown c = simp c.in-Unknown.is

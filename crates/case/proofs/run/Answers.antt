@@ -28,16 +28,16 @@ pub slice_bounds-take_fields-start-in-loop-at : goal.slice_bounds-take_fields-st
 slice_bounds-take_fields-start-in-loop-at c = let g = c.loop-at.invariant.0 in let w : c.loop-at.count ≤ length c.loop-at.answers = omega (arith, g.room, g.size) in search (rules, w)
 
 pub overflow_add-at : goal.overflow_add-at
-overflow_add-at c = let l = c.loop-at in omega (arith, (taken-within _ _ _ _ _ _ l.invariant.0 _ _ _ _ (taken-rest _ _ _ _ _ _ l.invariant.0 _ _ _ _ c.take_fields-front.ensures)).0, c.well-formed.0.0)
+overflow_add-at c = let l = c.loop-at in omega (arith, (taken-within _ _ _ _ _ _ l.invariant.0 _ _ _ _ (taken-rest _ _ _ _ _ _ l.invariant.0 _ _ _ _ c.take_fields-front.ensures)).0, c.well_formed.0.0)
 
 pub overflow_add-count : goal.overflow_add-count
-overflow_add-count c = let l = c.loop-at in omega (arith, (taken-within _ _ _ _ _ _ l.invariant.0 _ _ _ _ (taken-rest _ _ _ _ _ _ l.invariant.0 _ _ _ _ c.take_fields-front.ensures)).1, c.well-formed.1.0.0)
+overflow_add-count c = let l = c.loop-at in omega (arith, (taken-within _ _ _ _ _ _ l.invariant.0 _ _ _ _ (taken-rest _ _ _ _ _ _ l.invariant.0 _ _ _ _ c.take_fields-front.ensures)).1, c.well_formed.1.0.0)
 
 pub loop-at-smaller : goal.loop-at-smaller
 loop-at-smaller c = let l = c.loop-at in omega (arith, taken-within _ _ _ _ _ _ l.invariant.0 _ _ _ _ (taken-rest _ _ _ _ _ _ l.invariant.0 _ _ _ _ c.take_fields-front.ensures), c.if-front-eq0.false)
 
 pub loop-at-preserved : goal.loop-at-preserved
-loop-at-preserved c = let l = c.loop-at in (goes-lent _ _ _ _ _ _ l.invariant.0 _ _ _ _ c.take_fields-front.ensures, c.take_fields-front.auto.1.1.1.0 ∙ l.invariant.1)
+loop-at-preserved c = let l = c.loop-at in (goes-lent _ _ _ _ _ _ l.invariant.0 _ _ _ _ c.take_fields-front.ensures, c.take_fields-front.auto.ends ∙ l.invariant.1)
 
 pub shape_of-answers-after-loop-at : goal.shape_of-answers-after-loop-at
 shape_of-answers-after-loop-at c = c.loop-at.invariant.0.size

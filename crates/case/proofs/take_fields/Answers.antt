@@ -19,7 +19,7 @@ pub slice_bounds-replay-end : goal.slice_bounds-replay-end
 slice_bounds-replay-end c = let w = few (goal.at.slice_bounds-replay-end c).After-cut-count in search (rules, w)
 
 pub offset_bounds-ends-count : goal.offset_bounds-ends-count
-offset_bounds-ends-count c = omega (arith, few (goal.at.offset_bounds-ends-count c).After-cut-count, c.cut-count.auto, c.well-formed.1.1.1.0.1)
+offset_bounds-ends-count c = omega (arith, few (goal.at.offset_bounds-ends-count c).After-cut-count, c.cut-count.auto, c.well_formed.1.1.1.0.1)
 
 pub bounds-ends-count : goal.bounds-ends-count
 bounds-ends-count c = omega (arith, few (goal.at.bounds-ends-count c).After-cut-count, c.if-count-eq0.false)

@@ -11,7 +11,7 @@ use Rattle.exports.proofs.ledger_pool_prices.Goals as goal
 pub returns : goal.returns
 returns c =
     let a = c.args in
-    to_z-of_z {w = w64} {z = c.prices_in.result} (record { sfits = c.prices_in.type-inv })
+    to_z-of_z {w = w64} {z = c.prices_in.result} (record { sfits = c.prices_in.type_inv })
     ∙ c.prices_in.ensures
     ∙ prices-after a.bytes.now a.ends.now
     (each_of (λ (b : ℕ). b < 256) a.bytes.now 0 (λ i h. omega (arith, c.shared_slice_known-1.given i)))

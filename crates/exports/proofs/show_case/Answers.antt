@@ -18,4 +18,4 @@ returns c =
       c.requirement.ensures,
       c.prefunded.ensures,
     ) (read_back c.args.case
-    (subst (SFits w64) c.sum_of_prices.ensures (record { sfits = c.sum_of_prices.type-inv })))
+    (subst (SFits w64) c.sum_of_prices.ensures (record { sfits = c.sum_of_prices.type_inv })))

@@ -18,8 +18,8 @@ pub loop-i-preserved : goal.loop-i-preserved
 loop-i-preserved c =
     let l = c.loop-i in
     let a = c.args in
-    let q = put_as 4 (omega arith) (ap (λ (k : ℕ). field_bytes k (get_or a.t5 l.i 0)) c.kind.ensures) c.put_field-to.ensures in
-    let e = value-next a.tag a.count l.i a.t5 (search rules) l.invariant.2 (search rules) in
+    let q = put_as 4 (omega arith) (ap (λ (k : ℕ). field_bytes k (get_or a.numbers l.i 0)) c.kind.ensures) c.put_field-to.ensures in
+    let e = value-next a.tag a.count l.i a.numbers (search rules) l.invariant.2 (search rules) in
     (putting-most ((l.i + 1) * 4) (omega arith) (putting-turn _ _ l.invariant.0 e q), search rules, l.invariant.2, l.invariant.3)
 
 pub shape_of-out : goal.shape_of-out

@@ -34,16 +34,16 @@ pub returns-then-size-eq0 : goal.returns-then-size-eq0
 returns-then-size-eq0 c = cuts _ _ _ _ _ _ _ _ c.loop-k.invariant.0 c.loop-k.invariant.1 _ (sized (goal.at.returns-then-size-eq0 c).After-front_size-size) (inl c.if-size-eq0.true)
 
 pub overflow_add-at : goal.overflow_add-at
-overflow_add-at c = let at = c.loop-k.at in let input = c.args.input.now in omega (arith, sized (goal.at.overflow_add-at c).After-front_size-size, front-most c.args.last (drop at input), length-drop at input, c.well-formed.1.0.0)
+overflow_add-at c = let at = c.loop-k.at in let input = c.args.input.now in omega (arith, sized (goal.at.overflow_add-at c).After-front_size-size, front-most c.args.last (drop at input), length-drop at input, c.well_formed.1.0.0)
 
 pub offset_bounds-ends-k : goal.offset_bounds-ends-k
-offset_bounds-ends-k c = let l = c.loop-k in omega (arith, l.invariant.0, c.loop-k-test.true, c.well-formed.1.1.1.0.1)
+offset_bounds-ends-k c = let l = c.loop-k in omega (arith, l.invariant.0, c.loop-k-test.true, c.well_formed.1.1.1.0.1)
 
 pub bounds-ends-k : goal.bounds-ends-k
 bounds-ends-k c = let l = c.loop-k in omega (arith, l.invariant.0, l.invariant.1.size, c.loop-k-test.true)
 
 pub overflow_add-k : goal.overflow_add-k
-overflow_add-k c = let l = c.loop-k in omega (arith, l.invariant.0, c.loop-k-test.true, c.well-formed.1.1.1.0.1)
+overflow_add-k c = let l = c.loop-k in omega (arith, l.invariant.0, c.loop-k-test.true, c.well_formed.1.1.1.0.1)
 
 pub loop-k-preserved : goal.loop-k-preserved
 loop-k-preserved c = (c.loop-k.invariant.0, cutting-goes _ _ _ _ _ _ _ c.loop-k.invariant.1 _ (sized (goal.at.loop-k-preserved c).After-front_size-size) c.loop-k-test.true c.if-size-eq0.false)

@@ -9,15 +9,8 @@ use lib.Seq.{sets}
 use borrow.Author.Rules.{rules}
 use Rattle.lines.proofs.Decimals.{Spelling, spelling-none, spelling-turn, spelling-done, spelling-some}
 use Rattle.lists.proofs.Stores.{sets-earlier}
+use Rattle.lines.proofs.spell.Invariants.{Spelled}
 use Rattle.lines.proofs.spell.Goals as goal
-
--- the digits spelled, behind place i of the buffer
-record Spelled (old : List ℕ) (end n : ℕ) (out : List ℕ) (i rest : ℕ) : Type 0 where
-  pub spelled : List ℕ
-  pub spelling : Spelling n rest spelled
-  pub place : i + 1 + length spelled ≡ end
-  pub text : out ≡ sets old (i + 1) spelled
-  pub long : length out ≡ length old
 
 pub overflow_sub-i : goal.overflow_sub-i
 overflow_sub-i c =

@@ -18,12 +18,12 @@ loop-i-preserved c =
     let l = c.loop-i in
     let a = c.args in
     let d = c.digits.ensures in
-    let e = length-next a.count l.i a.t2 l.invariant.2 l.invariant.1 (search rules) in
+    let e = length-next a.count l.i a.numbers l.invariant.2 l.invariant.1 (search rules) in
     (search rules, l.invariant.1, l.invariant.2, omega (arith, d.0, d.1, l.invariant.3), omega (arith, e, d.0, l.invariant.4))
 
 pub returns : goal.returns
 returns c =
     let l = c.loop-i in
     let a = c.args in
-    let e = ap length (text-end a.count l.i a.t2 l.invariant.2 l.invariant.1 l.invariant.0 (search rules)) in
+    let e = ap length (text-end a.count l.i a.numbers l.invariant.2 l.invariant.1 l.invariant.0 (search rules)) in
     (omega (arith, e, l.invariant.4), omega (arith, l.invariant.3, l.invariant.0, l.invariant.1))

@@ -6,8 +6,8 @@ use Rattle.positions.proofs.split_by.Goals as goal
 pub slice_bounds-split-end : goal.slice_bounds-split-end
 slice_bounds-split-end c =
     let a = c.args in
-    let long : length a.t1 ≡ 32 = search rules in
-    sym (length-take-le a.n a.t1 (omega arith))
+    let long : length a.sums ≡ 32 = search rules in
+    sym (length-take-le a.n a.sums (omega arith))
 
 pub slice_bounds-split-end-2 : goal.slice_bounds-split-end-2
 slice_bounds-split-end-2 c =

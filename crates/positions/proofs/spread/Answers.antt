@@ -25,7 +25,7 @@ loop-m-preserved c =
       omega arith,
       next,
       omega (arith, next, count_small (at.m + 1) (member a.set)),
-      front-turn _ _ at.m _ (placed a.set a.t1) at.invariant.3 (placed-is a.set at.m at.j _ a.t1 _ c.has-is.ensures at.invariant.1 c.number_if.ensures),
+      front-turn _ _ at.m _ (placed a.set a.xs) at.invariant.3 (placed-is a.set at.m at.j _ a.xs _ c.has-is.ensures at.invariant.1 c.number_if.ensures),
     )
 
 pub returns : goal.returns

@@ -8,7 +8,7 @@ abbrev pub invariant-loop-d : goal.invariant-loop-d
 invariant-loop-d l =
     (l.d ≤ l.records)
     × (l.at ≡ size l.n * l.d)
-    × (taken l.n (record { l.row = l.initial.next; l.ring = l.initial.ring; l.sums = l.initial.sums }) 0 (days_of l.n l.bytes) ≡ taken l.n (record { l.row = l.next; l.ring = l.ring; l.sums = l.sums }) l.at (drop l.d (days_of l.n l.bytes)))
+    × (taken l.n (record { row = l.initial.next; ring = l.initial.ring; sums = l.initial.sums }) 0 (days_of l.n l.bytes) ≡ taken l.n (record { row = l.next; ring = l.ring; sums = l.sums }) l.at (drop l.d (days_of l.n l.bytes)))
 
 abbrev pub decreases-loop-d : goal.decreases-loop-d
 decreases-loop-d l = l.records - l.d

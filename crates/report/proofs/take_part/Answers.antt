@@ -33,13 +33,13 @@ pub slice_bounds-take_fields-end-in-loop-used : goal.slice_bounds-take_fields-en
 slice_bounds-take_fields-end-in-loop-used c = let w = c.loop-used.invariant.2 in search (rules, w)
 
 pub slice_bounds-write_answers-end : goal.slice_bounds-write_answers-end
-slice_bounds-write_answers-end c = let w = c.take_fields-front.auto.1.1.1.0 ∙ c.loop-used.invariant.1 in search (rules, w)
+slice_bounds-write_answers-end c = let w = c.take_fields-front.auto.ends ∙ c.loop-used.invariant.1 in search (rules, w)
 
 pub slice_bounds-write_answers-end-in-loop-used : goal.slice_bounds-write_answers-end-in-loop-used
-slice_bounds-write_answers-end-in-loop-used c = let w = c.take_fields-front.auto.1.1.1.1.0 ∙ c.loop-used.invariant.2 in search (rules, w)
+slice_bounds-write_answers-end-in-loop-used c = let w = c.take_fields-front.auto.answers ∙ c.loop-used.invariant.2 in search (rules, w)
 
 pub overflow_add-used : goal.overflow_add-used
-overflow_add-used c = let l = c.loop-used in omega (arith, (used-within _ _ _ _ _ _ _ l.invariant.0 (bytes (goal.at.overflow_add-used c).After-shared_slice_known-1) _ _ _ _ _ (lent _ c.args.input.now l.used _ _ _ _ _ _ c.take_fields-front.ensures)).0, c.well-formed.1.0.0)
+overflow_add-used c = let l = c.loop-used in omega (arith, (used-within _ _ _ _ _ _ _ l.invariant.0 (bytes (goal.at.overflow_add-used c).After-shared_slice_known-1) _ _ _ _ _ (lent _ c.args.input.now l.used _ _ _ _ _ _ c.take_fields-front.ensures)).0, c.well_formed.1.0.0)
 
 pub loop-used-smaller : goal.loop-used-smaller
 loop-used-smaller c = let l = c.loop-used in omega (arith, used-within _ _ _ _ _ _ _ l.invariant.0 (bytes (goal.at.loop-used-smaller c).After-shared_slice_known-1) _ _ _ _ _ (lent _ c.args.input.now l.used _ _ _ _ _ _ c.take_fields-front.ensures), c.if-n-eq0.false)
@@ -48,8 +48,8 @@ pub loop-used-preserved : goal.loop-used-preserved
 loop-used-preserved c =
     let l = c.loop-used in (
       goes _ _ _ _ _ _ _ l.invariant.0 (bytes (goal.at.loop-used-preserved c).After-shared_slice_known-1) _ _ _ _ _ (lent _ c.args.input.now l.used _ _ _ _ _ _ c.take_fields-front.ensures) _ _ c.write_answers-written.ensures,
-      c.take_fields-front.auto.1.1.1.0 ∙ l.invariant.1,
-      c.take_fields-front.auto.1.1.1.1.0 ∙ l.invariant.2,
+      c.take_fields-front.auto.ends ∙ l.invariant.1,
+      c.take_fields-front.auto.answers ∙ l.invariant.2,
     )
 
 pub shape_of-out-after-loop-used : goal.shape_of-out-after-loop-used

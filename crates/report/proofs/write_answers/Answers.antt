@@ -23,7 +23,7 @@ loop-k-preserved c =
     let line : s_line (c.byte_at.result ∷ []) c.byte_at-in-loop-k.result ≡ f l.k = rw (c.byte_at.ensures, c.byte_at-in-loop-k.ensures, l.invariant.1) in (
       search rules,
       rw (add-one l.k) c.end_at-start.ensures,
-      c.write_answer-to.auto.1.1.0 ∙ l.invariant.2,
+      c.write_answer-to.auto.out ∙ l.invariant.2,
       line-next (f l.k) (tab_from (l.k + 1) a.n f) l.out l.to _ _ (c.write_answer-to.ensures ∙ ap (λ (x : Line). placed (line_text x) l.out l.to) line)
           ∙ ap (λ (ls : List Line). placed_lines ls l.out l.to) (sym (from_next l.k a.n f (search rules)))
           ∙ l.invariant.3,

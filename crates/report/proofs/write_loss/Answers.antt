@@ -10,4 +10,4 @@ pub returns : goal.returns
 returns c =
     let a = c.args in
     c.write_line.ensures
-    ∙ ap (λ (l : Line). placed (line_text l) a.out.now a.at) (l-line a.result (search rules))
+    ∙ ap (λ (l : Line). placed (line_text l) a.out.now a.at) (l-line a.res (search rules))

@@ -9,4 +9,4 @@ pub returns : goal.returns
 returns c =
     let a = c.args in
     c.write_line.ensures
-    ∙ ap (λ (l : Line). placed (line_text l) a.out.now a.at) (m-line a.result a.m _ _ _ c.rank_at.ensures c.number_at.ensures c.number_at-2.ensures)
+    ∙ ap (λ (l : Line). placed (line_text l) a.out.now a.at) (m-line a.res a.m _ _ _ c.rank_at.ensures c.number_at.ensures c.number_at-2.ensures)

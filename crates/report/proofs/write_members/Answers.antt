@@ -41,7 +41,7 @@ loop-left-preserved c =
     let a = c.args in
     let l = c.loop-left in
     let t = turn (goal.at.loop-left-preserved c).After-without_least-left in
-    let f = m_line_of a.result in (
+    let f = m_line_of a.res in (
       omega arith,
       search rules,
       line-next (f c.next-m.result) (map f (members c.without_least-left.result)) l.out l.to _ _ c.write_member-to.ensures
@@ -54,5 +54,5 @@ returns c =
     let a = c.args in
     let l = c.loop-left in
     lines_none l.out l.to
-    ∙ ap (λ (ms : List ℕ). placed_lines (map (m_line_of a.result) ms) l.out l.to) (sym (ap members c.loop-left-test.false ∙ members-none))
+    ∙ ap (λ (ms : List ℕ). placed_lines (map (m_line_of a.res) ms) l.out l.to) (sym (ap members c.loop-left-test.false ∙ members-none))
     ∙ l.invariant.2

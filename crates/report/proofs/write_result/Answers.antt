@@ -12,5 +12,5 @@ pub returns : goal.returns
 returns c =
     let a = c.args in
     c.write_members.ensures
-    ∙ line-next (l_line_of a.result) (map (m_line_of a.result) (members a.set)) a.out.now a.at _ _ c.write_loss-to.ensures
-    ∙ ap (λ (ls : List Line). placed_lines ls a.out.now a.at) (result-lines a.result a.set)
+    ∙ line-next (l_line_of a.res) (map (m_line_of a.res) (members a.set)) a.out.now a.at _ _ c.write_loss-to.ensures
+    ∙ ap (λ (ls : List Line). placed_lines ls a.out.now a.at) (result-lines a.res a.set)

@@ -15,9 +15,9 @@ pub loop-i-preserved : goal.loop-i-preserved
 loop-i-preserved c =
     let l = c.loop-i in
     let a = c.args in
-    let e = four-next a.count a.t4 (search rules) l.i (search rules) in
+    let e = four-next a.count a.numbers (search rules) l.i (search rules) in
     let done = l.invariant.0.put in
-    let put = put-into 4 (bytes_of 4 (get_or a.t4 l.i 0)) (four-long _) (omega (arith, done.behind, done.short, done.same, l.invariant.1, l.invariant.2, l.invariant.3)) c.write_four-to.ensures in
+    let put = put-into 4 (bytes_of 4 (get_or a.numbers l.i 0)) (four-long _) (omega (arith, done.behind, done.short, done.same, l.invariant.1, l.invariant.2, l.invariant.3)) c.write_four-to.ensures in
     (putting-most ((l.i + 1) * 4) (omega arith) (putting-turn _ _ l.invariant.0 e put), search rules, l.invariant.2, l.invariant.3)
 
 pub shape_of-out : goal.shape_of-out
@@ -27,4 +27,4 @@ pub returns : goal.returns
 returns c =
     let l = c.loop-i in
     let a = c.args in
-    putting-end 128 (omega (arith, l.invariant.1, l.invariant.2)) (four-none a.count a.t4 (search rules) l.i l.invariant.1 (omega arith)) l.invariant.0
+    putting-end 128 (omega (arith, l.invariant.1, l.invariant.2)) (four-none a.count a.numbers (search rules) l.i l.invariant.1 (omega arith)) l.invariant.0

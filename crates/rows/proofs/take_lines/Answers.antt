@@ -53,7 +53,7 @@ loop-day-preserved c =
     let w = c.put_numbers-to in (
       days-go _ _ _ _ _ _ _ _ l.day l.invariant.0 l.invariant.1 c.loop-day-test.true _ _ w.ensures,
       next-lent _ _ _ _ (l.used + l.day.size) _ c.next_day-day-in-loop-day.ensures,
-      w.auto.0 ∙ l.invariant.2,
+      w.auto.out ∙ l.invariant.2,
     )
 
 pub shape_of-out : goal.shape_of-out

@@ -19,7 +19,7 @@ pub loop-i-preserved : goal.loop-i-preserved
 loop-i-preserved c =
     let l = c.loop-i in
     let a = c.args in
-    let e = items-next a.tag a.count l.i a.t5 (search rules) l.invariant.2 (search rules) in
+    let e = items-next a.tag a.count l.i a.numbers (search rules) l.invariant.2 (search rules) in
     (putting-most ((l.i + 1) * 708) (omega arith) (putting-turn _ _ l.invariant.0 e c.put_item-to.ensures), search rules, l.invariant.2, l.invariant.3, l.invariant.4)
 
 pub put-requires : goal.put-requires
@@ -34,5 +34,5 @@ pub returns : goal.returns
 returns c =
     let l = c.loop-i in
     let a = c.args in
-    let e = items-none a.tag a.count l.i a.t5 (search rules) l.invariant.2 l.invariant.1 (search rules) in
+    let e = items-none a.tag a.count l.i a.numbers (search rules) l.invariant.2 l.invariant.1 (search rules) in
     put_as 5665 (omega (arith, l.invariant.1, l.invariant.2)) refl (putting-last l.invariant.0 (put_as 1 (omega arith) e c.put.ensures))

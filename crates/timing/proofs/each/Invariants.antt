@@ -5,7 +5,7 @@ use Rattle.timing.proofs.Turns.{Going}
 use Rattle.timing.proofs.each.Given as goal
 
 abbrev pub invariant-loop-k : goal.invariant-loop-k
-invariant-loop-k l = Going (record { l.present = l.present; l.case = l.kept }) l.res l.bytes l.ends l.initial.numbers l.numbers l.case l.at l.k
+invariant-loop-k l = Going (record { present = l.present; case = l.kept }) l.res l.bytes l.ends l.initial.numbers l.numbers l.case l.at l.k
 
 abbrev pub decreases-loop-k : goal.decreases-loop-k
 decreases-loop-k l = length l.ends - l.k

@@ -16,10 +16,6 @@ next-taken c =
     taken c.loop-left.left _ _ c.loop-left-test.true c.loop-left.invariant.0 c.next-m.ensures
     c.without_least-left.ensures
 
--- the place at which a turn's member was taken off
-abbrev off : tie.After-charge-of invariant-loop decreases-loop → tie.After-without-least invariant-loop decreases-loop
-off c = c.before.before.before
-
 pub smaller-whole-requires : goal.smaller-whole-requires
 smaller-whole-requires c = tt
 
@@ -39,17 +35,17 @@ pub charge_of-requires : goal.charge_of-requires
 charge_of-requires c = ((next-taken (goal.at.charge_of-requires c).After-without_least-left).below, omega (arith, c.smaller-whole.ensures))
 
 pub offset_bounds-out-m : goal.offset_bounds-out-m
-offset_bounds-out-m c = omega (arith, next-taken (off c))
+offset_bounds-out-m c = omega (arith, next-taken (goal.at.offset_bounds-out-m c).After-without_least-left)
 
 pub bounds-out-m : goal.bounds-out-m
-bounds-out-m c = (next-taken (off c)).below
+bounds-out-m c = (next-taken (goal.at.bounds-out-m c).After-without_least-left).below
 
 pub loop-left-smaller : goal.loop-left-smaller
-loop-left-smaller c = (next-taken (off c)).shorter
+loop-left-smaller c = (next-taken (goal.at.loop-left-smaller c).After-without_least-left).shorter
 
 pub loop-left-preserved : goal.loop-left-preserved
-loop-left-preserved c = let k = off c in
-    (omega (arith, k), rw c.charge_of.ensures (rw (next-taken k).cons at k.before.before.before.loop.inv.1))
+loop-left-preserved c = let k = (goal.at.loop-left-preserved c).After-without_least-left in
+    (omega arith, rw c.charge_of.ensures (rw (next-taken k).cons at c.loop-left.invariant.1))
 
 pub returns : goal.returns
 unfolding charges_of

@@ -33,8 +33,8 @@ bounds-charges-i c = omega arith
 pub offset_bounds-limits-i-in-loop-i : goal.offset_bounds-limits-i-in-loop-i
 offset_bounds-limits-i-in-loop-i c = omega arith
 
-pub bounds-limits-i : goal.bounds-limits-i
-bounds-limits-i c = omega arith
+pub bounds-limits-i-in-loop-i : goal.bounds-limits-i-in-loop-i
+bounds-limits-i-in-loop-i c = omega arith
 
 pub less-rest-requires : goal.less-rest-requires
 less-rest-requires c = tt

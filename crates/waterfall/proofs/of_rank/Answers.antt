@@ -13,10 +13,6 @@ next-taken c =
     taken c.loop-left.left _ _ c.loop-left-test.true c.loop-left.invariant.0 c.next-m.ensures
     c.without_least-left.ensures
 
--- the place at which a turn's member was taken off
-abbrev off : tie.After-holding-if invariant-loop decreases-loop → tie.After-without-least invariant-loop decreases-loop
-off c = c.before.before.before.before
-
 pub loop-left-init : goal.loop-left-init
 loop-left-init c = (c.ranges.set.fits, written c.args.set _)
 
@@ -45,17 +41,17 @@ pub holding_if-requires : goal.holding_if-requires
 holding_if-requires c = tt
 
 pub offset_bounds-out-m : goal.offset_bounds-out-m
-offset_bounds-out-m c = omega (arith, next-taken (off c))
+offset_bounds-out-m c = omega (arith, next-taken (goal.at.offset_bounds-out-m c).After-without_least-left)
 
 pub bounds-out-m : goal.bounds-out-m
-bounds-out-m c = (next-taken (off c)).below
+bounds-out-m c = (next-taken (goal.at.bounds-out-m c).After-without_least-left).below
 
 pub loop-left-smaller : goal.loop-left-smaller
-loop-left-smaller c = (next-taken (off c)).shorter
+loop-left-smaller c = (next-taken (goal.at.loop-left-smaller c).After-without_least-left).shorter
 
 pub loop-left-preserved : goal.loop-left-preserved
-loop-left-preserved c = let k = off c in
-    (omega (arith, k), rw (c.holding_if.ensures, c.wide.ensures.0) (rw (next-taken k).cons at k.before.before.before.loop.inv.1))
+loop-left-preserved c = let k = (goal.at.loop-left-preserved c).After-without_least-left in
+    (omega arith, rw (c.holding_if.ensures, c.wide.ensures.0) (rw (next-taken k).cons at c.loop-left.invariant.1))
 
 pub returns : goal.returns
 returns c = rw (c.loop-left-test.false, members-none) at c.loop-left.invariant.1

@@ -26,15 +26,15 @@ pub returns-then-not-right_length : goal.returns-then-not-right_length
 unfolding asked
 returns-then-not-right_length c =
     let size = sym c.two.ensures ∙ c.if-two-v.false in
-    sym (decode-length _ _ refl (omega arith) (omega arith) (omega arith) size (sym c.right_length.ensures ∙ not-true c.right_length.result c.if-not-right_length.true))
+    sym (decode-length _ _ refl (omega arith) (omega arith) (omega arith) size (sym c.right_length.ensures ∙ c.if-not-right_length.true))
 
 pub read_value-requires : goal.read_value-requires
 read_value-requires c =
-    (omega arith, omega arith, sym c.right_length.ensures ∙ not-false c.right_length.result c.if-not-right_length.false)
+    (omega arith, omega arith, sym c.right_length.ensures ∙ c.if-not-right_length.false)
 
 pub returns : goal.returns
 returns c =
     let size = sym c.two.ensures ∙ c.if-two-v.false in
     c.read_value.ensures
     ∙ sym (decode_call _ _ refl (omega arith) (omega arith) (omega arith) size
-    (sym c.right_length.ensures ∙ not-false c.right_length.result c.if-not-right_length.false))
+    (sym c.right_length.ensures ∙ c.if-not-right_length.false))

@@ -9,7 +9,7 @@ use Rattle.accounts.specs.Bids.{gain_at}
 use Rattle.accounts.proofs.bids.Bids.gain_table.Given as goal
 
 abbrev pub invariant-loop-i : goal.invariant-loop-i
-invariant-loop-i l = (l.i ≤ l.n) × (l.out ≡ tallied 32 (λ l.i. get_or l.self.member l.i 0) (gain_at l.self l.worsts) most64 (places l.n) l.i)
+invariant-loop-i l = (l.i ≤ l.n) × (l.out ≡ tallied 32 (λ i. get_or l.self.member i 0) (gain_at l.self l.worsts) most64 (places l.n) l.i)
 
 abbrev pub decreases-loop-i : goal.decreases-loop-i
 decreases-loop-i l = l.n - l.i

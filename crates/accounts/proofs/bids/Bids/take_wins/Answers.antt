@@ -26,13 +26,13 @@ unfolding in_round_at
 loop-i-preserved c = let at = c.loop-i in
     let s = c.args in
     let same = at.invariant.3 at.i (omega arith) in
-    let win = of_four s.t3 s.t4 s.t5 s.t6 (get_or s.t1.pool at.i 0) at.i in (
+    let win = of_four s.a s.b s.c s.d (get_or s.self.pool at.i 0) at.i in (
       omega arith,
       simp length-set (omega arith),
       filled_next _ 0 at.won at.i _ (omega arith) at.invariant.2
           (c.chosen.ensures
           ∙ rw (same, c.narrow16.ensures, c.of_pool-win.ensures, c.in_round-here.ensures, win)),
-      unfilled-next 0 at.won s.t1.won at.i _ at.invariant.3,
+      unfilled-next 0 at.won s.self.won at.i _ at.invariant.3,
     )
 
 pub returns : goal.returns
