@@ -125,8 +125,8 @@ pub fn run(rt: HostRuntime, buf: &mut [u8], out: &mut [u8]) -> bool {
     feed::flush(rt, out, n, b"ledger: standard output") == 0
 }
 
-// The same with buffers of its own: the body of the program `ledger`, and for C, whose `main` can give a status.
-pub extern "C" fn ledger_stream(rt: HostRuntime) -> bool {
+// The same with buffers of its own: the body of the program `ledger`, and what the library for C exports, whose `main` can give a status.
+pub fn ledger_stream(rt: HostRuntime) -> bool {
     let mut buf = [0u8; 131072];
     let mut out = [0u8; 524288];
     run(rt, &mut buf, &mut out)

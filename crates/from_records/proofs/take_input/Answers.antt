@@ -11,9 +11,6 @@ pub loop-turns-init : goal.loop-turns-init
 unfolding no_days
 loop-turns-init c = (fed-none _ c.requires _ _ refl, refl)
 
-pub shape_of-buf-then-more-eq0 : goal.shape_of-buf-then-more-eq0
-shape_of-buf-then-more-eq0 c = c.read_more-got.auto.0 ∙ c.loop-turns.invariant.1
-
 pub returns-then-more-eq0 : goal.returns-then-more-eq0
 returns-then-more-eq0 c =
     let l = c.loop-turns in

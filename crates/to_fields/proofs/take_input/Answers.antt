@@ -10,13 +10,6 @@ use Rattle.to_fields.proofs.take_input.Goals as goal
 pub loop-turns-init : goal.loop-turns-init
 loop-turns-init c = (fed-none _, search rules, refl, refl)
 
-pub shape_of-buf-then-more-eq0 : goal.shape_of-buf-then-more-eq0
-shape_of-buf-then-more-eq0 c =
-    c.read_more-got.auto.0 ∙ c.loop-turns.invariant.2
-
-pub shape_of-out-then-more-eq0 : goal.shape_of-out-then-more-eq0
-shape_of-out-then-more-eq0 c = c.loop-turns.invariant.3
-
 pub returns-then-more-eq0 : goal.returns-then-more-eq0
 returns-then-more-eq0 c =
     let l = c.loop-turns in
@@ -32,14 +25,6 @@ take_turn-turn-requires c =
     let l = c.loop-turns in
     let r = c.read_more-got in
     (omega (arith, r.ensures.room, l.invariant.0.fits, r.auto.0), omega (arith, c.requires, l.invariant.3))
-
-pub shape_of-buf-then-stops : goal.shape_of-buf-then-stops
-shape_of-buf-then-stops c =
-    c.take_turn-turn.auto.1.0 ∙ c.read_more-got.auto.0 ∙ c.loop-turns.invariant.2
-
-pub shape_of-out-then-stops : goal.shape_of-out-then-stops
-shape_of-out-then-stops c =
-    c.take_turn-turn.auto.1.1.1.0 ∙ c.loop-turns.invariant.3
 
 pub returns-then-stops : goal.returns-then-stops
 returns-then-stops c =
@@ -63,12 +48,6 @@ loop-turns-preserved c =
       t.auto.1.0 ∙ r.auto.0 ∙ l.invariant.2,
       t.auto.1.1.1.0 ∙ l.invariant.3,
     )
-
-pub shape_of-buf : goal.shape_of-buf
-shape_of-buf c = c.loop-turns.invariant.2
-
-pub shape_of-out : goal.shape_of-out
-shape_of-out c = c.loop-turns.invariant.3
 
 pub returns : goal.returns
 returns c = record { fed = λ good. c.loop-turns.invariant.0; room = λ ends. absurd (false≢true ends) }

@@ -11,13 +11,6 @@ use Rattle.to_text.proofs.take_input.Goals as goal
 pub loop-turns-init : goal.loop-turns-init
 loop-turns-init c = (fed-none _, refl, refl)
 
-pub shape_of-buf-then-more-eq0 : goal.shape_of-buf-then-more-eq0
-shape_of-buf-then-more-eq0 c =
-    c.read_more-got.auto.0 ∙ c.loop-turns.invariant.1
-
-pub shape_of-out-then-more-eq0 : goal.shape_of-out-then-more-eq0
-shape_of-out-then-more-eq0 c = c.loop-turns.invariant.2
-
 pub returns-then-more-eq0 : goal.returns-then-more-eq0
 returns-then-more-eq0 c =
     λ ends. fed-read rest _ c.loop-turns.buf _ c.loop-turns.len c.loop-turns.invariant.0 c.read_more-got.ensures.front c.read_more-got.auto.0
@@ -32,14 +25,6 @@ take_turn-turn-requires c =
     let r = c.read_more-got in
     (omega (arith, r.ensures.room, l.invariant.0.fits, r.auto.0), omega (arith, c.requires, l.invariant.2))
 
-pub shape_of-buf-then-turn : goal.shape_of-buf-then-turn
-shape_of-buf-then-turn c =
-    c.take_turn-turn.auto.0 ∙ c.read_more-got.auto.0 ∙ c.loop-turns.invariant.1
-
-pub shape_of-out-then-turn : goal.shape_of-out-then-turn
-shape_of-out-then-turn c =
-    c.take_turn-turn.auto.1.1.0 ∙ c.loop-turns.invariant.2
-
 pub returns-then-turn : goal.returns-then-turn
 returns-then-turn c = λ ends. absurd (false≢true ends)
 
@@ -52,12 +37,6 @@ loop-turns-preserved c =
       t.auto.0 ∙ r.auto.0 ∙ l.invariant.1,
       t.auto.1.1.0 ∙ l.invariant.2,
     )
-
-pub shape_of-buf : goal.shape_of-buf
-shape_of-buf c = c.loop-turns.invariant.1
-
-pub shape_of-out : goal.shape_of-out
-shape_of-out c = c.loop-turns.invariant.2
 
 pub returns : goal.returns
 returns c = λ ends. absurd (false≢true ends)
