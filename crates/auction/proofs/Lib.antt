@@ -8,4 +8,3 @@ pub mod Cents
 pub mod Examples
 pub mod Signed
 pub mod Lending
-pub mod Arrays

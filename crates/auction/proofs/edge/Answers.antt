@@ -6,14 +6,13 @@ use Rattle.auction.proofs.Levels.{from_le, from_nothing}
 use Rattle.auction.proofs.edge.Goals as goal
 
 pub loop-low-init : goal.loop-low-init
-loop-low-init c =
-    (
-      omega arith,
-      omega arith,
-      omega arith,
-      omega (arith, from_nothing c.args.units.now c.args.prices.now 2000001 (λ i. omega (arith, c.requires.bids.prices i))),
-      λ p h l. absurd (omega arith),
-    )
+loop-low-init c = (
+  omega arith,
+  omega arith,
+  omega arith,
+  omega (arith, from_nothing c.args.units.now c.args.prices.now 2000001 (λ i. omega (arith, c.requires.bids.prices i))),
+  λ p h l. absurd (omega arith),
+)
 
 pub loop-low-smaller-then-units_from-open_units : goal.loop-low-smaller-then-units_from-open_units
 loop-low-smaller-then-units_from-open_units c = omega arith

@@ -1,6 +1,5 @@
 -- `auction::prices_fit` meets its contract. The invariant: all the prices are within the limit exactly if those left to look at are. Assumes nothing.
 use mathlib.Core.Path.{refl, sym, ◌∙◌}
-use Prim.Native.Nat.{◌-◌}
 use native.Mathlib.Omega.{arith}
 use borrow.Author.Rules.{rules}
 use borrow.Author.Tests.{le-leb, lt-leb}

@@ -9,7 +9,7 @@ use Rattle.auction.proofs.run.Goals as goal
 pub allot_within-requires : goal.allot_within-requires
 allot_within-requires c =
     let a = c.args in
-    let w = refusal-within a.least a.places a.open-units a.reserve a.units.now a.prices.now (length a.counts.now) (omega arith) in
+    let w = refusal-within a.least a.places a.open_units a.reserve a.units.now a.prices.now (length a.counts.now) (omega arith) in
     record { ready = within-ready _ _ _ _ _ _ _ c.requires w; won_len = w.counted }
 
 pub returns-then-why-eq0 : goal.returns-then-why-eq0

@@ -1,6 +1,5 @@
 -- `auction::settle` meets its contract. The invariant: the places passed are settled, the others hold their shares. Assumes nothing.
 use mathlib.Core.Path.{refl, ◌∙◌}
-use Prim.Native.Nat.{◌-◌}
 use native.Mathlib.Omega.{arith}
 use lib.ListN.{length-set}
 use lib.Seq.{get_or-set_other}

@@ -1,6 +1,5 @@
 -- `auction::units_from` meets its contract. The invariant: the units counted so far, at most 1000 for each place. Assumes nothing.
 use mathlib.Core.Path.{◌≡◌}
-use Prim.Native.Nat.{◌-◌}
 use native.Mathlib.Omega.{arith}
 use lib.ListN.{length}
 use Rattle.lists.proofs.Sums.{sum_to-none, sum_to-next}

@@ -1,5 +1,4 @@
 -- `auction::weigh` meets its contract. The invariant: the places passed hold their weights. Assumes nothing.
-use Prim.Native.Nat.{◌-◌}
 use native.Mathlib.Omega.{arith}
 use lib.ListN.{length-set}
 use borrow.Author.Count.{below_none}

@@ -5,7 +5,7 @@ use Rattle.forms.proofs.raw.Goals as goal
 
 pub returns-then-kind-eq5 : goal.returns-then-kind-eq5
 unfolding raw_of
-returns-then-kind-eq5 c = rw (eq-eqb _ _ c.if-kind-eq5.true) c.wrapping_add_u32.ensures
+returns-then-kind-eq5 c = rw (eq-eqb _ _ c.if-kind-eq5.true) c.wrapping_add_u32.ensures.value
 
 pub returns-else-kind-eq5 : goal.returns-else-kind-eq5
 unfolding raw_of

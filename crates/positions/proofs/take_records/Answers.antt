@@ -1,6 +1,5 @@
 -- `positions::take_records` meets its contract. The invariant: what is left of the records goes on from what is kept. Assumes nothing.
 use Rattle.std.proofs.Common.{◌+◌, ◌-◌, length, drop, sym, refl, ap, ◌∙◌, mul-zero, div-le_self, arith, rules}
-use borrow.Author.Tests.{not-true, not-false}
 use Rattle.positions.specs.Days.{size, days_of}
 use Rattle.positions.specs.Keeping.{taken}
 use Rattle.positions.proofs.Days.{next-at, record-fits}
@@ -18,7 +17,7 @@ in_range-requires c =
 pub returns-then-not-in_range : goal.returns-then-not-in_range
 returns-then-not-in_range c =
     let at = c.loop-d in
-    let bad = sym c.in_range.ensures ∙ not-true _ c.if-not-in_range.true in
+    let bad = sym c.in_range.ensures ∙ c.if-not-in_range.true in
     sym (at.invariant.2 ∙ taken-stop c.args.n c.args.bytes.now _ at.at at.d c.loop-d-test.true at.invariant.1 bad)
 
 pub next_day-next-requires : goal.next_day-next-requires
@@ -40,7 +39,7 @@ loop-d-preserved c =
     let n = c.args.n in
     let bytes = c.args.bytes.now in
     let at = c.loop-d in
-    let good = sym c.in_range.ensures ∙ not-false _ c.if-not-in_range.false in (
+    let good = sym c.in_range.ensures ∙ c.if-not-in_range.false in (
       omega (arith, c.loop-d-test.true),
       ap (λ k. k + size n) at.invariant.1 ∙ sym (next-at n bytes at.d),
       at.invariant.2

@@ -45,3 +45,8 @@ returns c =
     let k = c.args.k in
     let e : l.j ≡ length (get_or pieces k []) = omega (arith, i.1, i.3, piece-long k i.4) in
     putting-end 16 (omega (arith, i.1, i.3, lengths-small k)) (ap (λ (j : ℕ). drop j (get_or pieces k [])) e ∙ drop-length (get_or pieces k [])) i.0
+
+pub bounds-start : goal.bounds-start
+bounds-start c =
+    let l = c.loop-j.invariant in
+    rw l.2 (letter-in _ c.loop-j.j l.4 (rw l.3 at c.loop-j-test.true))

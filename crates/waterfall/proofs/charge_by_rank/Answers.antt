@@ -49,6 +49,6 @@ loop-left-preserved c = let k = (goal.at.loop-left-preserved c).After-without_le
 
 pub returns : goal.returns
 unfolding charges_of
-returns c =    (rw (c.loop-left-test.false, members-none) at c.loop-left.invariant.1)
+returns c = (rw (c.loop-left-test.false, members-none) at c.loop-left.invariant.1)
     ∙ charges-of-members c.args.set _ _ _
     ∙ rw c.smaller-whole.ensures

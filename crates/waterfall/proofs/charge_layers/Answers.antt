@@ -46,11 +46,11 @@ pub loop-i-smaller : goal.loop-i-smaller
 loop-i-smaller c = omega arith
 
 pub loop-i-preserved : goal.loop-i-preserved
-loop-i-preserved c =    rw (c.less-rest.ensures, c.smaller.ensures)
+loop-i-preserved c = rw (c.less-rest.ensures, c.smaller.ensures)
     (turn c.args.loss c.args.limits c.loop-i.charges c.loop-i.rest c.loop-i.i
     (omega (arith, size (goal.at.loop-i-preserved c).Start)) c.loop-i.invariant)
 
 pub returns : goal.returns
-returns c =    let r = finish c.args.loss c.args.limits c.loop-i.charges c.loop-i.rest c.loop-i.i
+returns c = let r = finish c.args.loss c.args.limits c.loop-i.charges c.loop-i.rest c.loop-i.i
     (omega (arith, size (goal.at.returns c).Start)) c.loop-i.invariant in
     rw (r.0, r.1)

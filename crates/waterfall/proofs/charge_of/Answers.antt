@@ -10,7 +10,7 @@ overflow_sub-equal c = let s = c.args in
     omega (arith, c.held_from.ensures, c.held_from-junior.ensures, juniors-le s.set (rank_at s.ranks.now) (held_at s.holds.now) c.wide-r.result)
 
 pub returns : goal.returns
-returns c =    charge-is c.args.set c.args.amount c.args.m c.args.ranks.now c.args.holds.now c.wide-r.result
+returns c = charge-is c.args.set c.args.amount c.args.m c.args.ranks.now c.args.holds.now c.wide-r.result
     c.held_from-junior.result
     c.held_from.result
     c.smaller-due.result

@@ -68,7 +68,7 @@ overflow_add-total c =
     omega (
       arith,
       small c.args.ranks.now c.args.holds.now c.args.r c.args.set c.loop-left.total c.loop-left.left c.without_least-left.result c.next-m.result c.holding_if-total.result c.loop-left.invariant
-      (next-taken (goal.at.overflow_add-total c).After-without_least-left) added,
+          (next-taken (goal.at.overflow_add-total c).After-without_least-left) added,
     )
 
 pub loop-left-smaller : goal.loop-left-smaller

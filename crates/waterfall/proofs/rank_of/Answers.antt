@@ -45,7 +45,7 @@ loop-left-smaller c = (next-taken (goal.at.loop-left-smaller c).After-without_le
 
 pub loop-left-preserved : goal.loop-left-preserved
 unfolding capped
-loop-left-preserved c =    rw (c.with_senior-seniors.ensures, c.performance_at.ensures)
+loop-left-preserved c = rw (c.with_senior-seniors.ensures, c.performance_at.ensures)
     (turn _ c.args.set _ _ _ _ c.loop-left.invariant (next-taken (goal.at.loop-left-preserved c).After-without_least-left) (omega (arith, c)))
 
 pub count-requires : goal.count-requires

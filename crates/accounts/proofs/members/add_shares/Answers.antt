@@ -39,7 +39,7 @@ loop-left-smaller c = (next-taken (goal.at.loop-left-smaller c).After-without_le
 
 pub loop-left-preserved : goal.loop-left-preserved
 unfolding add_shares
-loop-left-preserved c =    let inv = c.loop-left.invariant in
+loop-left-preserved c = let inv = c.loop-left.invariant in
     let left = c.add_at16.ensures in (
       omega (arith, c),
       ap length left ∙ length-added _ _ _ _ ∙ inv.1,

@@ -42,7 +42,7 @@ loop-left-smaller c = (next-taken (goal.at.loop-left-smaller c).After-without_le
 
 pub loop-left-preserved : goal.loop-left-preserved
 unfolding shared_counts shared_sums
-loop-left-preserved c =    let k = next-taken (goal.at.loop-left-preserved c).After-without_least-left in
+loop-left-preserved c = let k = next-taken (goal.at.loop-left-preserved c).After-without_least-left in
     let l = c.loop-left in (
       omega (arith, c),
       rw c.transfer.ensures (rw k.cons at l.invariant.1),

@@ -15,7 +15,7 @@ pub loop-i-init : goal.loop-i-init
 loop-i-init c = (search rules, tallied-none 32 _ _ most64 (places c.used-n.result))
 
 pub slice_bounds-add_at-end : goal.slice_bounds-add_at-end
-slice_bounds-add_at-end c =    sym (ap length c.loop-i.invariant.1 ∙ tallied-long 32 _ _ most64 (places c.used-n.result) c.loop-i.i)
+slice_bounds-add_at-end c = sym (ap length c.loop-i.invariant.1 ∙ tallied-long 32 _ _ most64 (places c.used-n.result) c.loop-i.i)
 
 pub loop-i-preserved : goal.loop-i-preserved
 unfolding gain_at

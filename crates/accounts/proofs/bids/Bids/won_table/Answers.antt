@@ -15,7 +15,7 @@ pub loop-i-init : goal.loop-i-init
 loop-i-init c = (search rules, tallied-none 128 _ _ most16 (places c.used-n.result))
 
 pub slice_bounds-add_at16-end : goal.slice_bounds-add_at16-end
-slice_bounds-add_at16-end c =    sym (ap length c.loop-i.invariant.1 ∙ tallied-long 128 _ _ most16 (places c.used-n.result) c.loop-i.i)
+slice_bounds-add_at16-end c = sym (ap length c.loop-i.invariant.1 ∙ tallied-long 128 _ _ most16 (places c.used-n.result) c.loop-i.i)
 
 pub loop-i-preserved : goal.loop-i-preserved
 loop-i-preserved c = let at = c.loop-i in

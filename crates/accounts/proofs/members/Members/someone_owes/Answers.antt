@@ -40,7 +40,7 @@ pub loop-left-smaller : goal.loop-left-smaller
 loop-left-smaller c = (next-taken (goal.at.loop-left-smaller c).After-without_least-left).shorter
 
 pub loop-left-preserved : goal.loop-left-preserved
-loop-left-preserved c =    rw (c.either-found.ensures, c.owed-due.ensures, c.has.ensures) (turn _ _ _ _ _ _ c.loop-left.invariant (next-taken (goal.at.loop-left-preserved c).After-without_least-left) (omega (arith, c)))
+loop-left-preserved c = rw (c.either-found.ensures, c.owed-due.ensures, c.has.ensures) (turn _ _ _ _ _ _ c.loop-left.invariant (next-taken (goal.at.loop-left-preserved c).After-without_least-left) (omega (arith, c)))
 
 pub returns : goal.returns
 unfolding someone_owes_in owes_of
