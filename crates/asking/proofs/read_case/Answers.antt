@@ -33,7 +33,7 @@ loop-turns-preserved c =
     let r = c.read-got in
     let t = c.take_turn-turn in (
       fed-turn l.buf _ _ l.held l.len r.result.len t.result.held t.result.len l.invariant.0 r.ensures.front
-          (λ k. omega arith) t.ensures,
+          (λ k. search rules) t.ensures,
       search rules,
     )
 

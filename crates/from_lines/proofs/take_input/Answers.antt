@@ -14,7 +14,7 @@ returns-then-more-eq0 c =
     let l = c.loop-turns in
     let r = c.read_more-got in
     record {
-      fed = λ ends. fed-read (rest _) _ l.buf _ l.len l.invariant.0 r.ensures.front r.auto.0;
+      fed = λ ends. fed-read (rest _) _ l.buf _ l.len l.invariant.0 r.ensures.front r.auto.buf;
       room = λ ends on. fed-room _ _ _ _ _ false l.invariant.0 refl;
     }
 
@@ -25,7 +25,7 @@ pub take_turn-turn-requires : goal.take_turn-turn-requires
 take_turn-turn-requires c =
     let l = c.loop-turns in
     let r = c.read_more-got in
-    (omega (arith, r.ensures.room, l.invariant.0.fits, r.auto.0), omega (arith, c.requires.1, l.invariant.2))
+    (omega (arith, r.ensures.room, l.invariant.0.fits, r.auto.buf), omega (arith, c.requires.1, l.invariant.2))
 
 pub returns-then-turn : goal.returns-then-turn
 returns-then-turn c =
@@ -33,7 +33,7 @@ returns-then-turn c =
     let r = c.read_more-got in
     let t = c.take_turn-turn in
     record {
-      fed = λ known. fed-turn _ l.buf _ _ _ _ l.lines l.len r.result.len _ true t.result l.invariant.0 r.ensures.front (λ k. omega (arith, c.slice_known-in-loop-turns-1.given k)) t.ensures c.if-turn.true;
+      fed = λ known. fed-turn _ l.buf _ _ _ _ l.lines l.len r.result.len _ true t.result l.invariant.0 r.ensures.front (λ k. search rules) t.ensures c.if-turn.true;
       room = λ known on. absurd (false≢true (sym on));
     }
 
@@ -42,9 +42,9 @@ loop-turns-preserved c =
     let l = c.loop-turns in
     let r = c.read_more-got in
     let t = c.take_turn-turn in (
-      fed-turn _ l.buf _ _ _ _ l.lines l.len r.result.len _ false t.result l.invariant.0 r.ensures.front (λ k. omega (arith, c.slice_known-in-loop-turns-1.given k)) t.ensures c.if-turn.false,
-      t.auto.1.1.1.0 ∙ r.auto.0 ∙ l.invariant.1,
-      t.auto.1.1.1.1.1.0 ∙ l.invariant.2,
+      fed-turn _ l.buf _ _ _ _ l.lines l.len r.result.len _ false t.result l.invariant.0 r.ensures.front (λ k. search rules) t.ensures c.if-turn.false,
+      t.auto.buf ∙ r.auto.buf ∙ l.invariant.1,
+      t.auto.out ∙ l.invariant.2,
     )
 
 pub returns : goal.returns

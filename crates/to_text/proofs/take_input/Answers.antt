@@ -13,7 +13,7 @@ loop-turns-init c = (fed-none _, refl, refl)
 
 pub returns-then-more-eq0 : goal.returns-then-more-eq0
 returns-then-more-eq0 c =
-    λ ends. fed-read rest _ c.loop-turns.buf _ c.loop-turns.len c.loop-turns.invariant.0 c.read_more-got.ensures.front c.read_more-got.auto.0
+    λ ends. fed-read rest _ c.loop-turns.buf _ c.loop-turns.len c.loop-turns.invariant.0 c.read_more-got.ensures.front c.read_more-got.auto.buf
 
 pub overflow_add-len : goal.overflow_add-len
 overflow_add-len c =
@@ -23,7 +23,7 @@ pub take_turn-turn-requires : goal.take_turn-turn-requires
 take_turn-turn-requires c =
     let l = c.loop-turns in
     let r = c.read_more-got in
-    (omega (arith, r.ensures.room, l.invariant.0.fits, r.auto.0), omega (arith, c.requires, l.invariant.2))
+    (omega (arith, r.ensures.room, l.invariant.0.fits, r.auto.buf), omega (arith, c.requires, l.invariant.2))
 
 pub returns-then-turn : goal.returns-then-turn
 returns-then-turn c = λ ends. absurd (false≢true ends)
@@ -33,9 +33,9 @@ loop-turns-preserved c =
     let l = c.loop-turns in
     let r = c.read_more-got in
     let t = c.take_turn-turn in (
-      fed-turn l.buf _ _ l.len r.result.len t.result.len l.invariant.0 r.ensures.front (λ k. omega (arith, c.slice_known-in-loop-turns-1.given k)) (t.ensures c.if-turn.false),
-      t.auto.0 ∙ r.auto.0 ∙ l.invariant.1,
-      t.auto.1.1.0 ∙ l.invariant.2,
+      fed-turn l.buf _ _ l.len r.result.len t.result.len l.invariant.0 r.ensures.front (λ k. search rules) (t.ensures c.if-turn.false),
+      t.auto.buf ∙ r.auto.buf ∙ l.invariant.1,
+      t.auto.out ∙ l.invariant.2,
     )
 
 pub returns : goal.returns

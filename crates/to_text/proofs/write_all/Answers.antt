@@ -16,10 +16,6 @@ slice_bounds-take_some-count c = c.loop-part.invariant.0.place
 pub slice_bounds-take_some-start : goal.slice_bounds-take_some-start
 slice_bounds-take_some-start c = let w = c.loop-part.invariant.0.place in search (rules, w)
 
-pub shape_of-out-then-part-eq0 : goal.shape_of-out-then-part-eq0
-shape_of-out-then-part-eq0 c =
-    c.take_some-part.auto.1.0 ∙ c.loop-part.invariant.1
-
 pub returns-then-part-eq0 : goal.returns-then-part-eq0
 returns-then-part-eq0 c =
     let l = c.loop-part in
@@ -32,10 +28,6 @@ overflow_add-used c =
     let l = c.loop-part in
     let t = c.take_some-part in
     let w = passed-within _ _ _ _ _ t.result l.invariant.0 (rest_all _ l.used) t.ensures in search (rules, w)
-
-pub shape_of-out-then-not-write_front : goal.shape_of-out-then-not-write_front
-shape_of-out-then-not-write_front c =
-    c.take_some-part.auto.1.0 ∙ c.loop-part.invariant.1
 
 pub returns-then-not-write_front : goal.returns-then-not-write_front
 returns-then-not-write_front c =
@@ -53,4 +45,4 @@ pub loop-part-preserved : goal.loop-part-preserved
 loop-part-preserved c =
     let l = c.loop-part in
     let t = c.take_some-part in
-    (passed-goes _ _ _ _ _ t.result l.invariant.0 (rest_all _ l.used) t.ensures, t.auto.1.0 ∙ l.invariant.1)
+    (passed-goes _ _ _ _ _ t.result l.invariant.0 (rest_all _ l.used) t.ensures, t.auto.out ∙ l.invariant.1)
