@@ -275,7 +275,14 @@ fn run_to_end(
 // Reads lines of positions from standard input to its end and gives each member its share of the units. Where a line is refused, that is told on standard error and
 // the shares are untouched; so they are where a read failed, which is told too. Nothing is read where the set or the units are declined, where the first buffer has
 // less than the 65,537 bytes that tell a line that is too long, or the second less than the 128 bytes that a record can have; none of these is told.
-pub fn run(rt: HostRuntime, set: u32, units: u64, buf: &mut [u8], out: &mut [u8], shares: &mut [u64; 32]) -> Outcome
+pub fn run(
+    rt: HostRuntime,
+    set: u32,
+    units: u64,
+    buf: &mut [u8],
+    out: &mut [u8],
+    shares: &mut [u64; 32],
+) -> Outcome
     ensures { Gives set units shares.old shares.new result }
 {
     let n = positions::count_of(set);
