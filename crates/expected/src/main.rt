@@ -287,7 +287,10 @@ fn declined(asked: Asked) -> bool {
 fn main(rt: HostRuntime) {
     let asked = read_words(rt);
     if !asked.good {
-        tell(rt, b"usage: expected members 0,1,2 units 40 [--text] < FILE\n");
+        tell(
+            rt,
+            b"usage: expected members 0,1,2 units 40 [--text] < FILE\n",
+        );
     } else if declined(asked) {
         tell(rt, b"declined by 5, units are 1 to 1000\n");
     } else {
