@@ -26,7 +26,7 @@ pub slice_bounds-take_fields-end-in-loop-used-2 : goal.slice_bounds-take_fields-
 slice_bounds-take_fields-end-in-loop-used-2 c = let w = c.loop-used.invariant.2 in search (rules, w)
 
 pub overflow_add-used : goal.overflow_add-used
-overflow_add-used c = let l = c.loop-used in omega (arith, within _ _ _ _ l.invariant.0 _ _ _ _ _ (lent _ c.args.input.now l.used _ _ _ _ _ _ c.take_fields-front.ensures), c.well-formed.1.0.0)
+overflow_add-used c = let l = c.loop-used in omega (arith, within _ _ _ _ l.invariant.0 _ _ _ _ _ (lent _ c.args.input.now l.used _ _ _ _ _ _ c.take_fields-front.ensures))
 
 pub loop-used-smaller : goal.loop-used-smaller
 loop-used-smaller c = let l = c.loop-used in omega (arith, within _ _ _ _ l.invariant.0 _ _ _ _ _ (lent _ c.args.input.now l.used _ _ _ _ _ _ c.take_fields-front.ensures), c.if-front-eq0.false)
