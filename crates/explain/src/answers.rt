@@ -302,7 +302,14 @@ fn requirement_line(answer: u8, book: Book) -> Line {
 }
 
 // The stage, the open units and the requirement after a call with this answer.
-pub fn write_state(rt: HostRuntime, answer: u8, present: bool, case: Case, out: &mut [u8], at: usize) -> usize {
+pub fn write_state(
+    rt: HostRuntime,
+    answer: u8,
+    present: bool,
+    case: Case,
+    out: &mut [u8],
+    at: usize,
+) -> usize {
     if !present {
         return fill(rt, out, at, plain(texts::NO_CASE));
     }
@@ -364,7 +371,7 @@ fn write_refusal(
     let at_fault = fault(present, book, call.tag, first, price, answer);
     let more = fill(rt, out, said, at_fault);
     if answer == 5 {
-        return crate::ranges::write_ranges(head.pools, call, out, more);
+        return crate::ranges::write_ranges(rt, head.pools, call, out, more);
     }
     if lists::both(present, answer == 2) {
         return fill(rt, out, more, stage_line(stage, rounds.held));

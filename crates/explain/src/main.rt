@@ -54,7 +54,15 @@ fn take_field(rt: HostRuntime, held: Held, bytes: &[u8], out: &mut [u8], at: usi
     let call = wire::read_call(bytes);
     let applied = case::take(held, call);
     let named = answers::write_call(rt, call, bytes, out, at);
-    let said = answers::write_answer(rt, held.present, held.case, call, applied.answer, out, named);
+    let said = answers::write_answer(
+        rt,
+        held.present,
+        held.case,
+        call,
+        applied.answer,
+        out,
+        named,
+    );
     let next = applied.held;
     let shown = answers::write_state(rt, applied.answer, next.present, next.case, out, said);
     Step {

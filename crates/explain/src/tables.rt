@@ -210,7 +210,14 @@ fn bid_rows(rt: HostRuntime, bids: Bids, round: u8, out: &mut [u8], at: usize) -
 }
 
 // The table of the bids of the open round, where there is one.
-fn write_bids(rt: HostRuntime, open: bool, round: u8, bids: Bids, out: &mut [u8], at: usize) -> usize {
+fn write_bids(
+    rt: HostRuntime,
+    open: bool,
+    round: u8,
+    bids: Bids,
+    out: &mut [u8],
+    at: usize,
+) -> usize {
     if !open {
         return at;
     }
@@ -246,7 +253,13 @@ fn layer_line(most: [u64; 6], charges: [u64; 6], k: usize) -> Line {
 }
 
 // The rows of the six layers.
-fn layer_rows(rt: HostRuntime, most: [u64; 6], charges: [u64; 6], out: &mut [u8], at: usize) -> usize {
+fn layer_rows(
+    rt: HostRuntime,
+    most: [u64; 6],
+    charges: [u64; 6],
+    out: &mut [u8],
+    at: usize,
+) -> usize {
     let mut to = at;
     let mut k: usize = 0;
     while k < 6 {
@@ -667,7 +680,14 @@ pub fn write_tables(rt: HostRuntime, held: Held, out: &mut [u8], at: usize) -> u
     let finished = letter == 5;
     let pools = write_pools(rt, case, out, at);
     let sales = write_sales(rt, book.units, out, pools);
-    let bids = write_bids(rt, letter == 2, book::round_of(stage), book.bids, out, sales);
+    let bids = write_bids(
+        rt,
+        letter == 2,
+        book::round_of(stage),
+        book.bids,
+        out,
+        sales,
+    );
     let loss = write_loss(rt, finished, book, out, bids);
     let members = write_members(rt, finished, book, out, loss);
     write_held(rt, case, out, members)
