@@ -5,7 +5,7 @@
 
 ghost use Rattle.std.specs.Prelude.{◌+◌, ◌≤◌, ◌<◌, length};
 
-use libc::{STDIN_FILENO, STDOUT_FILENO};
+use std::io::{Print, Read};
 
 // A byte as a wider number.
 fn wide(b: u8) -> usize
@@ -23,17 +23,17 @@ fn length_at(all: &[u8], at: usize) -> usize
 }
 
 // Writes the text of one input.
-fn print_one(input: &[u8], out: &mut [u8]) {
+fn print_one(rt: HostRuntime, input: &[u8], out: &mut [u8]) {
     let written = report::print(input, out);
     let len = written.len;
     if len <= out.len() {
-        io::write_all(STDOUT_FILENO, &out[0..len]);
-        io::write_all(STDOUT_FILENO, b"--\n");
+        let _text = rt.write_all(&out[0..len]);
+        let _end = rt.write_all(b"--\n");
     }
 }
 
 // Writes the text of each input.
-fn print_all(all: &[u8], out: &mut [u8]) {
+fn print_all(rt: HostRuntime, all: &[u8], out: &mut [u8]) {
     let mut at: usize = 0;
     while 4 <= all.len() - at {
         let start = at + 4;
@@ -42,13 +42,29 @@ fn print_all(all: &[u8], out: &mut [u8]) {
             return;
         }
         at = start + len;
-        print_one(&all[start..at], out);
+        print_one(rt, &all[start..at], out);
     }
 }
 
-fn main() {
+// Reads from standard input until the buffer is full, the input ends or a read fails, and says how many bytes came.
+fn read_all(rt: HostRuntime, all: &mut [u8]) -> usize
+    ensures { result ≤ length all.new }
+{
+    let mut input = rt.stdin();
+    let mut done: usize = 0;
+    while done < all.len() {
+        let n = input.read(&mut all[done..]).unwrap_or(0);
+        if n == 0 {
+            return done;
+        }
+        done += n;
+    }
+    done
+}
+
+fn main(rt: HostRuntime) {
     let mut all = [0u8; 65536];
-    let n = io::read_full(STDIN_FILENO, &mut all);
+    let n = read_all(rt, &mut all);
     let mut out = [0u8; 131072];
-    print_all(&all[0..n], &mut out);
+    print_all(rt, &all[0..n], &mut out);
 }

@@ -9,8 +9,6 @@ ghost use Rattle.forms.specs.Put.{Put};
 ghost use Rattle.expected.specs.Words.{set_of, members_in, units_in, eq_list};
 ghost use Rattle.expected.specs.Shares.{member_text, place_text, members_text, shares_text};
 
-use libc::STDERR_FILENO;
-
 // A number that a word says, and whether it says one.
 #[derive(Clone, Copy)]
 struct Said {
@@ -101,33 +99,33 @@ fn same(a: &[u8], b: &[u8]) -> bool
 }
 
 // Whether the argument with a number is a word.
-fn is_word(i: usize, word: &[u8]) -> bool {
+fn is_word(rt: HostRuntime, i: usize, word: &[u8]) -> bool {
     let mut arg = [0u8; 16];
-    let n = os::arg(i, &mut arg);
+    let n = feed::read_word(rt, i, &mut arg);
     same(&arg[..n], word)
 }
 
 // The members that the argument with a number names.
-fn members_at(i: usize) -> Said {
+fn members_at(rt: HostRuntime, i: usize) -> Said {
     let mut arg = [0u8; 256];
-    let n = os::arg(i, &mut arg);
+    let n = feed::read_word(rt, i, &mut arg);
     members_in(&arg[..n])
 }
 
 // The units that the argument with a number names.
-fn units_at(i: usize) -> Said {
+fn units_at(rt: HostRuntime, i: usize) -> Said {
     let mut arg = [0u8; 256];
-    let n = os::arg(i, &mut arg);
+    let n = feed::read_word(rt, i, &mut arg);
     units_in(&arg[..n])
 }
 
 // What four arguments ask for, of which the first has a number: `members`, a list, `units`, a number.
-fn asked_from(i: usize, text: bool) -> Asked
+fn asked_from(rt: HostRuntime, i: usize, text: bool) -> Asked
     requires { i ≤ 8 }
 {
-    let keys = lists::both(is_word(i, b"members"), is_word(i + 2, b"units"));
-    let members = members_at(i + 1);
-    let units = units_at(i + 3);
+    let keys = lists::both(is_word(rt, i, b"members"), is_word(rt, i + 2, b"units"));
+    let members = members_at(rt, i + 1);
+    let units = units_at(rt, i + 3);
     Asked {
         good: lists::both(keys, lists::both(members.good, units.good)),
         set: members.number,
@@ -137,16 +135,16 @@ fn asked_from(i: usize, text: bool) -> Asked
 }
 
 // What the arguments ask for; the program's own name counts as one. `--text` stands before or behind the others.
-fn read_words() -> Asked {
-    let count = os::arg_count();
+fn read_words(rt: HostRuntime) -> Asked {
+    let count = feed::word_count(rt);
     if count == 5 {
-        return asked_from(1, false);
+        return asked_from(rt, 1, false);
     }
-    if lists::both(count == 6, is_word(1, b"--text")) {
-        return asked_from(2, true);
+    if lists::both(count == 6, is_word(rt, 1, b"--text")) {
+        return asked_from(rt, 2, true);
     }
-    if lists::both(count == 6, is_word(5, b"--text")) {
-        return asked_from(1, true);
+    if lists::both(count == 6, is_word(rt, 5, b"--text")) {
+        return asked_from(rt, 1, true);
     }
     Asked {
         good: false,
@@ -238,46 +236,46 @@ fn write_shares(out: &mut [u8], set: u32, shares: [u64; 32]) -> usize
 // ---- the program
 
 // A text on standard error.
-fn tell(text: &[u8]) {
-    io::write_all(STDERR_FILENO, text);
+fn tell(rt: HostRuntime, text: &[u8]) {
+    feed::tell(rt, text);
 }
 
 // Prints the shares.
-fn print(set: u32, shares: [u64; 32]) {
+fn print(rt: HostRuntime, set: u32, shares: [u64; 32]) {
     let mut out = [0u8; 4096];
     let n = write_shares(&mut out, set, shares);
-    feed::flush(&out, n, b"expected: standard output");
+    feed::flush(rt, &out, n, b"expected: standard output");
 }
 
 // The shares from day records: whether they are given.
-fn take_records(set: u32, units: u64, shares: &mut [u64; 32]) -> bool {
+fn take_records(rt: HostRuntime, set: u32, units: u64, shares: &mut [u64; 32]) -> bool {
     let mut buf = [0u8; 65536];
-    let run = from_records::run(set, units, &mut buf, shares);
+    let run = from_records::run(rt, set, units, &mut buf, shares);
     lists::both(run.known, run.answer == 0)
 }
 
 // The shares from lines of positions: whether they are given.
-fn take_lines(set: u32, units: u64, shares: &mut [u64; 32]) -> bool {
+fn take_lines(rt: HostRuntime, set: u32, units: u64, shares: &mut [u64; 32]) -> bool {
     let mut buf = [0u8; 131072];
     let mut out = [0u8; 65536];
-    let run = from_lines::run(set, units, &mut buf, &mut out, shares);
+    let run = from_lines::run(rt, set, units, &mut buf, &mut out, shares);
     run.given
 }
 
 // The shares from the days on standard input: whether they are given.
-fn take_days(set: u32, units: u64, text: bool, shares: &mut [u64; 32]) -> bool {
+fn take_days(rt: HostRuntime, set: u32, units: u64, text: bool, shares: &mut [u64; 32]) -> bool {
     if text {
-        return take_lines(set, units, shares);
+        return take_lines(rt, set, units, shares);
     }
-    take_records(set, units, shares)
+    take_records(rt, set, units, shares)
 }
 
 // The answer to what is asked for.
-fn answer(asked: Asked) {
+fn answer(rt: HostRuntime, asked: Asked) {
     let set = asked.set;
     let mut shares = [0u64; 32];
-    if take_days(set, asked.units as u64, asked.text, &mut shares) {
-        print(set, shares);
+    if take_days(rt, set, asked.units as u64, asked.text, &mut shares) {
+        print(rt, set, shares);
     }
 }
 
@@ -286,13 +284,16 @@ fn declined(asked: Asked) -> bool {
     positions::why_before(positions::count_of(asked.set), asked.units as u64) != 0
 }
 
-fn main() {
-    let asked = read_words();
+fn main(rt: HostRuntime) {
+    let asked = read_words(rt);
     if !asked.good {
-        tell(b"usage: expected members 0,1,2 units 40 [--text] < FILE\n");
+        tell(
+            rt,
+            b"usage: expected members 0,1,2 units 40 [--text] < FILE\n",
+        );
     } else if declined(asked) {
-        tell(b"declined by 5, units are 1 to 1000\n");
+        tell(rt, b"declined by 5, units are 1 to 1000\n");
     } else {
-        answer(asked);
+        answer(rt, asked);
     }
 }

@@ -48,15 +48,23 @@ struct Rest {
 }
 
 // One field: the call, its answer in words, and the stage, the open units and the requirement after it.
-fn take_field(held: Held, bytes: &[u8], out: &mut [u8], at: usize) -> Step
+fn take_field(rt: HostRuntime, held: Held, bytes: &[u8], out: &mut [u8], at: usize) -> Step
     ensures { result.held ≡ (applied held bytes.now).held }
 {
     let call = wire::read_call(bytes);
     let applied = case::take(held, call);
-    let named = answers::write_call(call, bytes, out, at);
-    let said = answers::write_answer(held.present, held.case, call, applied.answer, out, named);
+    let named = answers::write_call(rt, call, bytes, out, at);
+    let said = answers::write_answer(
+        rt,
+        held.present,
+        held.case,
+        call,
+        applied.answer,
+        out,
+        named,
+    );
     let next = applied.held;
-    let shown = answers::write_state(applied.answer, next.present, next.case, out, said);
+    let shown = answers::write_state(rt, applied.answer, next.present, next.case, out, said);
     Step {
         held: next,
         at: shown,
@@ -64,7 +72,7 @@ fn take_field(held: Held, bytes: &[u8], out: &mut [u8], at: usize) -> Step
 }
 
 // The whole fields at the front of a part of an input, in turn.
-fn take_part(held: Held, input: &[u8], out: &mut [u8]) -> Taken
+fn take_part(rt: HostRuntime, held: Held, input: &[u8], out: &mut [u8]) -> Taken
     ensures { (result.held ≡ ledger_after held (whole input.now)) × (result.used ≡ bytes_of (whole input.now)) }
 {
     let mut next = held;
@@ -73,7 +81,7 @@ fn take_part(held: Held, input: &[u8], out: &mut [u8]) -> Taken
     let mut size = input::front_size(false, input);
     while size != 0 {
         let end = used + size;
-        let step = take_field(next, &input[used..end], out, to);
+        let step = take_field(rt, next, &input[used..end], out, to);
         next = step.held;
         to = step.at;
         used = end;
@@ -87,11 +95,11 @@ fn take_part(held: Held, input: &[u8], out: &mut [u8]) -> Taken
 }
 
 // The bytes in front of a place taken: their whole fields, and what is left of them moved to the front.
-fn take_turn(held: Held, buf: &mut [u8], end: usize, out: &mut [u8]) -> Turn
+fn take_turn(rt: HostRuntime, held: Held, buf: &mut [u8], end: usize, out: &mut [u8]) -> Turn
     requires { end ≤ length buf.old }
     ensures { (result.held ≡ ledger_after held (whole (take end buf.old))) × Keeps rest (take end buf.old) buf.old buf.new result.len }
 {
-    let taken = take_part(held, &buf[0..end], out);
+    let taken = take_part(rt, held, &buf[0..end], out);
     let used = taken.used;
     let next = taken.held;
     Turn {
@@ -102,7 +110,7 @@ fn take_turn(held: Held, buf: &mut [u8], end: usize, out: &mut [u8]) -> Turn
 }
 
 // Reads and takes until the input ends, or a read or a write fails. What a read brought is written before the next. What is held is what the ledger holds.
-fn take_input(buf: &mut [u8], out: &mut [u8]) -> Rest
+fn take_input(rt: HostRuntime, buf: &mut [u8], out: &mut [u8]) -> Rest
     ensures { Fed rest (HeldAfter result.held) buf.new result.len }
 {
     let mut held = Held::none();
@@ -110,7 +118,7 @@ fn take_input(buf: &mut [u8], out: &mut [u8]) -> Rest
     let mut turns = u64::MAX;
     while turns > 0 {
         turns -= 1;
-        let got = feed::read(buf, len, b"explain: standard input");
+        let got = feed::read(rt, buf, len, b"explain: standard input");
         let more = got.len;
         if more == 0 {
             return Rest {
@@ -119,10 +127,10 @@ fn take_input(buf: &mut [u8], out: &mut [u8]) -> Rest
                 ended: got.ended,
             };
         }
-        let turn = take_turn(held, buf, len + more, out);
+        let turn = take_turn(rt, held, buf, len + more, out);
         held = turn.held;
         len = turn.len;
-        turns = feed::turns_left(turns, texts::flush(out, turn.at));
+        turns = feed::turns_left(turns, texts::flush(rt, out, turn.at));
     }
     Rest {
         held,
@@ -148,20 +156,20 @@ fn last_line(left: usize) -> Line {
     texts::plain(texts::INCOMPLETE)
 }
 
-fn run(buf: &mut [u8], out: &mut [u8]) {
-    let rest = take_input(buf, out);
+fn run(rt: HostRuntime, buf: &mut [u8], out: &mut [u8]) {
+    let rest = take_input(rt, buf, out);
     let len = rest.len;
     let held = rest.held;
     if rest.ended {
-        let cut = texts::fill(out, 0, cut_line(&buf[0..len]));
-        let shown = tables::write_tables(held, out, cut);
-        let end = texts::fill(out, shown, last_line(len));
-        texts::flush(out, end);
+        let cut = texts::fill(rt, out, 0, cut_line(&buf[0..len]));
+        let shown = tables::write_tables(rt, held, out, cut);
+        let end = texts::fill(rt, out, shown, last_line(len));
+        texts::flush(rt, out, end);
     }
 }
 
-fn main() {
+fn main(rt: HostRuntime) {
     let mut buf = [0u8; 131072];
     let mut out = [0u8; 131072];
-    run(&mut buf, &mut out);
+    run(rt, &mut buf, &mut out);
 }

@@ -90,23 +90,23 @@ fn pools_total(case: Case) -> Line {
 }
 
 // The rows of the pools given.
-fn pool_rows(case: Case, given: u8, out: &mut [u8], at: usize) -> usize {
+fn pool_rows(rt: HostRuntime, case: Case, given: u8, out: &mut [u8], at: usize) -> usize {
     let mut to = at;
     let mut pool: u8 = 0;
     while pool < given {
-        to = fill(out, to, pool_line(case, pool));
+        to = fill(rt, out, to, pool_line(case, pool));
         pool += 1;
     }
     to
 }
 
 // The table of the pools.
-fn write_pools(case: Case, out: &mut [u8], at: usize) -> usize {
+fn write_pools(rt: HostRuntime, case: Case, out: &mut [u8], at: usize) -> usize {
     let book = case.book;
     let pools = book.pools;
-    let title = fill(out, at, plain(texts::POOLS_TITLE));
-    let rows = pool_rows(case, pools.given, out, title);
-    fill(out, rows, pools_total(case))
+    let title = fill(rt, out, at, plain(texts::POOLS_TITLE));
+    let rows = pool_rows(rt, case, pools.given, out, title);
+    fill(rt, out, rows, pools_total(case))
 }
 
 // ---- pools sold by agreement
@@ -149,24 +149,24 @@ fn sales_total(units: Units) -> Line {
 }
 
 // The rows of the pools sold by agreement.
-fn sale_rows(units: Units, out: &mut [u8], at: usize) -> usize {
+fn sale_rows(rt: HostRuntime, units: Units, out: &mut [u8], at: usize) -> usize {
     let mut to = at;
     let mut pool: u8 = 0;
     while pool < 4 {
-        to = fill(out, to, sale_line(units, pool));
+        to = fill(rt, out, to, sale_line(units, pool));
         pool += 1;
     }
     to
 }
 
 // The table of the pools sold by agreement, where there are any.
-fn write_sales(units: Units, out: &mut [u8], at: usize) -> usize {
+fn write_sales(rt: HostRuntime, units: Units, out: &mut [u8], at: usize) -> usize {
     if all_agreed(units) == 0 {
         return at;
     }
-    let title = fill(out, at, plain(texts::SALES_TITLE));
-    let rows = sale_rows(units, out, title);
-    fill(out, rows, sales_total(units))
+    let title = fill(rt, out, at, plain(texts::SALES_TITLE));
+    let rows = sale_rows(rt, units, out, title);
+    fill(rt, out, rows, sales_total(units))
 }
 
 // ---- the bids of the open round
@@ -199,23 +199,30 @@ fn bid_line(bids: Bids, round: u8, i: usize) -> Line {
 }
 
 // The rows of the bids of a round, by their numbers.
-fn bid_rows(bids: Bids, round: u8, out: &mut [u8], at: usize) -> usize {
+fn bid_rows(rt: HostRuntime, bids: Bids, round: u8, out: &mut [u8], at: usize) -> usize {
     let mut to = at;
     let mut i: usize = 0;
     while i < bids.kept {
-        to = fill(out, to, bid_line(bids, round, i));
+        to = fill(rt, out, to, bid_line(bids, round, i));
         i += 1;
     }
     to
 }
 
 // The table of the bids of the open round, where there is one.
-fn write_bids(open: bool, round: u8, bids: Bids, out: &mut [u8], at: usize) -> usize {
+fn write_bids(
+    rt: HostRuntime,
+    open: bool,
+    round: u8,
+    bids: Bids,
+    out: &mut [u8],
+    at: usize,
+) -> usize {
     if !open {
         return at;
     }
-    let title = fill(out, at, texts::one(texts::BIDS_TITLE, round as u64));
-    bid_rows(bids, round, out, title)
+    let title = fill(rt, out, at, texts::one(texts::BIDS_TITLE, round as u64));
+    bid_rows(rt, bids, round, out, title)
 }
 
 // ---- the loss
@@ -246,11 +253,17 @@ fn layer_line(most: [u64; 6], charges: [u64; 6], k: usize) -> Line {
 }
 
 // The rows of the six layers.
-fn layer_rows(most: [u64; 6], charges: [u64; 6], out: &mut [u8], at: usize) -> usize {
+fn layer_rows(
+    rt: HostRuntime,
+    most: [u64; 6],
+    charges: [u64; 6],
+    out: &mut [u8],
+    at: usize,
+) -> usize {
     let mut to = at;
     let mut k: usize = 0;
     while k < 6 {
-        to = fill(out, to, layer_line(most, charges, k));
+        to = fill(rt, out, to, layer_line(most, charges, k));
         k += 1;
     }
     to
@@ -264,15 +277,16 @@ fn sum_of_six(xs: [u64; 6]) -> u64 {
 }
 
 // The six layers, their totals, the uncovered rest and the loss.
-fn write_layers(most: [u64; 6], res: Result, out: &mut [u8], at: usize) -> usize {
+fn write_layers(rt: HostRuntime, most: [u64; 6], res: Result, out: &mut [u8], at: usize) -> usize {
     let charges = res.charges;
     let uncovered = res.uncovered;
     let all = sum_of_six(charges);
-    let title = fill(out, at, plain(texts::LAYERS_TITLE));
-    let rows = layer_rows(most, charges, out, title);
+    let title = fill(rt, out, at, plain(texts::LAYERS_TITLE));
+    let rows = layer_rows(rt, most, charges, out, title);
     let total = charge_line(texts::LAYERS_TOTAL, sum_of_six(most), all);
-    let added = fill(out, rows, total);
+    let added = fill(rt, out, rows, total);
     fill(
+        rt,
         out,
         added,
         texts::two(texts::UNCOVERED, uncovered, plus(all, uncovered)),
@@ -280,12 +294,12 @@ fn write_layers(most: [u64; 6], res: Result, out: &mut [u8], at: usize) -> usize
 }
 
 // The table of the loss; the layers stand in it after FINISH.
-fn write_loss(finished: bool, book: Book, out: &mut [u8], at: usize) -> usize {
-    let required = fill(out, at, loss_line(book));
+fn write_loss(rt: HostRuntime, finished: bool, book: Book, out: &mut [u8], at: usize) -> usize {
+    let required = fill(rt, out, at, loss_line(book));
     if finished {
-        return write_layers(book.limits(), book.result(), out, required);
+        return write_layers(rt, book.limits(), book.result(), out, required);
     }
-    fill(out, required, plain(texts::NOT_CHARGED))
+    fill(rt, out, required, plain(texts::NOT_CHARGED))
 }
 
 // ---- members
@@ -376,6 +390,7 @@ fn member_line(finished: bool, members: Members, res: Result, m: u8) -> Line {
 
 // The rows of a set's members.
 fn member_rows(
+    rt: HostRuntime,
     finished: bool,
     members: Members,
     res: Result,
@@ -388,7 +403,7 @@ fn member_rows(
     while left != 0 {
         let m = sets::next(left);
         left = sets::without_least(left);
-        to = fill(out, to, member_line(finished, members, res, m as u8));
+        to = fill(rt, out, to, member_line(finished, members, res, m as u8));
     }
     to
 }
@@ -457,15 +472,15 @@ fn left_out_line(members: Members, sold: [bool; 4]) -> Line {
 }
 
 // The table of the members.
-fn write_members(finished: bool, book: Book, out: &mut [u8], at: usize) -> usize {
+fn write_members(rt: HostRuntime, finished: bool, book: Book, out: &mut [u8], at: usize) -> usize {
     let head = book.head;
     let sold = book.sold_pools();
     let members = counted(book.members, sold);
     let result = book.result();
-    let title = fill(out, at, members_title(finished, head.set));
-    let rows = member_rows(finished, members, result, head.set, out, title);
-    let added = fill(out, rows, members_total(finished, members, result));
-    fill(out, added, left_out_line(book.members, sold))
+    let title = fill(rt, out, at, members_title(finished, head.set));
+    let rows = member_rows(rt, finished, members, result, head.set, out, title);
+    let added = fill(rt, out, rows, members_total(finished, members, result));
+    fill(rt, out, added, left_out_line(book.members, sold))
 }
 
 // ---- units held
@@ -560,7 +575,7 @@ fn held_line(m: u8, pool: u8, price: u32, units: u64) -> Line {
 }
 
 // The rows of a member's units in a pool, by price.
-fn price_rows(case: Case, m: u8, pool: u8, rows: Rows, out: &mut [u8]) -> Rows {
+fn price_rows(rt: HostRuntime, case: Case, m: u8, pool: u8, rows: Rows, out: &mut [u8]) -> Rows {
     let book = case.book;
     let mut at = rows.at;
     let mut units = rows.units;
@@ -572,7 +587,7 @@ fn price_rows(case: Case, m: u8, pool: u8, rows: Rows, out: &mut [u8]) -> Rows {
             return Rows { at, units, prices };
         }
         let n = case.holding(m, pool, price);
-        at = fill(out, at, held_line(m, pool, price, n));
+        at = fill(rt, out, at, held_line(m, pool, price, n));
         units = plus(units, n);
         prices = plus(prices, worth(n, price));
         first = after(price, first);
@@ -596,21 +611,21 @@ fn after(price: u32, first: u32) -> u32
 }
 
 // The rows of a member's units.
-fn holding_rows(case: Case, m: u8, rows: Rows, out: &mut [u8]) -> Rows {
-    let first = price_rows(case, m, 0, rows, out);
-    let second = price_rows(case, m, 1, first, out);
-    let third = price_rows(case, m, 2, second, out);
-    price_rows(case, m, 3, third, out)
+fn holding_rows(rt: HostRuntime, case: Case, m: u8, rows: Rows, out: &mut [u8]) -> Rows {
+    let first = price_rows(rt, case, m, 0, rows, out);
+    let second = price_rows(rt, case, m, 1, first, out);
+    let third = price_rows(rt, case, m, 2, second, out);
+    price_rows(rt, case, m, 3, third, out)
 }
 
 // The rows of the units of a set's members.
-fn held_rows(case: Case, set: u32, rows: Rows, out: &mut [u8]) -> Rows {
+fn held_rows(rt: HostRuntime, case: Case, set: u32, rows: Rows, out: &mut [u8]) -> Rows {
     let mut next = rows;
     let mut left = set;
     while left != 0 {
         let m = sets::next(left);
         left = sets::without_least(left);
-        next = holding_rows(case, m as u8, next, out);
+        next = holding_rows(rt, case, m as u8, next, out);
     }
     next
 }
@@ -628,45 +643,52 @@ fn prices_of(book: Book, units: u64) -> u64 {
 }
 
 // The units held, the torn ones, and all units that are not open, with their prices.
-fn write_sums(rows: Rows, units: u64, prices: u64, out: &mut [u8]) -> usize {
+fn write_sums(rt: HostRuntime, rows: Rows, units: u64, prices: u64, out: &mut [u8]) -> usize {
     let torn = lists::less(units, rows.units);
     let lost = lists::less(prices, rows.prices);
     let first = sum_line(texts::HELD_SUM, rows.units, rows.prices);
-    let at = fill(out, rows.at, first);
-    let to = fill(out, at, sum_line(texts::TORN_SUM, torn, lost));
-    fill(out, to, sum_line(texts::PRICED_SUM, units, prices))
+    let at = fill(rt, out, rows.at, first);
+    let to = fill(rt, out, at, sum_line(texts::TORN_SUM, torn, lost));
+    fill(rt, out, to, sum_line(texts::PRICED_SUM, units, prices))
 }
 
 // The table of the units held, with the torn ones and all units that are not open below.
-fn write_held(case: Case, out: &mut [u8], at: usize) -> usize {
+fn write_held(rt: HostRuntime, case: Case, out: &mut [u8], at: usize) -> usize {
     let book = case.book;
     let head = book.head;
     let none = Rows {
-        at: fill(out, at, plain(texts::HELD_TITLE)),
+        at: fill(rt, out, at, plain(texts::HELD_TITLE)),
         units: 0,
         prices: 0,
     };
-    let rows = held_rows(case, head.set, none, out);
+    let rows = held_rows(rt, case, head.set, none, out);
     let units = not_open(case);
-    write_sums(rows, units, prices_of(book, units), out)
+    write_sums(rt, rows, units, prices_of(book, units), out)
 }
 
 // ---- all tables
 
 // The tables of what is held at the end.
-pub fn write_tables(held: Held, out: &mut [u8], at: usize) -> usize {
+pub fn write_tables(rt: HostRuntime, held: Held, out: &mut [u8], at: usize) -> usize {
     if !held.present {
-        return fill(out, at, plain(texts::NO_TABLES));
+        return fill(rt, out, at, plain(texts::NO_TABLES));
     }
     let case = held.case;
     let stage = case.stage;
     let book = case.book;
     let letter = book::letter(stage);
     let finished = letter == 5;
-    let pools = write_pools(case, out, at);
-    let sales = write_sales(book.units, out, pools);
-    let bids = write_bids(letter == 2, book::round_of(stage), book.bids, out, sales);
-    let loss = write_loss(finished, book, out, bids);
-    let members = write_members(finished, book, out, loss);
-    write_held(case, out, members)
+    let pools = write_pools(rt, case, out, at);
+    let sales = write_sales(rt, book.units, out, pools);
+    let bids = write_bids(
+        rt,
+        letter == 2,
+        book::round_of(stage),
+        book.bids,
+        out,
+        sales,
+    );
+    let loss = write_loss(rt, finished, book, out, bids);
+    let members = write_members(rt, finished, book, out, loss);
+    write_held(rt, case, out, members)
 }

@@ -3,10 +3,12 @@
 // standard error, behind a name that is handed over.
 #![tactic(auto)]
 
-ghost use Rattle.std.specs.Prelude.{◌≡◌, ◌≤◌, ◌<◌, length};
+ghost use Rattle.std.specs.Prelude.{◌≡◌, ◌-◌, ◌≤◌, ◌<◌, IfOk, length, take};
 ghost use Rattle.feed.specs.Feeds.{Reads, Slides};
 
-use libc::{EINTR, STDIN_FILENO, STDOUT_FILENO};
+use std::env::{Env, FillError};
+use std::io;
+use std::io::{ErrorKind, Print, Read};
 
 // How many bytes came; where none did, whether the input has ended, or else the read failed.
 #[derive(Clone, Copy)]
@@ -15,85 +17,100 @@ pub struct Got {
     pub ended: bool,
 }
 
-// Whether a call that answered this is to be made again: a signal came before it moved a byte.
-fn again(answer: isize) -> bool {
-    if answer >= 0 {
-        return false;
-    }
-    os::errno() == EINTR
+// Whether a call that failed so is to be made again: a signal came before it moved a byte.
+fn again(error: io::Error) -> bool {
+    error.kind() == ErrorKind::Interrupted
+}
+
+// Bytes on standard error. Where they can't be written, they are let go.
+pub fn tell(rt: HostRuntime, text: &[u8]) {
+    let _told = rt.stderr().write_all(text);
+}
+
+// Why a read or a write failed, as a line on standard error behind the name.
+fn fail(rt: HostRuntime, name: &[u8], error: io::Error) {
+    tell(rt, name);
+    tell(rt, b": ");
+    let _told = rt.stderr().println(error);
 }
 
 // One call, into the buffer from a place on.
-fn read_once(buf: &mut [u8], at: usize) -> Got
+fn read_once(rt: HostRuntime, buf: &mut [u8], at: usize) -> io::Result<usize>
     requires { at ≤ length buf.old }
-    ensures { Reads at buf.old buf.new result }
+    ensures front { take at buf.new ≡ take at buf.old }
+    ensures room { IfOk result (λ n. n ≤ length buf.old - at) }
 {
     let part = &mut buf[at..];
-    let answer = libc::read(STDIN_FILENO, part);
-    Got {
-        len: io::count(answer, part),
-        ended: 0 <= answer,
-    }
+    let mut input = rt.stdin();
+    input.read(part)
 }
 
 // The same, made again where a signal interrupts it.
-fn read_again(buf: &mut [u8], at: usize) -> Got
-    ensures { Reads at buf.old buf.new result }
+fn read_again(rt: HostRuntime, buf: &mut [u8], at: usize) -> io::Result<usize>
+    ensures front { take at buf.new ≡ take at buf.old }
+    ensures room { IfOk result (λ n. n ≤ length buf.old - at) }
 {
     if buf.len() < at {
-        return Got {
-            len: 0,
-            ended: false,
-        };
+        return Err(io::Error::from(ErrorKind::InvalidInput));
     }
     let mut turns = u64::MAX;
     while turns > 0 {
         turns -= 1;
-        let got = read_once(buf, at);
-        if got.ended {
-            return got;
-        }
-        if os::errno() != EINTR {
-            return got;
+        match read_once(rt, buf, at) {
+            Ok(n) => return Ok(n),
+            Err(error) => {
+                if !again(error) {
+                    return Err(error);
+                }
+            }
         }
     }
-    Got {
-        len: 0,
-        ended: false,
-    }
+    Err(io::Error::from(ErrorKind::Interrupted))
 }
 
 // Reads from standard input into the buffer from a place on. A read that fails is told.
-pub fn read(buf: &mut [u8], at: usize, name: &[u8]) -> Got
+pub fn read(rt: HostRuntime, buf: &mut [u8], at: usize, name: &[u8]) -> Got
     ensures { Reads at buf.old buf.new result }
 {
-    let got = read_again(buf, at);
-    if got.ended {
-        return got;
+    match read_again(rt, buf, at) {
+        Ok(len) => Got { len, ended: true },
+        Err(error) => {
+            fail(rt, name, error);
+            Got {
+                len: 0,
+                ended: false,
+            }
+        }
     }
-    os::fail(name);
-    got
 }
 
-// Writes all of a text to standard output and answers true, or answers false at the first call that fails; then `os::errno` says why, and what stands
-// there is a front of the text. A call that a signal interrupts is made again.
-pub fn write(text: &[u8]) -> bool {
+// Writes all of a text to standard output, or gives the error of the first call that fails, and what stands there is then a front of the text. A call
+// that a signal interrupts is made again.
+fn write_whole(rt: HostRuntime, text: &[u8]) -> io::Result<()> {
     let mut done: usize = 0;
     let mut turns = u64::MAX;
     while done < text.len() {
         if turns == 0 {
-            return false;
+            return Err(io::Error::from(ErrorKind::Interrupted));
         }
         turns -= 1;
-        let part = &text[done..];
-        let answer = libc::write(STDOUT_FILENO, part);
-        if answer > 0 {
-            done += io::count(answer, part);
-        } else if !again(answer) {
-            return false;
+        match rt.stdout().write_some(&text[done..]) {
+            Ok(0) => return Err(io::Error::from(ErrorKind::WriteZero)),
+            Ok(n) => done += n,
+            Err(error) => {
+                if !again(error) {
+                    return Err(error);
+                }
+            }
         }
     }
-    true
+    Ok(())
+}
+
+// Writes all of a text to standard output and answers true, or answers false at the first call that fails; then what stands there is a front of the text.
+// A call that a signal interrupts is made again.
+pub fn write(rt: HostRuntime, text: &[u8]) -> bool {
+    write_whole(rt, text).is_ok()
 }
 
 // The place of an output that has failed: it is behind every buffer.
@@ -101,17 +118,38 @@ const STOPPED: usize = 18446744073709551615;
 
 // Writes what stands in front of the place to standard output, and gives the front as the place to go on from. Where the write fails, that is told on
 // standard error behind the name that is handed over, and the place given is behind every buffer; it stays there.
-pub fn flush(out: &[u8], at: usize, name: &[u8]) -> usize
+pub fn flush(rt: HostRuntime, out: &[u8], at: usize, name: &[u8]) -> usize
     ensures { length out.now < at → result ≡ at }
 {
     if out.len() < at {
         return at;
     }
-    if write(&out[0..at]) {
-        return 0;
+    match write_whole(rt, &out[0..at]) {
+        Ok(()) => 0,
+        Err(error) => {
+            fail(rt, name, error);
+            STOPPED
+        }
     }
-    os::fail(name);
-    STOPPED
+}
+
+// How many words the program is called with; its own name counts as one.
+pub fn word_count(rt: HostRuntime) -> usize {
+    let mut first = [0u8; 1];
+    for i in 0..usize::MAX {
+        match rt.arg(i, &mut first) {
+            Err(FillError::NotPresent) => return i,
+            _ => {}
+        }
+    }
+    usize::MAX
+}
+
+// The word with a number at the front of a buffer, and its length: 0 where there is no such word, or where it is longer than the buffer. It need not be text.
+pub fn read_word(rt: HostRuntime, i: usize, buf: &mut [u8]) -> usize
+    ensures { result ≤ length buf.new }
+{
+    rt.arg(i, buf).unwrap_or(0)
 }
 
 // The turns that are left after a write: none where it failed.

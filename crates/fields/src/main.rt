@@ -2,8 +2,6 @@
 // fields to lines, and what is no call as a comment.
 #![tactic(auto)]
 
-use libc::STDERR_FILENO;
-
 // What the program is asked for.
 #[derive(Clone, Copy)]
 enum Task {
@@ -24,51 +22,51 @@ fn is_text(arg: &[u8]) -> bool {
 }
 
 // Whether the first argument is `--text`.
-fn first_is_text() -> bool {
+fn first_is_text(rt: HostRuntime) -> bool {
     let mut arg = [0u8; 16];
-    let n = os::arg(1, &mut arg);
+    let n = feed::read_word(rt, 1, &mut arg);
     is_text(&arg[..n])
 }
 
 // No argument or `--text` alone; the program's own name counts as one.
-fn asked() -> Task {
-    let count = os::arg_count();
+fn asked(rt: HostRuntime) -> Task {
+    let count = feed::word_count(rt);
     if count < 2 {
         return Task::ToFields;
     }
     if 2 < count {
         return Task::Unknown;
     }
-    if first_is_text() {
+    if first_is_text(rt) {
         return Task::ToText;
     }
     Task::Unknown
 }
 
 // Text to fields.
-fn write_fields() {
+fn write_fields(rt: HostRuntime) {
     let mut buf = [0u8; 131072];
     let mut out = [0u8; 65536];
-    to_fields::run(&mut buf, &mut out);
+    to_fields::run(rt, &mut buf, &mut out);
 }
 
 // Fields to text.
-fn write_text() {
+fn write_text(rt: HostRuntime) {
     let mut buf = [0u8; 131072];
     let mut out = [0u8; 335882];
-    to_text::run(&mut buf, &mut out);
+    to_text::run(rt, &mut buf, &mut out);
 }
 
 // How the program is called, on standard error.
-fn tell_usage() {
-    io::write_all(STDERR_FILENO, b"usage: fields [--text] < FILE\n");
+fn tell_usage(rt: HostRuntime) {
+    feed::tell(rt, b"usage: fields [--text] < FILE\n");
 }
 
-fn main() {
-    let task = asked();
+fn main(rt: HostRuntime) {
+    let task = asked(rt);
     match task {
-        Task::ToFields => write_fields(),
-        Task::ToText => write_text(),
-        Task::Unknown => tell_usage(),
+        Task::ToFields => write_fields(rt),
+        Task::ToText => write_text(rt),
+        Task::Unknown => tell_usage(rt),
     }
 }

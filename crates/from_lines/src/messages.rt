@@ -2,7 +2,6 @@
 ghost use Rattle.std.specs.Prelude.{◌≤◌};
 
 use crate::counted;
-use libc::STDERR_FILENO;
 use text_lines::put_line;
 use words::number;
 
@@ -86,16 +85,16 @@ fn capped(n: usize) -> usize
 }
 
 // The first bytes of a message as a line on standard error.
-fn tell(note: [u8; 256], n: usize) {
+fn tell(rt: HostRuntime, note: [u8; 256], n: usize) {
     let end = capped(n);
-    io::write_all(STDERR_FILENO, &note[0..end]);
-    io::write_all(STDERR_FILENO, b"\n");
+    feed::tell(rt, &note[0..end]);
+    feed::tell(rt, b"\n");
 }
 
 // A line that is refused, of n members.
-pub fn tell_line(line: u64, place: usize, reason: u8, n: usize) {
+pub fn tell_line(rt: HostRuntime, line: u64, place: usize, reason: u8, n: usize) {
     let mut note = [0u8; 256];
     let at = put_place(&mut note, line, place);
     let end = put_reason(&mut note, at, reason, n);
-    tell(note, end);
+    tell(rt, note, end);
 }

@@ -9,7 +9,6 @@ ghost use Rattle.positions.specs.Keeping.{keeping};
 ghost use Rattle.from_records.specs.Turns.{TakesTurn, TakesInput, Finishes, Gives};
 
 use feed::Got;
-use libc::STDERR_FILENO;
 
 // After a turn: the row that the next day takes, how many bytes are kept at the buffer's front, how many days came, and why the next one is declined, or 0.
 #[derive(Clone, Copy)]
@@ -40,10 +39,10 @@ pub struct Outcome {
 // ---- the loop
 
 // Reads from standard input into the buffer from a place on.
-fn read_more(buf: &mut [u8], at: usize) -> Got
+fn read_more(rt: HostRuntime, buf: &mut [u8], at: usize) -> Got
     ensures { Reads at buf.old buf.new result }
 {
-    feed::read(buf, at, b"expected: standard input")
+    feed::read(rt, buf, at, b"expected: standard input")
 }
 
 // How many days so many bytes are.
@@ -83,7 +82,7 @@ fn take_turn(
 }
 
 // Reads and takes until the input ends, a read fails, or a position is out of range.
-fn take_input(set: u32, buf: &mut [u8]) -> Rest
+fn take_input(rt: HostRuntime, set: u32, buf: &mut [u8]) -> Rest
     requires { 1 ≤ length (members set) }
     ensures { TakesInput (length (members set)) buf.new result }
 {
@@ -95,7 +94,7 @@ fn take_input(set: u32, buf: &mut [u8]) -> Rest
     let mut turns = u64::MAX;
     while turns > 0 {
         turns -= 1;
-        let got = read_more(buf, len);
+        let got = read_more(rt, buf, len);
         let more = got.len;
         if more == 0 {
             return Rest {
@@ -132,36 +131,36 @@ fn take_input(set: u32, buf: &mut [u8]) -> Rest
 // ---- messages
 
 // "day D: " and a reason as a line on standard error, where the day is the one behind those that came.
-fn tell(days: u64, reason: &[u8]) {
+fn tell(rt: HostRuntime, days: u64, reason: &[u8]) {
     let mut note = [0u8; 128];
     let a = words::put(&mut note, 0, b"day ");
     let b = words::number(&mut note, a, plus(days, 1));
     let c = words::put(&mut note, b, b": ");
     let d = words::put(&mut note, c, reason);
     if d <= 128 {
-        io::write_all(STDERR_FILENO, &note[0..d]);
+        feed::tell(rt, &note[0..d]);
     }
 }
 
-fn tell_range(days: u64) {
-    tell(days, b"declined by 5, a position is above 10000000\n");
+fn tell_range(rt: HostRuntime, days: u64) {
+    tell(rt, days, b"declined by 5, a position is above 10000000\n");
 }
 
 // Where the end of the run is declined, its record is cut short.
-fn tell_cut(answer: u8, days: u64) {
+fn tell_cut(rt: HostRuntime, answer: u8, days: u64) {
     if answer != 0 {
-        tell(days, b"declined by 1, the record is cut short\n");
+        tell(rt, days, b"declined by 1, the record is cut short\n");
     }
 }
 
 // ---- the run
 
 // The end of the run: a record has declined it, or the shares are given where no byte of a record is left.
-fn finish(set: u32, units: u64, rest: Rest, shares: &mut [u64; 32]) -> Outcome
+fn finish(rt: HostRuntime, set: u32, units: u64, rest: Rest, shares: &mut [u64; 32]) -> Outcome
     ensures { Finishes set units rest shares.old shares.new result }
 {
     if rest.answer != 0 {
-        tell_range(rest.days);
+        tell_range(rt, rest.days);
         return Outcome {
             known: true,
             answer: rest.answer,
@@ -175,7 +174,7 @@ fn finish(set: u32, units: u64, rest: Rest, shares: &mut [u64; 32]) -> Outcome
     }
     let sums = rest.sums;
     let answer = positions::end(&sums, set, units, rest.len, shares);
-    tell_cut(answer, rest.days);
+    tell_cut(rt, answer, rest.days);
     Outcome {
         known: true,
         answer,
@@ -185,7 +184,7 @@ fn finish(set: u32, units: u64, rest: Rest, shares: &mut [u64; 32]) -> Outcome
 // Reads day records from standard input to its end, or to the first that is declined, and answers as document 02 says of the whole run; where the answer is 0 each
 // member is given its share of the units. A record that is declined and a read that fails are told on standard error. Nothing is read where the set or the
 // units are declined, or the buffer has less than the 128 bytes of the longest record.
-pub fn run(set: u32, units: u64, buf: &mut [u8], shares: &mut [u64; 32]) -> Outcome
+pub fn run(rt: HostRuntime, set: u32, units: u64, buf: &mut [u8], shares: &mut [u64; 32]) -> Outcome
     ensures { Gives set units shares.old shares.new result }
 {
     let why = positions::why_before(positions::count_of(set), units);
@@ -201,6 +200,6 @@ pub fn run(set: u32, units: u64, buf: &mut [u8], shares: &mut [u64; 32]) -> Outc
             answer: 0,
         };
     }
-    let rest = take_input(set, buf);
-    finish(set, units, rest, shares)
+    let rest = take_input(rt, set, buf);
+    finish(rt, set, units, rest, shares)
 }

@@ -2,6 +2,6 @@
 
 #![tactic(auto)]
 
-fn main() {
-    stream::ledger_stream();
+fn main(rt: HostRuntime) {
+    stream::ledger_stream(rt);
 }

@@ -16,9 +16,9 @@ returns-then-rest-ne0 c =
 pub returns-in-Requirement : goal.returns-in-Requirement
 returns-in-Requirement c =
     let a = c.args in
-    told-as _ (at-requirement a.question a.rest (not-false _ c.if-not-rest.false) c.if-rest-ne0.false c.enum_told-1.given.1 _ c.requirement.ensures) c.tell_reading.ensures
+    told-as _ (at-requirement a.question a.rest (not-false _ c.if-not-rest.false) c.if-rest-ne0.false c.in-Requirement.is _ c.requirement.ensures) c.tell_reading.ensures
 
 pub returns-in-Unknown : goal.returns-in-Unknown
 returns-in-Unknown c =
     let a = c.args in
-    told-as _ (at-unknown a.question a.rest (not-false _ c.if-not-rest.false) c.if-rest-ne0.false c.enum_told-in-Unknown-1.given.1) c.tell_usage.ensures
+    told-as _ (at-unknown a.question a.rest (not-false _ c.if-not-rest.false) c.if-rest-ne0.false c.in-Unknown.is) c.tell_usage.ensures

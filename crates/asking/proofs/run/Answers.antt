@@ -3,4 +3,4 @@ use Rattle.asking.proofs.Telling.{runs-unknown}
 use Rattle.asking.proofs.run.Goals as goal
 
 pub returns-in-Unknown : goal.returns-in-Unknown
-returns-in-Unknown c = runs-unknown c.args.question _ c.enum_told-1.given.1 c.tell_usage.ensures
+returns-in-Unknown c = runs-unknown c.args.question _ c.in-Unknown.is c.tell_usage.ensures

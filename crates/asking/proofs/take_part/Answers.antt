@@ -26,7 +26,7 @@ pub slice_bounds-take_fields-end-in-loop-used-2 : goal.slice_bounds-take_fields-
 slice_bounds-take_fields-end-in-loop-used-2 c = let w = c.loop-used.invariant.2 in search (rules, w)
 
 pub overflow_add-used : goal.overflow_add-used
-overflow_add-used c = let l = c.loop-used in omega (arith, within _ _ _ _ l.invariant.0 _ _ _ _ _ (lent _ c.args.input.now l.used _ _ _ _ _ _ c.take_fields-front.ensures), c.well-formed.1.0.0)
+overflow_add-used c = let l = c.loop-used in omega (arith, within _ _ _ _ l.invariant.0 _ _ _ _ _ (lent _ c.args.input.now l.used _ _ _ _ _ _ c.take_fields-front.ensures))
 
 pub loop-used-smaller : goal.loop-used-smaller
 loop-used-smaller c = let l = c.loop-used in omega (arith, within _ _ _ _ l.invariant.0 _ _ _ _ _ (lent _ c.args.input.now l.used _ _ _ _ _ _ c.take_fields-front.ensures), c.if-front-eq0.false)
@@ -35,7 +35,7 @@ pub loop-used-preserved : goal.loop-used-preserved
 loop-used-preserved c =
     let l = c.loop-used in
     let t = c.take_fields-front in
-    (goes _ _ _ _ l.invariant.0 _ _ _ _ _ (lent _ c.args.input.now l.used _ _ _ _ _ _ t.ensures), t.auto.1.1.1.0 ∙ l.invariant.1, t.auto.1.1.1.1.0 ∙ l.invariant.2)
+    (goes _ _ _ _ l.invariant.0 _ _ _ _ _ (lent _ c.args.input.now l.used _ _ _ _ _ _ t.ensures), t.auto.ends ∙ l.invariant.1, t.auto.answers ∙ l.invariant.2)
 
 pub returns-after-loop-used : goal.returns-after-loop-used
 returns-after-loop-used c = finished _ _ _ _ c.loop-used.invariant.0 (none-behind _ _ c.loop-used-test.false)

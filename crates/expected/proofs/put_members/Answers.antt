@@ -19,10 +19,7 @@ pub loop-m-preserved : goal.loop-m-preserved
 loop-m-preserved c =
     let a = c.args in
     let at = c.loop-m in
-    (search rules, c.put_place-to.auto.0 ∙ at.invariant.1, put_as ((at.m + 1) * 88) (omega arith) refl (lines-turn a.set a.t3 _ at.out _ at.m at.to _ (at.m * 88) at.invariant.2 c.put_place-to.ensures))
-
-pub shape_of-out : goal.shape_of-out
-shape_of-out c = c.loop-m.invariant.1
+    (search rules, c.put_place-to.auto.out ∙ at.invariant.1, put_as ((at.m + 1) * 88) (omega arith) refl (lines-turn a.set a.shares _ at.out _ at.m at.to _ (at.m * 88) at.invariant.2 c.put_place-to.ensures))
 
 pub returns : goal.returns
 unfolding members_text

@@ -11,7 +11,7 @@ loop-m-init c = (search rules, ap (λ (k : ℕ). k % 2 ^ 64) (sym (sum_to-none _
 pub loop-m-preserved : goal.loop-m-preserved
 loop-m-preserved c =
     let at = c.loop-m in
-    (search rules, total-turn c.args.shares at.m at.t _ at.invariant.1 c.wrapping_add_u64-t.ensures)
+    (search rules, total-turn c.args.shares at.m at.t _ at.invariant.1 c.wrapping_add_u64-t.ensures.value)
 
 pub returns : goal.returns
 returns c =

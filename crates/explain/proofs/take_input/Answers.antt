@@ -13,7 +13,7 @@ pub returns-then-more-eq0 : goal.returns-then-more-eq0
 returns-then-more-eq0 c =
     let l = c.loop-turns in
     let r = c.read-got in
-    fed-read rest (HeldAfter l.held) l.buf _ l.len l.invariant.0 r.ensures.front r.auto.0
+    fed-read rest (HeldAfter l.held) l.buf _ l.len l.invariant.0 r.ensures.front r.auto.buf
 
 pub overflow_add-len : goal.overflow_add-len
 overflow_add-len c = let k = c.loop-turns.invariant.0.fits in let h = c.read-got.ensures.room in search rules
@@ -21,7 +21,7 @@ overflow_add-len c = let k = c.loop-turns.invariant.0.fits in let h = c.read-got
 pub take_turn-turn-requires : goal.take_turn-turn-requires
 take_turn-turn-requires c =
     let r = c.read-got in
-    omega (arith, r.ensures.room, c.loop-turns.invariant.0.fits, r.auto.0)
+    omega (arith, r.ensures.room, c.loop-turns.invariant.0.fits, r.auto.buf)
 
 pub loop-turns-preserved : goal.loop-turns-preserved
 loop-turns-preserved c =
@@ -29,7 +29,7 @@ loop-turns-preserved c =
     let r = c.read-got in
     let t = c.take_turn-turn in (
       fed-turn l.buf _ _ l.held l.len r.result.len t.result.held t.result.len l.invariant.0 r.ensures.front
-          (λ k. omega (arith, c.slice_known-in-loop-turns-1.given k)) t.ensures,
+          (λ k. search rules) t.ensures,
       search rules,
       search rules,
     )

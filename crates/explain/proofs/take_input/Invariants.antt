@@ -7,7 +7,7 @@ use Rattle.explain.proofs.take_input.Given as goal
 
 abbrev pub invariant-loop-turns : goal.invariant-loop-turns
 invariant-loop-turns l =
-    Fed rest (HeldAfter l.len) l.out l.turns × (length l.out ≡ length l.initial.buf) × (length l.held ≡ length l.initial.out)
+    Fed rest (HeldAfter l.held) l.buf l.len × (length l.buf ≡ length l.initial.buf) × (length l.out ≡ length l.initial.out)
 
 abbrev pub decreases-loop-turns : goal.decreases-loop-turns
-decreases-loop-turns l = turns
+decreases-loop-turns l = l.turns

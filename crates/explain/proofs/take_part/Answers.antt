@@ -40,7 +40,7 @@ loop-size-preserved c =
       passing-goes (front_size false) (front-most false) ledger_after _ _ taken after-cons _ _ l.invariant.0 _ l.invariant.1 c.loop-size-test.true _
           (t.ensures ∙ ap (λ (n : ℕ). taken l.next (take n (drop l.used input))) gap),
       c.front_size-size-in-loop-size.ensures ∙ ap (front_size false) (rest_all input (l.used + l.size)),
-      t.auto.1.1.0 ∙ l.invariant.2,
+      t.auto.out ∙ l.invariant.2,
     )
 
 pub returns : goal.returns

@@ -1,7 +1,5 @@
 -- `feed::read_again` meets its contract. Assumes nothing.
-use mathlib.Core.Path.{◌≡◌}
-use Prim.Native.Nat.{◌≤◌}
-use lib.ListN.{length, take}
+use Rattle.std.proofs.Common.{◌≡◌, ◌≤◌, length, take}
 use Rattle.feed.proofs.read_again.Given as goal
 
 abbrev pub invariant-loop-turns : goal.invariant-loop-turns

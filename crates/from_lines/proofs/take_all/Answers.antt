@@ -20,9 +20,6 @@ slice_bounds-line_size-count c = c.loop-part.invariant.0.passes.place
 pub slice_bounds-line_size-start : goal.slice_bounds-line_size-start
 slice_bounds-line_size-start c = let w = c.loop-part.invariant.0.passes.place in search (rules, w)
 
-pub shape_of-out-then-count-eq0 : goal.shape_of-out-then-count-eq0
-shape_of-out-then-count-eq0 c = c.take_some-part.auto.1.1.1.0 ∙ c.loop-part.invariant.1
-
 pub returns-then-count-eq0 : goal.returns-then-count-eq0
 returns-then-count-eq0 c =
     let l = c.loop-part in
@@ -48,4 +45,4 @@ pub loop-part-preserved : goal.loop-part-preserved
 loop-part-preserved c =
     let l = c.loop-part in
     let t = c.take_some-part in
-    (passed-goes _ _ _ _ _ _ _ _ _ _ t.result l.invariant.0 (rest_all _ l.used) t.ensures _ _ _ _ _ _ _ c.counted-lines.ensures (lent t.result.written _) c.take_days-days.ensures, t.auto.1.1.1.0 ∙ l.invariant.1)
+    (passed-goes _ _ _ _ _ _ _ _ _ _ t.result l.invariant.0 (rest_all _ l.used) t.ensures _ _ _ _ _ _ _ c.counted-lines.ensures (lent t.result.written _) c.take_days-days.ensures, t.auto.out ∙ l.invariant.1)

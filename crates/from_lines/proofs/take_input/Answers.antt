@@ -9,18 +9,12 @@ use Rattle.from_lines.proofs.take_input.Goals as goal
 pub loop-turns-init : goal.loop-turns-init
 loop-turns-init c = (fed-none _ _ _ c.requires.0 c.requires.2, refl, refl)
 
-pub shape_of-buf-then-more-eq0 : goal.shape_of-buf-then-more-eq0
-shape_of-buf-then-more-eq0 c = c.read_more-got.auto.0 ∙ c.loop-turns.invariant.1
-
-pub shape_of-out-then-more-eq0 : goal.shape_of-out-then-more-eq0
-shape_of-out-then-more-eq0 c = c.loop-turns.invariant.2
-
 pub returns-then-more-eq0 : goal.returns-then-more-eq0
 returns-then-more-eq0 c =
     let l = c.loop-turns in
     let r = c.read_more-got in
     record {
-      fed = λ ends. fed-read (rest _) _ l.buf _ l.len l.invariant.0 r.ensures.front r.auto.0;
+      fed = λ ends. fed-read (rest _) _ l.buf _ l.len l.invariant.0 r.ensures.front r.auto.buf;
       room = λ ends on. fed-room _ _ _ _ _ false l.invariant.0 refl;
     }
 
@@ -31,13 +25,7 @@ pub take_turn-turn-requires : goal.take_turn-turn-requires
 take_turn-turn-requires c =
     let l = c.loop-turns in
     let r = c.read_more-got in
-    (omega (arith, r.ensures.room, l.invariant.0.fits, r.auto.0), omega (arith, c.requires.1, l.invariant.2))
-
-pub shape_of-buf-then-turn : goal.shape_of-buf-then-turn
-shape_of-buf-then-turn c = c.take_turn-turn.auto.1.1.1.0 ∙ c.read_more-got.auto.0 ∙ c.loop-turns.invariant.1
-
-pub shape_of-out-then-turn : goal.shape_of-out-then-turn
-shape_of-out-then-turn c = c.take_turn-turn.auto.1.1.1.1.1.0 ∙ c.loop-turns.invariant.2
+    (omega (arith, r.ensures.room, l.invariant.0.fits, r.auto.buf), omega (arith, c.requires.1, l.invariant.2))
 
 pub returns-then-turn : goal.returns-then-turn
 returns-then-turn c =
@@ -45,7 +33,7 @@ returns-then-turn c =
     let r = c.read_more-got in
     let t = c.take_turn-turn in
     record {
-      fed = λ known. fed-turn _ l.buf _ _ _ _ l.lines l.len r.result.len _ true t.result l.invariant.0 r.ensures.front (λ k. omega (arith, c.slice_known-in-loop-turns-1.given k)) t.ensures c.if-turn.true;
+      fed = λ known. fed-turn _ l.buf _ _ _ _ l.lines l.len r.result.len _ true t.result l.invariant.0 r.ensures.front (λ k. search rules) t.ensures c.if-turn.true;
       room = λ known on. absurd (false≢true (sym on));
     }
 
@@ -54,16 +42,10 @@ loop-turns-preserved c =
     let l = c.loop-turns in
     let r = c.read_more-got in
     let t = c.take_turn-turn in (
-      fed-turn _ l.buf _ _ _ _ l.lines l.len r.result.len _ false t.result l.invariant.0 r.ensures.front (λ k. omega (arith, c.slice_known-in-loop-turns-1.given k)) t.ensures c.if-turn.false,
-      t.auto.1.1.1.0 ∙ r.auto.0 ∙ l.invariant.1,
-      t.auto.1.1.1.1.1.0 ∙ l.invariant.2,
+      fed-turn _ l.buf _ _ _ _ l.lines l.len r.result.len _ false t.result l.invariant.0 r.ensures.front (λ k. search rules) t.ensures c.if-turn.false,
+      t.auto.buf ∙ r.auto.buf ∙ l.invariant.1,
+      t.auto.out ∙ l.invariant.2,
     )
-
-pub shape_of-buf : goal.shape_of-buf
-shape_of-buf c = c.loop-turns.invariant.1
-
-pub shape_of-out : goal.shape_of-out
-shape_of-out c = c.loop-turns.invariant.2
 
 pub returns : goal.returns
 returns c = record { fed = λ known. absurd (false≢true known); room = λ known on. absurd (false≢true known) }

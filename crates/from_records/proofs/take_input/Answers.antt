@@ -11,14 +11,11 @@ pub loop-turns-init : goal.loop-turns-init
 unfolding no_days
 loop-turns-init c = (fed-none _ c.requires _ _ refl, refl)
 
-pub shape_of-buf-then-more-eq0 : goal.shape_of-buf-then-more-eq0
-shape_of-buf-then-more-eq0 c = c.read_more-got.auto.0 ∙ c.loop-turns.invariant.1
-
 pub returns-then-more-eq0 : goal.returns-then-more-eq0
 returns-then-more-eq0 c =
     let l = c.loop-turns in
     let r = c.read_more-got in
-    record { fed = λ ends. sums-read _ l.row l.ring l.sums _ l.len (fed-read (left_of _) _ l.buf _ l.len l.invariant.0 r.ensures.front r.auto.0); declined = λ no. absurd (no refl) }
+    record { fed = λ ends. sums-read _ l.row l.ring l.sums _ l.len (fed-read (left_of _) _ l.buf _ l.len l.invariant.0 r.ensures.front r.auto.buf); declined = λ no. absurd (no refl) }
 
 pub overflow_add-len : goal.overflow_add-len
 overflow_add-len c =
@@ -28,7 +25,7 @@ pub take_turn-turn-requires : goal.take_turn-turn-requires
 take_turn-turn-requires c =
     let l = c.loop-turns in
     let r = c.read_more-got in
-    omega (arith, r.ensures.room, l.invariant.0.fits, r.auto.0)
+    omega (arith, r.ensures.room, l.invariant.0.fits, r.auto.buf)
 
 pub returns-then-turn-ne0 : goal.returns-then-turn-ne0
 returns-then-turn-ne0 c =
@@ -42,8 +39,8 @@ loop-turns-preserved c =
     let l = c.loop-turns in
     let r = c.read_more-got in
     let t = c.take_turn-turn in (
-      fed-turn _ c.requires l.buf _ _ _ _ l.len r.result.len t.result l.invariant.0 r.ensures.front (λ k. omega (arith, c.slice_known-in-loop-turns-1.given k)) t.ensures c.if-turn-ne0.false,
-      t.auto.1.1.1.1.0 ∙ r.auto.0 ∙ l.invariant.1,
+      fed-turn _ c.requires l.buf _ _ _ _ l.len r.result.len t.result l.invariant.0 r.ensures.front (λ k. search rules) t.ensures c.if-turn-ne0.false,
+      t.auto.buf ∙ r.auto.buf ∙ l.invariant.1,
     )
 
 pub returns : goal.returns

@@ -7,7 +7,7 @@ use Rattle.from_records.proofs.take_input.Given as goal
 
 abbrev pub invariant-loop-turns : goal.invariant-loop-turns
 invariant-loop-turns l =
-    Fed (left_of (length (members l.set))) (Reached (length (members l.set)) (record { l.row = l.row; l.ring = l.ring; l.sums = l.sums })) l.buf l.len × (length l.buf ≡ length l.initial.buf)
+    Fed (left_of (length (members l.set))) (Reached (length (members l.set)) (record { row = l.row; ring = l.ring; sums = l.sums })) l.buf l.len × (length l.buf ≡ length l.initial.buf)
 
 abbrev pub decreases-loop-turns : goal.decreases-loop-turns
 decreases-loop-turns l = l.turns

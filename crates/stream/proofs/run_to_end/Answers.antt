@@ -14,4 +14,4 @@ returns c =
     let t = c.take_input-rest in
     let e = c.last_text in
     let pre = c.requires in
-    ends t.new.buf _ t.new.out _ t.result.held t.result.len e.result (omega (arith, pre.1, t.auto.1.0)) t.ensures (lent t.result.len t.new.buf) e.ensures
+    ends t.new.buf _ t.new.out _ t.result.held t.result.len e.result (omega (arith, pre.1, t.auto.out)) t.ensures (lent t.result.len t.new.buf) e.ensures

@@ -7,7 +7,7 @@ use Rattle.stream.proofs.take_input.Given as goal
 
 abbrev pub invariant-loop-turns : goal.invariant-loop-turns
 invariant-loop-turns l =
-    FedTo l.held l.turns len × (length l.held ≡ length l.initial.buf) × (length l.len ≡ length l.initial.out) × (4 * length l.held ≤ length l.len)
+    FedTo l.buf l.held l.len × (length l.buf ≡ length l.initial.buf) × (length l.out ≡ length l.initial.out) × (4 * length l.buf ≤ length l.out)
 
 abbrev pub decreases-loop-turns : goal.decreases-loop-turns
-decreases-loop-turns l = turns
+decreases-loop-turns l = l.turns

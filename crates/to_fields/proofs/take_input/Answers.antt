@@ -10,18 +10,11 @@ use Rattle.to_fields.proofs.take_input.Goals as goal
 pub loop-turns-init : goal.loop-turns-init
 loop-turns-init c = (fed-none _, search rules, refl, refl)
 
-pub shape_of-buf-then-more-eq0 : goal.shape_of-buf-then-more-eq0
-shape_of-buf-then-more-eq0 c =
-    c.read_more-got.auto.0 ∙ c.loop-turns.invariant.2
-
-pub shape_of-out-then-more-eq0 : goal.shape_of-out-then-more-eq0
-shape_of-out-then-more-eq0 c = c.loop-turns.invariant.3
-
 pub returns-then-more-eq0 : goal.returns-then-more-eq0
 returns-then-more-eq0 c =
     let l = c.loop-turns in
     let r = c.read_more-got in
-    record { fed = λ good. fed-read rest _ l.buf _ l.len l.invariant.0 r.ensures.front r.auto.0; room = λ ends. l.invariant.1 }
+    record { fed = λ good. fed-read rest _ l.buf _ l.len l.invariant.0 r.ensures.front r.auto.buf; room = λ ends. l.invariant.1 }
 
 pub overflow_add-len : goal.overflow_add-len
 overflow_add-len c =
@@ -31,15 +24,7 @@ pub take_turn-turn-requires : goal.take_turn-turn-requires
 take_turn-turn-requires c =
     let l = c.loop-turns in
     let r = c.read_more-got in
-    (omega (arith, r.ensures.room, l.invariant.0.fits, r.auto.0), omega (arith, c.requires, l.invariant.3))
-
-pub shape_of-buf-then-stops : goal.shape_of-buf-then-stops
-shape_of-buf-then-stops c =
-    c.take_turn-turn.auto.1.0 ∙ c.read_more-got.auto.0 ∙ c.loop-turns.invariant.2
-
-pub shape_of-out-then-stops : goal.shape_of-out-then-stops
-shape_of-out-then-stops c =
-    c.take_turn-turn.auto.1.1.1.0 ∙ c.loop-turns.invariant.3
+    (omega (arith, r.ensures.room, l.invariant.0.fits, r.auto.buf), omega (arith, c.requires, l.invariant.3))
 
 pub returns-then-stops : goal.returns-then-stops
 returns-then-stops c =
@@ -47,7 +32,7 @@ returns-then-stops c =
     let r = c.read_more-got in
     let t = c.take_turn-turn in
     record {
-      fed = λ good. fed-turn l.buf _ _ l.lines l.len r.result.len t.result l.invariant.0 r.ensures.front (λ k. omega (arith, c.slice_known-in-loop-turns-1.given k)) t.ensures good;
+      fed = λ good. fed-turn l.buf _ _ l.lines l.len r.result.len t.result l.invariant.0 r.ensures.front (λ k. search rules) t.ensures good;
       room = λ ends. absurd (false≢true ends);
     }
 
@@ -58,17 +43,11 @@ loop-turns-preserved c =
     let t = c.take_turn-turn in
     let on = sym c.either-stops.ensures ∙ c.if-stops.false in
     let good = or_left t.result.failed t.result.refused on in (
-      fed-turn l.buf _ _ l.lines l.len r.result.len t.result l.invariant.0 r.ensures.front (λ k. omega (arith, c.slice_known-in-loop-turns-1.given k)) t.ensures good,
-      turn-room l.buf _ _ l.lines l.len r.result.len t.result l.invariant.0 r.ensures.front (λ k. omega (arith, c.slice_known-in-loop-turns-1.given k)) t.ensures good (or_right t.result.failed t.result.refused on),
-      t.auto.1.0 ∙ r.auto.0 ∙ l.invariant.2,
-      t.auto.1.1.1.0 ∙ l.invariant.3,
+      fed-turn l.buf _ _ l.lines l.len r.result.len t.result l.invariant.0 r.ensures.front (λ k. search rules) t.ensures good,
+      turn-room l.buf _ _ l.lines l.len r.result.len t.result l.invariant.0 r.ensures.front (λ k. search rules) t.ensures good (or_right t.result.failed t.result.refused on),
+      t.auto.buf ∙ r.auto.buf ∙ l.invariant.2,
+      t.auto.out ∙ l.invariant.3,
     )
-
-pub shape_of-buf : goal.shape_of-buf
-shape_of-buf c = c.loop-turns.invariant.2
-
-pub shape_of-out : goal.shape_of-out
-shape_of-out c = c.loop-turns.invariant.3
 
 pub returns : goal.returns
 returns c = record { fed = λ good. c.loop-turns.invariant.0; room = λ ends. absurd (false≢true ends) }

@@ -39,11 +39,8 @@ loop-line-preserved c =
     let w = c.write_call-to in (
       lines-go _ _ _ _ _ _ _ l.line l.invariant.0 l.invariant.1 c.loop-line-test.true _ _ w.ensures,
       next-lent _ _ _ (l.used + l.line.size) _ c.next_line-line-in-loop-line.ensures,
-      w.auto.1.0 ∙ l.invariant.2,
+      w.auto.out ∙ l.invariant.2,
     )
-
-pub shape_of-out : goal.shape_of-out
-shape_of-out c = c.loop-line.invariant.2
 
 pub returns : goal.returns
 returns c =

@@ -19,7 +19,7 @@ loop-i-preserved c =
     let l = c.loop-i in
     let p = c.put_byte-to in
     let t = c.loop-i-test.true in
-    (hex-goes _ _ _ _ _ _ l.invariant.0 t _ _ p.ensures, omega (arith, t), p.auto.1.1.0 ∙ l.invariant.2)
+    (hex-goes _ _ _ _ _ _ l.invariant.0 t _ _ p.ensures, omega (arith, t), p.auto.out ∙ l.invariant.2)
 
 pub returns : goal.returns
 returns c = hex-ends _ _ _ _ _ _ c.loop-i.invariant.0 c.loop-i-test.false c.loop-i.invariant.1

@@ -6,12 +6,6 @@ use Rattle.feed.proofs.Turning.{lent}
 use Rattle.to_text.proofs.Turning.{ends-not, last-room, ends}
 use Rattle.to_text.proofs.run_to_end.Goals as goal
 
-pub shape_of-buf-then-not-rest : goal.shape_of-buf-then-not-rest
-shape_of-buf-then-not-rest c = c.take_input-rest.auto.0
-
-pub shape_of-out-then-not-rest : goal.shape_of-out-then-not-rest
-shape_of-out-then-not-rest c = c.take_input-rest.auto.1.0
-
 pub returns-then-not-rest : goal.returns-then-not-rest
 returns-then-not-rest c = ends-not _
 
@@ -22,15 +16,7 @@ slice_bounds-last_text-end c =
 pub last_text-requires : goal.last_text-requires
 last_text-requires c =
     let t = c.take_input-rest in
-    last-room _ _ t.new.out _ (t.ensures (not-false _ c.if-not-rest.false)) (lent t.result.len _) (omega (arith, c.requires, t.auto.1.0))
-
-pub shape_of-buf : goal.shape_of-buf
-shape_of-buf c =
-    c.take_input-rest.auto.0
-
-pub shape_of-out : goal.shape_of-out
-shape_of-out c =
-    c.last_text.auto.1.0 ∙ c.take_input-rest.auto.1.0
+    last-room _ _ t.new.out _ (t.ensures (not-false _ c.if-not-rest.false)) (lent t.result.len _) (omega (arith, c.requires, t.auto.out))
 
 pub returns : goal.returns
 returns c =

@@ -11,16 +11,9 @@ use Rattle.to_text.proofs.take_input.Goals as goal
 pub loop-turns-init : goal.loop-turns-init
 loop-turns-init c = (fed-none _, refl, refl)
 
-pub shape_of-buf-then-more-eq0 : goal.shape_of-buf-then-more-eq0
-shape_of-buf-then-more-eq0 c =
-    c.read_more-got.auto.0 ∙ c.loop-turns.invariant.1
-
-pub shape_of-out-then-more-eq0 : goal.shape_of-out-then-more-eq0
-shape_of-out-then-more-eq0 c = c.loop-turns.invariant.2
-
 pub returns-then-more-eq0 : goal.returns-then-more-eq0
 returns-then-more-eq0 c =
-    λ ends. fed-read rest _ c.loop-turns.buf _ c.loop-turns.len c.loop-turns.invariant.0 c.read_more-got.ensures.front c.read_more-got.auto.0
+    λ ends. fed-read rest _ c.loop-turns.buf _ c.loop-turns.len c.loop-turns.invariant.0 c.read_more-got.ensures.front c.read_more-got.auto.buf
 
 pub overflow_add-len : goal.overflow_add-len
 overflow_add-len c =
@@ -30,15 +23,7 @@ pub take_turn-turn-requires : goal.take_turn-turn-requires
 take_turn-turn-requires c =
     let l = c.loop-turns in
     let r = c.read_more-got in
-    (omega (arith, r.ensures.room, l.invariant.0.fits, r.auto.0), omega (arith, c.requires, l.invariant.2))
-
-pub shape_of-buf-then-turn : goal.shape_of-buf-then-turn
-shape_of-buf-then-turn c =
-    c.take_turn-turn.auto.0 ∙ c.read_more-got.auto.0 ∙ c.loop-turns.invariant.1
-
-pub shape_of-out-then-turn : goal.shape_of-out-then-turn
-shape_of-out-then-turn c =
-    c.take_turn-turn.auto.1.1.0 ∙ c.loop-turns.invariant.2
+    (omega (arith, r.ensures.room, l.invariant.0.fits, r.auto.buf), omega (arith, c.requires, l.invariant.2))
 
 pub returns-then-turn : goal.returns-then-turn
 returns-then-turn c = λ ends. absurd (false≢true ends)
@@ -48,16 +33,10 @@ loop-turns-preserved c =
     let l = c.loop-turns in
     let r = c.read_more-got in
     let t = c.take_turn-turn in (
-      fed-turn l.buf _ _ l.len r.result.len t.result.len l.invariant.0 r.ensures.front (λ k. omega (arith, c.slice_known-in-loop-turns-1.given k)) (t.ensures c.if-turn.false),
-      t.auto.0 ∙ r.auto.0 ∙ l.invariant.1,
-      t.auto.1.1.0 ∙ l.invariant.2,
+      fed-turn l.buf _ _ l.len r.result.len t.result.len l.invariant.0 r.ensures.front (λ k. search rules) (t.ensures c.if-turn.false),
+      t.auto.buf ∙ r.auto.buf ∙ l.invariant.1,
+      t.auto.out ∙ l.invariant.2,
     )
-
-pub shape_of-buf : goal.shape_of-buf
-shape_of-buf c = c.loop-turns.invariant.1
-
-pub shape_of-out : goal.shape_of-out
-shape_of-out c = c.loop-turns.invariant.2
 
 pub returns : goal.returns
 returns c = λ ends. absurd (false≢true ends)

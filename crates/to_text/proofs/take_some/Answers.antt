@@ -54,11 +54,8 @@ loop-size-preserved c =
     let p = c.put_field-to in (
       taking-goes _ _ _ _ _ _ _ l.invariant.0 l.invariant.1 c.loop-size-test.true _ _ p.ensures,
       c.next_size-size-in-loop-size.ensures ∙ ap (size_within _) (rest_all _ (l.used + l.size)),
-      p.auto.1.0 ∙ l.invariant.2,
+      p.auto.out ∙ l.invariant.2,
     )
-
-pub shape_of-out : goal.shape_of-out
-shape_of-out c = c.loop-size.invariant.2
 
 pub returns : goal.returns
 returns c = taking-ends _ _ _ _ _ _ _ c.loop-size.invariant.0 c.loop-size.invariant.1 c.loop-size-test.false

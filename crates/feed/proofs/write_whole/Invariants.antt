@@ -1,7 +1,6 @@
--- `feed::write` meets its contract. Assumes nothing.
-use Prim.Native.Nat.{◌≤◌}
-use lib.ListN.{length}
-use Rattle.feed.proofs.write.Given as goal
+-- `feed::write_whole` meets its contract. Assumes nothing.
+use Rattle.std.proofs.Common.{◌≤◌, length}
+use Rattle.feed.proofs.write_whole.Given as goal
 
 abbrev pub invariant-loop-done : goal.invariant-loop-done
 invariant-loop-done l = l.done ≤ length l.text
