@@ -287,14 +287,12 @@ pub fn expected(set: u32, units: u64, bytes: &[u8], shares: &mut [u64; 32]) -> u
 
 // ---- for C and Rust
 
-#[unsafe(no_mangle)]
 pub extern "C" fn ledger_expected(set: u32, units: u64, days: &[u8], shares: &mut [u64; 32]) -> u8
     ensures { ◌≡◌ {A = Answer} (result, shares.new) (expected_units set units days.now shares.old) }
 {
     expected(set, units, days, shares)
 }
 
-#[unsafe(no_mangle)]
 pub extern "C" fn ledger_take_days(
     ring: &mut [u32; 2112],
     sums: &mut [u64; 32],
@@ -307,7 +305,6 @@ pub extern "C" fn ledger_take_days(
     take_days(ring, sums, row, set, days)
 }
 
-#[unsafe(no_mangle)]
 pub extern "C" fn ledger_end_days(
     sums: &[u64; 32],
     set: u32,
