@@ -225,7 +225,7 @@ pub fn alone(open_units: u64, reserve: u32, units: &[u64], prices: &[u32], count
 }
 
 // The same for C.
-pub extern "C" fn ledger_auction(
+pub fn ledger_auction(
     open_units: u64,
     reserve: u32,
     units: &[u64],
@@ -308,7 +308,7 @@ fn alone_over(bids: Bids, n: usize, open_units: u16, reserve: i32, counts: &mut 
 }
 
 // The auction run alone, over a lent run of bid records. Every record is checked before a count is written.
-pub extern "C" fn ledger_auction_records(
+pub fn ledger_auction_records(
     bids: &[BidRecord],
     open_units: u16,
     reserve: i32,

@@ -230,7 +230,7 @@ fn held_after(bytes: &[u8], ends: &[usize]) -> Held
 // ---- what is exported
 
 // The fields of a whole input, taken in turn from no case on, as many as there is room for answers: how many were answered.
-pub extern "C" fn ledger_run(input: &[u8], answers: &mut [u8]) -> usize
+pub fn ledger_run(input: &[u8], answers: &mut [u8]) -> usize
     ensures value { result ≡ length (fields_in (length answers.old) input.now) }
     ensures answers_after { answers.new ≡ map (λ (o : Observed). o.answer) (machine_run (fields_in (length answers.old) input.now)) ++ drop result answers.old }
 {
@@ -240,7 +240,7 @@ pub extern "C" fn ledger_run(input: &[u8], answers: &mut [u8]) -> usize
 
 // Calls of any kind taken in turn, from no case on, and what is shown then. Call k is the bytes from ends[k - 1] on, below ends[k]. The answers
 // stand in front, as far as there is room.
-pub extern "C" fn ledger_calls(bytes: &[u8], ends: &[usize], answers: &mut [u8]) -> Shown
+pub fn ledger_calls(bytes: &[u8], ends: &[usize], answers: &mut [u8]) -> Shown
     ensures { Called (strings_in bytes.now ends.now) answers.old answers.new result }
 {
     let held = case::replay(Held::none(), bytes, ends, answers);
@@ -249,7 +249,7 @@ pub extern "C" fn ledger_calls(bytes: &[u8], ends: &[usize], answers: &mut [u8])
 
 // After the same calls: for question k, the units of pool pools[k] that member members[k] holds at the price prices[k], which is cents +
 // 1,000,000. As many questions are answered as all four runs have.
-pub extern "C" fn ledger_holdings(
+pub fn ledger_holdings(
     bytes: &[u8],
     ends: &[usize],
     members: &[u8],
@@ -264,7 +264,7 @@ pub extern "C" fn ledger_holdings(
 }
 
 // After the same calls: the requirement, read from the running sums and the two losses; declined by 2 where there is no case.
-pub extern "C" fn ledger_requirement(bytes: &[u8], ends: &[usize]) -> Reading
+pub fn ledger_requirement(bytes: &[u8], ends: &[usize]) -> Reading
     ensures { result ≡ read_by (run_from none (strings_in bytes.now ends.now)) }
 {
     let held = held_after(bytes, ends);
@@ -276,7 +276,7 @@ pub extern "C" fn ledger_requirement(bytes: &[u8], ends: &[usize]) -> Reading
 }
 
 // After the same calls: the running sum of a pool, the prices of its units that have left the house, in cents.
-pub extern "C" fn ledger_pool_prices(bytes: &[u8], ends: &[usize], pool: u8) -> i64
+pub fn ledger_pool_prices(bytes: &[u8], ends: &[usize], pool: u8) -> i64
     ensures { result ≡ left_sum (the_case (run_from none (strings_in bytes.now ends.now))) pool }
 {
     let held = held_after(bytes, ends);
@@ -285,7 +285,7 @@ pub extern "C" fn ledger_pool_prices(bytes: &[u8], ends: &[usize], pool: u8) -> 
 
 // The text of a whole input, as the program `ledger` prints it, at the front of the buffer. A buffer with less than four times the input's bytes
 // and 4,096 is untouched.
-pub extern "C" fn ledger_print(input: &[u8], out: &mut [u8]) -> Printed
+pub fn ledger_print(input: &[u8], out: &mut [u8]) -> Printed
     ensures { Prints input.now out.old out.new (record { whole = result.whole; len = result.len }) }
 {
     let written = report::print(input, out);

@@ -12,7 +12,7 @@ ghost use Rattle.input.specs.Strings.{strings_in, in_front};
 ghost use Rattle.exports.specs.Machine.{read_by};
 ghost use Rattle.exports.specs.Promises.{Called, holdings_after};
 
-use exports::{Shown, Reading, Printed};
+use exports::{Printed, Reading, Shown};
 
 // The fields of a whole input, taken in turn from no case on, as many as there is room for answers: how many were answered.
 #[unsafe(no_mangle)]

@@ -287,13 +287,13 @@ pub fn expected(set: u32, units: u64, bytes: &[u8], shares: &mut [u64; 32]) -> u
 
 // ---- for C and Rust
 
-pub extern "C" fn ledger_expected(set: u32, units: u64, days: &[u8], shares: &mut [u64; 32]) -> u8
+pub fn ledger_expected(set: u32, units: u64, days: &[u8], shares: &mut [u64; 32]) -> u8
     ensures { ◌≡◌ {A = Answer} (result, shares.new) (expected_units set units days.now shares.old) }
 {
     expected(set, units, days, shares)
 }
 
-pub extern "C" fn ledger_take_days(
+pub fn ledger_take_days(
     ring: &mut [u32; 2112],
     sums: &mut [u64; 32],
     row: usize,
@@ -305,7 +305,7 @@ pub extern "C" fn ledger_take_days(
     take_days(ring, sums, row, set, days)
 }
 
-pub extern "C" fn ledger_end_days(
+pub fn ledger_end_days(
     sums: &[u64; 32],
     set: u32,
     units: u64,

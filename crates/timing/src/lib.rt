@@ -68,7 +68,7 @@ fn each(held: Held, bytes: &[u8], ends: &[usize], res: bool, numbers: &mut [u64]
 }
 
 // The byte strings of `before`, which end at `cuts`, are taken in turn as calls, from no case on; then each of the others is taken from the case that they lead to.
-pub extern "C" fn ledger_each(
+pub fn ledger_each(
     before: &[u8],
     cuts: &[usize],
     bytes: &[u8],
