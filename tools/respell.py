@@ -6,7 +6,8 @@ usage: respell.py [FOLDER]      once, at the top of the repository, right after 
 A name that begins with a small letter and has a capital in it is written in snake case, in the .antt files of crates/ and in what the
 .rt files say in ghost items, clauses and comments; each part of a name that dashes join is turned by itself. Functions, types, fields,
 strings and inputs keep their names. Where a lemma would then have the name of the definition that it is about, the lemma's name gets
-`_lem`. What began with `getD` is named after `get_or`, as the definition now is."""
+`_lem`. What began with `getD` is named after `get_or`, as the definition now is. The repository's own choice, `if b then x else y`, begins with
+`when`, since the library has an operator of that name that binds otherwise."""
 import glob
 import os
 import re
@@ -42,6 +43,29 @@ def turned(text):
     return TOKEN.sub(lambda m: re.sub(r"[^·-]+", lambda p: snake(p[0]), m[0]), text)
 
 
+def chosen(code):
+    """An antt text, no comment, with the repository's choice under its name."""
+    return re.sub(r"(?<![\w'·-])if(?=[◌ ]|$)", "when", code)
+
+
+def antt(text):
+    out = []
+    for line in text.split("\n"):
+        at = re.search(r"(^|\s)--(\s|$)", line)
+        out.append(line if at and at.start() == 0 else chosen(line[: at.start()]) + line[at.start() :] if at else chosen(line))
+    return "\n".join(out)
+
+
+def clauses(text):
+    """The ghost items and the clauses of a source file, each on its line, with the repository's choice under its name."""
+    out = []
+    for line in text.split("\n"):
+        if re.match(r"\s*(ghost use|ensures|requires)\b", line) and ("if◌" in line or re.search(r"\bif\b.*\bthen\b", line)):
+            line = chosen(line)
+        out.append(line)
+    return "\n".join(out)
+
+
 def outside_strings(line):
     """The line's parts, those outside string literals turned; a comment is turned whole."""
     at = line.find("//")
@@ -56,8 +80,8 @@ def respell(path, text):
     for old, new in MODULES.items():
         text = text.replace(old, new)
     if path.endswith(".antt"):
-        return turned(text)
-    return "\n".join(map(outside_strings, text.split("\n")))
+        return antt(turned(text))
+    return clauses("\n".join(map(outside_strings, text.split("\n"))))
 
 
 for pattern in ("specs", "proofs", "src"):

@@ -7,7 +7,7 @@ use Prim.Native.Nat.{ℕ, ◌<◌}
 use lib.Dec.{ltb}
 use lib.ListN.{length, get_or}
 use Rattle.lists.proofs.Counts.{any-ext}
-use Rattle.lists.specs.Lists.{if◌then◌else◌, sum, tab}
+use Rattle.lists.specs.Lists.{when◌then◌else◌, sum, tab}
 use Rattle.lists.proofs.Bools.{cases}
 use Rattle.lists.proofs.Places.{tab-of, sum-tab, length-tab, get_or-tab}
 use Rattle.sets.specs.Set.{member, members, of_members}
@@ -29,15 +29,15 @@ pub record Over (s : ℕ) (f : ℕ → ℕ) (xs : List ℕ) : Type 0 where
   pub off : (m : ℕ) → m < 32 → member s m ≡ false → get_or xs m 0 ≡ 0
 
 module _ (s : ℕ) (f : ℕ → ℕ) (xs : List ℕ) (o : Over s f xs) where
-  over-at : (m : ℕ) → m < 32 → get_or xs m 0 ≡ (if member s m then f m else 0)
-  over-at m l = cases (member s m) (get_or xs m 0 ≡ (if member s m then f m else 0)) (λ e. rw e (o.on m l e)) (λ e. rw e (o.off m l e))
+  over-at : (m : ℕ) → m < 32 → get_or xs m 0 ≡ (when member s m then f m else 0)
+  over-at m l = cases (member s m) (get_or xs m 0 ≡ (when member s m then f m else 0)) (λ e. rw e (o.on m l e)) (λ e. rw e (o.off m l e))
 
-  over-list : xs ≡ tab 32 (λ m. if member s m then f m else 0)
-  over-list = tab-of 32 (λ m. if member s m then f m else 0) 0 xs o.long over-at
+  over-list : xs ≡ tab 32 (λ m. when member s m then f m else 0)
+  over-list = tab-of 32 (λ m. when member s m then f m else 0) 0 xs o.long over-at
 
   -- their sum
   pub over-sum : sum xs ≡ sum (map f (members s))
-  over-sum = ap sum over-list ∙ sum-tab 32 (λ m. if member s m then f m else 0) ∙ sym (sum-members s f)
+  over-sum = ap sum over-list ∙ sum-tab 32 (λ m. when member s m then f m else 0) ∙ sym (sum-members s f)
 
   -- a split by them
   pub over-split : (q : ℕ) → split_among 32 (member s) q f ≡ split q xs
@@ -47,9 +47,9 @@ module _ (s : ℕ) (f : ℕ → ℕ) (xs : List ℕ) (o : Over s f xs) where
 pub over-members : (s : ℕ) (f g : ℕ → ℕ) → ((m : ℕ) → m < 32 → member s m ≡ true → g m ≡ f m) → Over s f (of_members s g)
 unfolding of_members
 over-members s f g same = record {
-  long = length-tab 32 (λ m. if member s m then g m else 0);
-  on = λ m l e. get_or-tab 32 (λ m. if member s m then g m else 0) m 0 l ∙ rw e (same m l e);
-  off = λ m l e. get_or-tab 32 (λ m. if member s m then g m else 0) m 0 l ∙ rw e;
+  long = length-tab 32 (λ m. when member s m then g m else 0);
+  on = λ m l e. get_or-tab 32 (λ m. when member s m then g m else 0) m 0 l ∙ rw e (same m l e);
+  off = λ m l e. get_or-tab 32 (λ m. when member s m then g m else 0) m 0 l ∙ rw e;
 }
 
 -- ---- a case that shows the members x

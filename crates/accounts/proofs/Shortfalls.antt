@@ -7,7 +7,7 @@ use native.Mathlib.Omega.{arith}
 use lib.Dec.{ltb}
 use lib.ListN.{length, get_or}
 use borrow.Author.Tests.{lt-ltb}
-use Rattle.lists.specs.Lists.{if◌then◌else◌, sum, map_from}
+use Rattle.lists.specs.Lists.{when◌then◌else◌, sum, map_from}
 use Rattle.lists.proofs.Bools.{either}
 use Rattle.lists.proofs.Places.{length-tab, get_or-tab, sum-tab, map_from-tab}
 use Rattle.lists.proofs.Sums.{bound-past, sum_to-ext}
@@ -34,16 +34,16 @@ module _ (x : Members) (m : ℕ) (l : m < 32) where
 
   -- "expected units over all pools", but for those left out
   pub expected-over-pools : (out : List Bool) (s : ℕ → Bool) → ((p : ℕ) → p < 4 → get_or out p false ≡ s p)
-      → get_or (over_pools (without_pools x.expected out)) m 0 ≡ sum (map_from 0 (λ p n. if s p then 0 else n) (M.member_at (view_members x) m).expected)
+      → get_or (over_pools (without_pools x.expected out)) m 0 ≡ sum (map_from 0 (λ p n. when s p then 0 else n) (M.member_at (view_members x) m).expected)
   unfolding over_pools over_pools_at without_pools
   expected-over-pools out s same =
-      let one : ℕ → ℕ = λ p. if s p then 0 else get_or x.expected (4 * m + p) 0 in
+      let one : ℕ → ℕ = λ p. when s p then 0 else get_or x.expected (4 * m + p) 0 in
       get_or-tab 32 (over_pools_at (without_pools x.expected out)) m 0 l
       ∙ sum_to-ext 4 _ one
       (λ p k.
       let pool : (4 * m + p) % 4 ≡ p = omega arith in
-      get_or-tab 128 (λ j. if get_or out (j % 4) false then 0 else get_or x.expected j 0) (4 * m + p) 0 (omega arith) ∙ rw (pool, same p k))
-      ∙ sym (rw (member-shown x m l) (ap sum (map_from-tab 4 (λ p n. if s p then 0 else n) (λ p. get_or x.expected (4 * m + p) 0)) ∙ sum-tab 4 one))
+      get_or-tab 128 (λ j. when get_or out (j % 4) false then 0 else get_or x.expected j 0) (4 * m + p) 0 (omega arith) ∙ rw (pool, same p k))
+      ∙ sym (rw (member-shown x m l) (ap sum (map_from-tab 4 (λ p n. when s p then 0 else n) (λ p. get_or x.expected (4 * m + p) 0)) ∙ sum-tab 4 one))
 
 -- ---- shortfalls
 
@@ -61,7 +61,7 @@ module _ (s : ℕ) (expected won allocated : List ℕ) (pool : ℕ) where
       (λ k l.
       let low : k < 32 = omega (arith, shortfalls-long) in
       let few : shortfall_at expected won allocated pool k ≤ most = omega (arith, within k low) in
-      rw (get_or-tab 32 (λ m. if member s m then (if ltb pool 4 then shortfall_at expected won allocated pool m else 0) else 0) k 0 low)
+      rw (get_or-tab 32 (λ m. when member s m then (when ltb pool 4 then shortfall_at expected won allocated pool m else 0) else 0) k 0 low)
       (either (λ n. n ≤ most) (member s k) (either (λ n. n ≤ most) (ltb pool 4) few (omega arith)) (omega arith)))
 
 -- a case c of the members x in a pool: the units won are those of the case's bids
@@ -80,7 +80,7 @@ short c x b pool members bids won few h inside = record {
 }
 
 module _ (c : M.Case) (x : Members) (pool : ℕ) (h : Short c x pool) where
-  short-at : (m : ℕ) → m < 32 → (if ltb pool 4 then shortfall_at x.expected x.won x.allocated pool m else 0) ≡ shortfall c pool m
+  short-at : (m : ℕ) → m < 32 → (when ltb pool 4 then shortfall_at x.expected x.won x.allocated pool m else 0) ≡ shortfall c pool m
   unfolding shortfall_at shortfall
   short-at m l =
       rw (lt-ltb pool 4 h.inside, h.shown, expected-shown x m l pool h.inside, allocated-shown x m l pool h.inside, h.won m l)

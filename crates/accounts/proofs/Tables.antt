@@ -9,7 +9,7 @@ use lib.Dec.{ltb, eqb}
 use lib.ListN.{length, get_or, set}
 use lib.Seq.{get_or-set_same, get_or-set_other}
 use borrow.Author.Tests.{eqb-true, eq-eqb, ltb-true}
-use Rattle.lists.specs.Lists.{if◌then◌else◌, sum, sum_to, tab, places, keep, sum_by_key}
+use Rattle.lists.specs.Lists.{when◌then◌else◌, sum, sum_to, tab, places, keep, sum_by_key}
 use Rattle.lists.specs.Adding.{most16, most64, held_to}
 use Rattle.lists.proofs.Bools.{bool-ext, and_left, and_right, and_both, by-test, same-choice}
 use Rattle.lists.proofs.Sums.{sum_to-ext, sum_to-next}
@@ -26,21 +26,21 @@ use Rattle.accounts.proofs.ViewBids.{BidsLong}
 
 -- a sum by key over the places that are used
 by_key : (n : ℕ) (key value : ℕ → ℕ) (kept : ℕ) → kept ≤ 256
-    → sum_by_key n key value (places (min kept 256)) ≡ tab n (λ k. sum_to kept (λ i. if eqb (key i) k then value i else 0))
+    → sum_by_key n key value (places (min kept 256)) ≡ tab n (λ k. sum_to kept (λ i. when eqb (key i) k then value i else 0))
 unfolding sum_by_key
 by_key n key value kept few =
     rw (min-eq_left few)
     (tab-ext n _ _
     (λ k l.
-    ap sum (map-tab kept (λ i. if eqb (key i) k then value i else 0) (λ i. i))
-    ∙ sum-tab kept (λ i. if eqb (key i) k then value i else 0)))
+    ap sum (map-tab kept (λ i. when eqb (key i) k then value i else 0) (λ i. i))
+    ∙ sum-tab kept (λ i. when eqb (key i) k then value i else 0)))
 
 -- one such sum, where it fits what it is held to
 held-by-key : (most n : ℕ) (key value : ℕ → ℕ) (kept k total : ℕ) → k < n → kept ≤ 256
-    → sum_to kept (λ i. if eqb (key i) k then value i else 0) ≡ total → total ≤ most
+    → sum_to kept (λ i. when eqb (key i) k then value i else 0) ≡ total → total ≤ most
     → get_or (held_to most (sum_by_key n key value (places (min kept 256)))) k 0 ≡ total
 held-by-key most n key value kept k total l few sums fits =
-    let sums_at : ℕ → ℕ = λ k. sum_to kept (λ i. if eqb (key i) k then value i else 0) in
+    let sums_at : ℕ → ℕ = λ k. sum_to kept (λ i. when eqb (key i) k then value i else 0) in
     let at : get_or (sum_by_key n key value (places (min kept 256))) k 0 ≡ total =
     ap (λ (r : List ℕ). get_or r k 0) (by_key n key value kept few) ∙ get_or-tab n sums_at k 0 l ∙ sums in
     held_at most (sum_by_key n key value (places (min kept 256))) k ∙ rw at (min-eq_left fits)
@@ -70,7 +70,7 @@ module _ (x : Bids) (few : x.kept ≤ 256) (h : Bidden x) where
   unfolding won_table won_by_member
   won-table-at m p l inside =
       held-by-key most16 128 (λ i. 4 * get_or x.member i 0 + get_or x.pool i 0) (λ i. get_or x.won i 0) x.kept (4 * m + p) _ (omega arith) few
-      (sum_to-ext x.kept _ (λ i. if eqb (get_or x.member i 0) m && eqb (get_or x.pool i 0) p then get_or x.won i 0 else 0)
+      (sum_to-ext x.kept _ (λ i. when eqb (get_or x.member i 0) m && eqb (get_or x.pool i 0) p then get_or x.won i 0 else 0)
       (λ i k. rw (place_same (get_or x.member i 0) (get_or x.pool i 0) m p (h.pool i k) inside))
       ∙ sym (sum_kept x.kept (λ (b : M.Bid). eqb b.member m && eqb b.pool p) (λ b. b.won) (bid_at x)))
       (h.won m p)
@@ -97,7 +97,7 @@ pub gain-table-at : (x : Bids) (worsts : List ℕ) (worst : ℕ → ℕ) (m : �
 unfolding gain_table gain_at
 gain-table-at x worsts worst m few l same fits =
     held-by-key most64 32 (λ i. get_or x.member i 0) (gain_at x worsts) x.kept m _ l few
-    (sum_to-ext x.kept _ (λ i. if eqb (get_or x.member i 0) m then get_or x.won i 0 * (get_or x.price i 0 - worst (get_or x.pool i 0)) else 0)
+    (sum_to-ext x.kept _ (λ i. when eqb (get_or x.member i 0) m then get_or x.won i 0 * (get_or x.price i 0 - worst (get_or x.pool i 0)) else 0)
     (λ i k. rw (same i k))
     ∙ sym (sum_kept x.kept (λ (b : M.Bid). eqb b.member m) (λ b. b.won * (b.price - worst b.pool)) (bid_at x)))
     fits
@@ -118,7 +118,7 @@ won-table-put x round pool m units price w =
     by-test (λ (y : Bids). won_table y ≡ won_table x) (ltb x.kept 256) (λ t. ap (held_to most16) (more (ltb-true x.kept 256 t))) (λ t. refl)
   where
     old : ℕ → ℕ → ℕ
-    old k i = if eqb (4 * get_or x.member i 0 + get_or x.pool i 0) k then get_or x.won i 0 else 0
+    old k i = when eqb (4 * get_or x.member i 0 + get_or x.pool i 0) k then get_or x.won i 0 else 0
 
     key : ℕ → ℕ
     key i = 4 * get_or (set x.member x.kept m) i 0 + get_or (set x.pool x.kept pool) i 0
@@ -126,10 +126,10 @@ won-table-put x round pool m units price w =
     value : ℕ → ℕ
     value i = get_or (set x.won x.kept 0) i 0
 
-    last : (k : ℕ) → x.kept < 256 → (if eqb (key x.kept) k then value x.kept else 0) ≡ 0
+    last : (k : ℕ) → x.kept < 256 → (when eqb (key x.kept) k then value x.kept else 0) ≡ 0
     last k room = rw (get_or-set_same x.won x.kept 0 0 (omega (arith, w.won))) (same-choice (eqb (key x.kept) k) 0)
 
-    earlier : (k i : ℕ) → i < x.kept → (if eqb (key i) k then value i else 0) ≡ old k i
+    earlier : (k i : ℕ) → i < x.kept → (when eqb (key i) k then value i else 0) ≡ old k i
     earlier k i l =
         let apart : i ≡ x.kept → ⊥ = omega arith in
         rw (get_or-set_other x.member x.kept i m 0 apart, get_or-set_other x.pool x.kept i pool 0 apart, get_or-set_other x.won x.kept i 0 0 apart)
@@ -143,8 +143,8 @@ won-table-put x round pool m units price w =
         (λ k l.
         omega (
           arith,
-          sum_to-next x.kept (λ i. if eqb (key i) k then value i else 0),
-          sum_to-ext x.kept (λ i. if eqb (key i) k then value i else 0) (old k) (earlier k),
+          sum_to-next x.kept (λ i. when eqb (key i) k then value i else 0),
+          sum_to-ext x.kept (λ i. when eqb (key i) k then value i else 0) (old k) (earlier k),
           last k room,
         ))
         ∙ sym (by_key 128 (λ i. 4 * get_or x.member i 0 + get_or x.pool i 0) (λ i. get_or x.won i 0) x.kept (omega arith))

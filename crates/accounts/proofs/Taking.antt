@@ -7,7 +7,7 @@ use native.Mathlib.Nat.{min-eq_left}
 use native.Mathlib.Omega.{arith}
 use lib.ListN.{get_or}
 use borrow.Author.Tests.{lt-ltb}
-use Rattle.lists.specs.Lists.{if◌then◌else◌, tab, map_from}
+use Rattle.lists.specs.Lists.{when◌then◌else◌, tab, map_from}
 use Rattle.lists.specs.Adding.{most16}
 use Rattle.lists.proofs.Places.{get_or-tab, tab-ext, map_from-tab}
 use Rattle.auction.specs.Price.{price_limit}
@@ -34,9 +34,9 @@ view-taken x round pools runs wins few within agree =
     ∙ sym (map_from-tab x.kept (won_given round (tab pools wins)) (bid_at x))
   where
     new : ℕ → ℕ
-    new i = if in_round_at x round i then min (get_or (get_or runs (get_or x.pool i 0) []) i 0) most16 else get_or x.won i 0
+    new i = when in_round_at x round i then min (get_or (get_or runs (get_or x.pool i 0) []) i 0) most16 else get_or x.won i 0
 
-    at : (i : ℕ) → i < x.kept → get_or (tab 256 new) i 0 ≡ (if in_round round (bid_at x i) then get_or (wins (get_or x.pool i 0)) i 0 else get_or x.won i 0)
+    at : (i : ℕ) → i < x.kept → get_or (tab 256 new) i 0 ≡ (when in_round round (bid_at x i) then get_or (wins (get_or x.pool i 0)) i 0 else get_or x.won i 0)
     at i l = get_or-tab 256 new i 0 (omega arith) ∙ rw (lt-ltb i x.kept l, agree i l)
 
     given : (i : ℕ) → i < x.kept → (b : Bool) → in_round round (bid_at x i) ≡ b → bid_at (with_wins x round runs) i ≡ won_given round (tab pools wins) i (bid_at x i)

@@ -10,7 +10,7 @@ use lib.ListN.{length, get_or, set, length-set, get_or-eq_default}
 use lib.Seq.{get_or-set_same, get_or-set_other}
 use borrow.Author.Tests.{lt-ltb, le-ltb, ltb-true}
 use Rattle.lists.proofs.Each.{set_cases}
-use Rattle.lists.specs.Lists.{if◌then◌else◌, tab}
+use Rattle.lists.specs.Lists.{when◌then◌else◌, tab}
 use Rattle.lists.specs.Adding.{most16}
 use Rattle.lists.proofs.Bools.{by-test, lt-or-le}
 use Rattle.lists.proofs.Places.{tab-more, get_or-tab, get_or-tab-past, length-tab, get_or-same, tab-set, tab-of}
@@ -99,7 +99,7 @@ take_long x round wins w = record {
 }
   where
     new : ℕ → ℕ
-    new i = if in_round_at x round i then min (get_or (get_or wins (get_or x.pool i 0) []) i 0) most16 else get_or x.won i 0
+    new i = when in_round_at x round i then min (get_or (get_or wins (get_or x.pool i 0) []) i 0) most16 else get_or x.won i 0
 
 -- ---- what is shown
 

@@ -7,7 +7,7 @@ use native.Mathlib.Omega.{arith}
 use lib.Dec.{leb, ltb}
 use lib.ListN.{length, get_or}
 use borrow.Author.Tests.{lt-ltb, ltb-true, le-leb}
-use Rattle.lists.specs.Lists.{if◌then◌else◌, tab, keep, least}
+use Rattle.lists.specs.Lists.{when◌then◌else◌, tab, keep, least}
 use Rattle.lists.proofs.Bools.{by-test}
 use Rattle.lists.proofs.Places.{tab-ext, tab-more, tab-of, get_or-tab, length-tab}
 use Rattle.machine.specs.State as M
@@ -130,13 +130,13 @@ unfolding least keep tab worst_in
 worst-of pool zero h f = refl
 worst-of pool (suc zero) h f = go (get_or (f 0).opened pool false)
   where
-    go : (a : Bool) → least (map (λ r. get_or r.reserves pool 0) (if a then f 0 ∷ [] else [])) ≡ worst_in a (get_or (f 0).reserves pool 0) false (get_or (f 1).reserves pool 0)
+    go : (a : Bool) → least (map (λ r. get_or r.reserves pool 0) (when a then f 0 ∷ [] else [])) ≡ worst_in a (get_or (f 0).reserves pool 0) false (get_or (f 1).reserves pool 0)
     go true = refl
     go false = refl
 worst-of pool (suc (suc zero)) h f = go (get_or (f 0).opened pool false) (get_or (f 1).opened pool false)
   where
     go : (a b : Bool)
-        → least (map (λ r. get_or r.reserves pool 0) (if a then f 0 ∷ (if b then f 1 ∷ [] else []) else (if b then f 1 ∷ [] else [])))
+        → least (map (λ r. get_or r.reserves pool 0) (when a then f 0 ∷ (when b then f 1 ∷ [] else []) else (when b then f 1 ∷ [] else [])))
         ≡ worst_in a (get_or (f 0).reserves pool 0) b (get_or (f 1).reserves pool 0)
     go true true = refl
     go true false = refl

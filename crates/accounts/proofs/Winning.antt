@@ -6,7 +6,7 @@ use Prim.Native.Nat.{ℕ, ◌+◌, ◌-◌, ◌≤◌, ◌<◌}
 use native.Mathlib.Omega.{arith}
 use lib.ListN.{length, get_or, drop, replicate, length-drop, take-append-drop, get_or-append}
 use borrow.Author.Tests.{lt-ltb, le-ltb}
-use Rattle.lists.specs.Lists.{if◌then◌else◌, tab, among}
+use Rattle.lists.specs.Lists.{when◌then◌else◌, tab, among}
 use Rattle.lists.proofs.Bools.{either, lt-or-le}
 use Rattle.lists.proofs.Places.{length-tab, get_or-tab, get_or-tab-past, map-tab, tab-ext, tab-same, tab-append, take_places}
 use Rattle.lists.proofs.Each.{length-map}
@@ -35,10 +35,10 @@ wins-left x round pool n reserve units answer left own e =
 module _ (x : Bids) (round pool n reserve : ℕ) (w : BidsLong x) (small : n ≤ unit_limit) (low : reserve ≤ price_limit) where
   -- the units of a bid that is in the auction, at its place and as the machine has it
   abbrev at : ℕ → ℕ
-  at i = if in_auction_at x round pool i then get_or x.units i 0 else 0
+  at i = when in_auction_at x round pool i then get_or x.units i 0 else 0
 
   abbrev own : M.Bid → ℕ
-  own b = if in_auction round pool b then b.units else 0
+  own b = when in_auction round pool b then b.units else 0
 
   abbrev unused : ℕ
   unused = 256 - x.kept

@@ -1,6 +1,6 @@
 -- The bids kept, over the program's struct, and as the machine has them.
 use Rattle.std.specs.Prelude.{Bool, true, false, ◌&&◌, List, [], ℕ, ◌+◌, ◌-◌, ◌*◌, min, ltb, eqb, get_or, set, replicate}
-use Rattle.lists.specs.Lists.{if◌then◌else◌, tab, places, sum_by_key}
+use Rattle.lists.specs.Lists.{when◌then◌else◌, tab, places, sum_by_key}
 use Rattle.lists.specs.Adding.{most16, most64, held_to}
 use Rattle.auction.specs.Limits.{place_limit, allot_into}
 use Rattle.machine.specs.Roll as M
@@ -22,7 +22,7 @@ no_bids =
 -- a bid more, where there is room; it stands and has won nothing
 unfoldable pub put_bid : Bids → ℕ → ℕ → ℕ → ℕ → ℕ → Bids
 put_bid x round pool m units price =
-    if ltb x.kept 256 then
+    when ltb x.kept 256 then
     record {
       kept = x.kept + 1;
       round = set x.round x.kept round;
@@ -63,7 +63,7 @@ withdraw_bid x n =
 
 -- the units of the bids that stand in a round in a pool, and 0 for the others
 unfoldable pub units_in : Bids → ℕ → ℕ → List ℕ
-units_in x round pool = tab 256 (λ i. if in_auction_at x round pool i then get_or x.units i 0 else 0)
+units_in x round pool = tab 256 (λ i. when in_auction_at x round pool i then get_or x.units i 0 else 0)
 
 -- what the bids that stand in a round win of a pool's open units, each at its place, and 0 for the others
 unfoldable pub wins_of : Bids → ℕ → ℕ → ℕ → ℕ → List ℕ
@@ -79,7 +79,7 @@ with_wins x round wins =
       member = x.member;
       units = x.units;
       price = x.price;
-      won = tab 256 (λ i. if in_round_at x round i then min (get_or (get_or wins (get_or x.pool i 0) []) i 0) most16 else get_or x.won i 0);
+      won = tab 256 (λ i. when in_round_at x round i then min (get_or (get_or wins (get_or x.pool i 0) []) i 0) most16 else get_or x.won i 0);
       stands = x.stands;
     }
 

@@ -1,6 +1,6 @@
 -- The members, over the program's struct, and as the machine has them. What belongs to member m in pool p stands at place 4 × m + p.
 use Rattle.std.specs.Prelude.{Bool, false, List, [], ◌∷◌, ℕ, ◌+◌, ◌-◌, ◌*◌, ◌%◌, ltb, get_or, set, replicate}
-use Rattle.lists.specs.Lists.{if◌then◌else◌, sum_to, tab, any}
+use Rattle.lists.specs.Lists.{when◌then◌else◌, sum_to, tab, any}
 use Rattle.lists.specs.Adding.{most16, most32, add_at}
 use Rattle.sets.specs.Set.{member, members, with_member, of_members}
 use Rattle.machine.specs.State as M
@@ -24,7 +24,7 @@ no_members =
 
 -- "It owes its call less payments, and 0 after MOVE."
 unfoldable pub owes_of : Members → ℕ → ℕ
-owes_of x m = if member x.moved m then 0 else get_or x.called m 0 - get_or x.paid m 0
+owes_of x m = when member x.moved m then 0 else get_or x.called m 0 - get_or x.paid m 0
 
 unfoldable pub someone_owes_in : Members → ℕ → Bool
 someone_owes_in x set = any (λ m. ltb 0 (owes_of x m)) (members set)
@@ -37,7 +37,7 @@ shortfall_at expected won allocated pool m =
 -- the shortfalls of a set's members in a pool, 0 at the other places and in a pool that no case has
 unfoldable pub shortfalls_of : ℕ → List ℕ → List ℕ → List ℕ → ℕ → List ℕ
 shortfalls_of set expected won allocated pool =
-    of_members set (λ m. if ltb pool 4 then shortfall_at expected won allocated pool m else 0)
+    of_members set (λ m. when ltb pool 4 then shortfall_at expected won allocated pool m else 0)
 
 -- over the four pools
 unfoldable pub over_pools_at : List ℕ → ℕ → ℕ
@@ -48,14 +48,14 @@ over_pools xs = tab 32 (over_pools_at xs)
 
 -- by pool, with 0 in the pools that are left out
 unfoldable pub without_pools : List ℕ → List Bool → List ℕ
-without_pools xs out = tab 128 (λ k. if get_or out (k % 4) false then 0 else get_or xs k 0)
+without_pools xs out = tab 128 (λ k. when get_or out (k % 4) false then 0 else get_or xs k 0)
 
 -- ---- changes
 
 -- MEMBER
 unfoldable pub put_member : Members → ℕ → ℕ → ℕ → ℕ → ℕ → ℕ → Members
 put_member x m contribution a b c d =
-    if ltb m 32 then
+    when ltb m 32 then
     record {
       given = with_member x.given m;
       moved = x.moved;
@@ -83,7 +83,7 @@ with_shares x set pool shares =
       called = x.called;
       paid = x.paid;
       expected = x.expected;
-      allocated = if ltb pool 4 then add_shares pool shares (members set) x.allocated else x.allocated;
+      allocated = when ltb pool 4 then add_shares pool shares (members set) x.allocated else x.allocated;
       won = x.won;
     }
 

@@ -1,6 +1,6 @@
 -- The pools given, over the program's struct, and as the machine has them.
 use Rattle.std.specs.Prelude.{List, ℕ, ◌+◌, ltb, get_or, set, replicate}
-use Rattle.lists.specs.Lists.{if◌then◌else◌, tab}
+use Rattle.lists.specs.Lists.{when◌then◌else◌, tab}
 use Rattle.machine.specs.State as M
 use Rattle.accounts.specs.declared.pools.Pools.{Pools}
 
@@ -10,7 +10,7 @@ no_pools = record { given = 0; units = replicate 4 0; marks = replicate 4 0 }
 -- the next pool, where there is room
 unfoldable pub put_pool : Pools → ℕ → ℕ → Pools
 put_pool x units mark =
-    if ltb x.given 4 then
+    when ltb x.given 4 then
     record { given = x.given + 1; units = set x.units x.given units; marks = set x.marks x.given mark }
     else x
 

@@ -1,6 +1,6 @@
 // The members. What belongs to member m in pool p stands at place 4 × m + p.
 ghost use Rattle.std.specs.Prelude.{◌≡◌, map, ℕ, ◌-◌, ◌≤◌, ◌<◌, length, get_or};
-ghost use Rattle.lists.specs.Lists.{if◌then◌else◌, sum};
+ghost use Rattle.lists.specs.Lists.{when◌then◌else◌, sum};
 ghost use Rattle.lists.specs.Adding.{most16, most32, held_to};
 ghost use Rattle.sets.specs.Set.{members};
 ghost use Rattle.accounts.specs.Members.{no_members, owes_of, someone_owes_in, shortfalls_of, over_pools, over_pools_at, without_pools, put_member, add_shares, with_shares, with_calls, with_payment, with_move, with_won};
@@ -76,7 +76,7 @@ pub fn amounts(set: u32, xs: [u32; 32]) -> u64
 
 // "It owes its call less payments, and 0 after MOVE."
 fn owed(moved: bool, called: u32, paid: u32) -> u64
-    ensures { result ≡ (if moved then 0 else (called - paid)) }
+    ensures { result ≡ (when moved then 0 else (called - paid)) }
 {
     if moved {
         0
@@ -145,7 +145,7 @@ pub fn over_pools(xs: [u16; 128]) -> [u64; 32]
 
 // Units, and 0 where they are left out.
 fn unless(out: bool, units: u16) -> u16
-    ensures { result ≡ (if out then 0 else units) }
+    ensures { result ≡ (when out then 0 else units) }
 {
     if out { 0 } else { units }
 }

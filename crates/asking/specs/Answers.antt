@@ -1,7 +1,7 @@
 -- What is said to a question about a case, and the text of it in a lent buffer. Letters are given by their ASCII codes.
 use Rattle.std.specs.Prelude.{◌≡◌, Bool, true, false, List, [], ◌∷◌, ◌++◌, ℕ, eqb, leb, length}
 use Rattle.std.proofs.lemmas.List.Edits.{sets}
-use Rattle.lists.specs.Lists.{if◌then◌else◌, Each, Bytes}
+use Rattle.lists.specs.Lists.{when◌then◌else◌, Each, Bytes}
 use Rattle.machine.specs.Printed.{decimal}
 use Rattle.reserves.specs.Reserves.{SameButReserves}
 use Rattle.input.specs.Fields.{rest}
@@ -48,7 +48,7 @@ requirement_text cents = (requirement_word ++ (32 ∷ [])) ++ (money_text cents 
 
 -- why a question is refused by a number: "with no case the reading is declined by 2"
 unfoldable pub sentence : ℕ → List ℕ
-sentence n = if eqb n 2 then no_case else []
+sentence n = when eqb n 2 then no_case else []
 
 -- "ask: refused 2: "
 unfoldable pub refused_by : ℕ → List ℕ
@@ -66,7 +66,7 @@ Said = Bool × List ℕ
 
 -- the requirement, or the refusal
 unfoldable pub reading_said : Reading → Said
-reading_said r = if eqb r.answer 0 then (true, requirement_text r.cents) else (false, refusal_text r.answer)
+reading_said r = when eqb r.answer 0 then (true, requirement_text r.cents) else (false, refusal_text r.answer)
 
 -- of what is held; to what is no question, how to ask
 unfoldable pub said_to : Question → Held → Said
@@ -75,7 +75,7 @@ said_to Unknown h = (false, usage_text)
 
 -- of what was read: nothing where a read failed, and no answer where the input ends within a field
 unfoldable pub said_at : Question → Rest → Said
-said_at q r = if r.ended then (if eqb r.len 0 then said_to q r.held else (false, cut_text)) else (false, [])
+said_at q r = when r.ended then (when eqb r.len 0 then said_to q r.held else (false, cut_text)) else (false, [])
 
 -- ---- where it stands
 
@@ -86,7 +86,7 @@ Written = Told × List ℕ
 -- the text at the front of a buffer, where it has 128 bytes, which no text passes
 unfoldable pub told_into : Said → List ℕ → Written
 told_into said out =
-    if leb 128 (length out) then (record { good = said.0; len = length said.1 }, sets out 0 said.1) else (record { good = false; len = 0 }, out)
+    when leb 128 (length out) then (record { good = said.0; len = length said.1 }, sets out 0 said.1) else (record { good = false; len = 0 }, out)
 
 -- There are parts, those that were read, of which what is held and left is as `Fed` says; and what is told is what is said of it.
 pub record Runs (q : Question) (out out' : List ℕ) (r : Told) : Type 0 where

@@ -11,7 +11,7 @@ use lib.Dec.{ltb, leb, eqb}
 use lib.ListN.{length, get_or, replicate, length-map, length-append, get_or-append}
 use lib.Seq.{ext_get_or}
 use borrow.Author.Tests.{lt-ltb}
-use Rattle.lists.specs.Lists.{if◌then◌else◌, sum_to, tab, places, keep, among}
+use Rattle.lists.specs.Lists.{when◌then◌else◌, sum_to, tab, places, keep, among}
 use Rattle.lists.proofs.Bools.{same-choice, cases}
 use Rattle.lists.proofs.Sums.{sum_to-ext}
 use Rattle.lists.proofs.Places.{map-tab, map-places, tab-of, tab-self, tab-ext}
@@ -33,7 +33,7 @@ by-places f g h (x ∷ xs) = ap (λ (r : List ℕ). h (f x) (g x) ∷ r) (by-pla
 
 module _ {B : Type 0} (n r : ℕ) (p : B → Bool) (units price : B → ℕ) (l : List B) where
   abbrev own : B → ℕ
-  own b = if p b then units b else 0
+  own b = when p b then units b else 0
 
   -- all bids, with 0 units for those that do not pass
   abbrev us : List ℕ
@@ -66,30 +66,30 @@ module _ {B : Type 0} (n r : ℕ) (p : B → Bool) (units price : B → ℕ) (l 
   same_units : (test : ℕ → Bool) → valid_units r test us ps ≡ valid_units r test us' ps'
   unfolding valid_units valid_at
   same_units test =
-      let part : ℕ → ℕ = λ j. if leb r (get_or ps j 0) && test (get_or ps j 0) then get_or us j 0 else 0 in
+      let part : ℕ → ℕ = λ j. when leb r (get_or ps j 0) && test (get_or ps j 0) then get_or us j 0 else 0 in
       ap (λ (m : ℕ). sum_to m part) (length-map l own)
       ∙ sum_to-among p part l (λ i e. rw (units-off i e) (same-choice (leb r (get_or ps i 0) && test (get_or ps i 0)) 0))
       ∙ sum_to-ext (length (keep p l)) _ _ (λ k h. cc (units-on k, price-on k))
-      ∙ ap (λ (m : ℕ). sum_to m (λ k. if leb r (get_or ps' k 0) && test (get_or ps' k 0) then get_or us' k 0 else 0)) (sym (length-map (keep p l) units))
+      ∙ ap (λ (m : ℕ). sum_to m (λ k. when leb r (get_or ps' k 0) && test (get_or ps' k 0) then get_or us' k 0 else 0)) (sym (length-map (keep p l) units))
 
   -- the shares of the bids at the price x
   module _ (x balance : ℕ) where
     abbrev at : (B → ℕ) → B → ℕ
-    at f b = if eqb (price b) x then f b else 0
+    at f b = when eqb (price b) x then f b else 0
 
-    share-all : shares_at x balance us ps ≡ split balance (map (λ b. if p b then at units b else 0) l)
+    share-all : shares_at x balance us ps ≡ split balance (map (λ b. when p b then at units b else 0) l)
     unfolding shares_at
     share-all =
         split-masked (length us) (λ j. eqb (get_or ps j 0) x) balance (λ j. get_or us j 0)
         ∙ ap (split balance)
-        (by-places own price (λ u y. if eqb y x then u else 0) l
-        ∙ map_congr_left {l = l} (λ b m. cases (p b) (at own b ≡ (if p b then at units b else 0)) (λ e. rw e) (λ e. rw e (same-choice (eqb (price b) x) 0))))
+        (by-places own price (λ u y. when eqb y x then u else 0) l
+        ∙ map_congr_left {l = l} (λ b m. cases (p b) (at own b ≡ (when p b then at units b else 0)) (λ e. rw e) (λ e. rw e (same-choice (eqb (price b) x) 0))))
 
     share-kept : shares_at x balance us' ps' ≡ split balance (map (at units) (keep p l))
     unfolding shares_at
     share-kept =
         split-masked (length us') (λ j. eqb (get_or ps' j 0) x) balance (λ j. get_or us' j 0)
-        ∙ ap (split balance) (by-places units price (λ u y. if eqb y x then u else 0) (keep p l))
+        ∙ ap (split balance) (by-places units price (λ u y. when eqb y x then u else 0) (keep p l))
 
     share-on : (k : ℕ) → k < length (keep p l) → get_or (shares_at x balance us ps) (to k) 0 ≡ get_or (shares_at x balance us' ps') k 0
     share-on k h =
@@ -103,7 +103,7 @@ module _ {B : Type 0} (n r : ℕ) (p : B → Bool) (units price : B → ℕ) (l 
       let x = get_or ps' k 0 in
       rw (price-on k, units-on k, same_units (ltb x), same_units (leb x), share-on x (n - valid_units r (ltb x) us' ps') k h)
 
-  pub allot-among : allot n r (map (λ b. if p b then units b else 0) l) (map price l) ≡ among p (λ bs. allot n r (map units bs) (map price bs)) l
+  pub allot-among : allot n r (map (λ b. when p b then units b else 0) l) (map price l) ≡ among p (λ bs. allot n r (map units bs) (map price bs)) l
   unfolding valid_at
   allot-among =
       among-is p (λ bs. allot n r (map units bs) (map price bs)) l (allot n r us ps) (allot-length n r us ps ∙ length-map l own)
@@ -127,7 +127,7 @@ module _ (n r : ℕ) (us ps : List ℕ) (paired : length ps ≡ length us) where
       ≡ among (λ i. ltb 0 (get_or us i 0)) (λ ks. allot n r (map (λ i. get_or us i 0) ks) (map (λ i. get_or ps i 0) ks)) (places (length us))
   allot-kept =
       let some : ℕ → Bool = λ i. ltb 0 (units-at i) in
-      let own : ℕ → ℕ = λ i. if some i then units-at i else 0 in
+      let own : ℕ → ℕ = λ i. when some i then units-at i else 0 in
       let same : map own (places (length us)) ≡ us
       = map-tab (length us) own (λ i. i)
       ∙ tab-ext (length us) own units-at (λ i l. ⊎_elim (λ e. rw e) (λ h. rw (lt-ltb 0 (units-at i) h)) (eq-zero-or-pos (units-at i)))
@@ -142,7 +142,7 @@ allot-pad n r us ps qs paired =
     let k = length qs in
     let units : ℕ → ℕ = λ i. get_or us i 0 in
     let price : ℕ → ℕ = λ i. get_or (ps ++ qs) i 0 in
-    let own : ℕ → ℕ = λ i. if ltb i m then units i else 0 in
+    let own : ℕ → ℕ = λ i. when ltb i m then units i else 0 in
     let alone : List ℕ → List ℕ = λ ks. allot n r (map units ks) (map price ks) in
     let all-units : map own (places (m + k)) ≡ us ++ replicate k 0 = map-tab (m + k) own (λ i. i) ∙ padded us k in
     let all-prices : map price (places (m + k)) ≡ ps ++ qs
@@ -165,7 +165,7 @@ pub record Alike (us : List ℕ) (r : ℕ) (ps : List ℕ) (s : ℕ) (qs : List 
 module _ (us : List ℕ) (r : ℕ) (ps : List ℕ) (s : ℕ) (qs : List ℕ) (h : Alike us r ps s qs) where
   -- a test of a bid's validity and price counts the same units
   same-part : (test : Bool → ℕ → Bool) (i : ℕ) → i < length us
-      → (if test (valid_at r ps i) (get_or ps i 0) then get_or us i 0 else 0) ≡ (if test (valid_at s qs i) (get_or qs i 0) then get_or us i 0 else 0)
+      → (when test (valid_at r ps i) (get_or ps i 0) then get_or us i 0 else 0) ≡ (when test (valid_at s qs i) (get_or qs i 0) then get_or us i 0 else 0)
   same-part test i l =
       ⊎_elim
       (λ e. rw e (same-choice (test (valid_at r ps i) (get_or ps i 0)) 0 ∙ sym (same-choice (test (valid_at s qs i) (get_or qs i 0)) 0)))

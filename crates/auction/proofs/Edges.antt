@@ -9,7 +9,7 @@ use native.Mathlib.Omega.{arith}
 use lib.Dec.{leb, eqb}
 use lib.ListN.{length, get_or, get_or-eq_default}
 use borrow.Author.Tests.{le-leb, lt-leb, eq-eqb, ne_eqb}
-use Rattle.lists.specs.Lists.{if◌then◌else◌}
+use Rattle.lists.specs.Lists.{when◌then◌else◌}
 use Rattle.lists.proofs.Bools.{either, same-choice, lt-or-le}
 use Rattle.lists.proofs.Places.{length-tab, get_or-tab, get_or-tab-past, tab-of, tab-ext}
 use Rattle.splitting.specs.Split.{split}
@@ -62,17 +62,17 @@ module _ (r : ℕ) (us ps : List ℕ) (t : ℕ) where
       sym
       (split-masked (length us) (λ j. eqb (price j) p) balance (λ j. get_or us j 0)
       ∙ ap (split balance)
-      (tab-ext (length us) (λ j. if eqb (price j) p then get_or us j 0 else 0) (below_at r us ps t)
-      (λ j l. price-cases (price j) p ((if eqb (price j) p then get_or us j 0 else 0) ≡ below_at r us ps t j)
+      (tab-ext (length us) (λ j. when eqb (price j) p then get_or us j 0 else 0) (below_at r us ps t)
+      (λ j l. price-cases (price j) p ((when eqb (price j) p then get_or us j 0 else 0) ≡ below_at r us ps t j)
       (λ here. rw (eq-eqb (price j) p here, le-leb r (price j) (omega arith), eq-eqb (price j + 1) t (omega arith)))
       (λ other. rw (ne_eqb (price j) p other) (sym (below-elsewhere j (λ f. other (omega arith))))))))
 
 -- ---- the bids at the edge and above, and the others
 
-pub settles : (t x u v : ℕ) → t ≤ x → (if leb t x then u else v) ≡ u
+pub settles : (t x u v : ℕ) → t ≤ x → (when leb t x then u else v) ≡ u
 settles t x u v h = rw (le-leb t x h)
 
-pub settles-not : (t x u v : ℕ) → x < t → (if leb t x then u else v) ≡ v
+pub settles-not : (t x u v : ℕ) → x < t → (when leb t x then u else v) ≡ v
 settles-not t x u v h = rw (lt-leb t x h)
 
 module _ (n r : ℕ) (us ps : List ℕ) (t : ℕ) (edge : Edge n r us ps t) where

@@ -8,7 +8,7 @@ use native.Mathlib.Omega.{arith}
 use lib.Dec.{ltb, leb, eqb}
 use lib.ListN.{length, get_or, get_or-eq_default}
 use borrow.Author.Tests.{le-leb, lt-leb, eq-eqb, ne_eqb}
-use Rattle.lists.specs.Lists.{if◌then◌else◌, sum, places, keep}
+use Rattle.lists.specs.Lists.{when◌then◌else◌, sum, places, keep}
 use Rattle.lists.proofs.Bools.{same-choice, lt-or-le}
 use Rattle.lists.proofs.Places.{length-tab, get_or-tab, get_or-tab-past}
 use Rattle.lists.proofs.Keep.{sum_kept}
@@ -77,10 +77,10 @@ module _ (n r : ℕ) (us ps : List ℕ) where
         same-choice {A = ℕ} (leb (valid_units r (leb p) us ps) n) 0,
       )
 
-  pub allot-get : (i : ℕ) → get_or (allot n r us ps) i 0 ≡ (if valid_at r ps i then won_at n r us ps i else 0)
+  pub allot-get : (i : ℕ) → get_or (allot n r us ps) i 0 ≡ (when valid_at r ps i then won_at n r us ps i else 0)
   unfolding allot
   allot-get i =
-      let won : ℕ → ℕ = λ k. if valid_at r ps k then won_at n r us ps k else 0 in
+      let won : ℕ → ℕ = λ k. when valid_at r ps k then won_at n r us ps k else 0 in
       ⊎_elim
       (λ l. get_or-tab (length us) won i 0 l)
       (λ g. get_or-tab-past (length us) won i g ∙ rw (won-past i g) (sym (same-choice (valid_at r ps i) 0)))

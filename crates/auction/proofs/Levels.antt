@@ -8,7 +8,7 @@ use native.Mathlib.Omega.{arith}
 use lib.Dec.{ltb, leb, eqb}
 use lib.ListN.{length, get_or}
 use borrow.Author.Tests.{lt-ltb, le-ltb, le-leb, lt-leb, eq-eqb, ne_eqb}
-use Rattle.lists.specs.Lists.{if◌then◌else◌, sum_to}
+use Rattle.lists.specs.Lists.{when◌then◌else◌, sum_to}
 use Rattle.lists.proofs.Bools.{either, lt-or-le, order-of}
 use Rattle.lists.proofs.Sums.{sum_to-ext, sum_to-le, sum_to-add, sum_to-zero}
 use Rattle.auction.specs.Auction.{valid_at, valid_units}
@@ -16,16 +16,16 @@ use Rattle.auction.specs.Edge.{counted_at, from}
 
 -- ---- the part of one bid, of u units at the price x
 
-pub counts : (t x u : ℕ) → t ≤ x → (if leb t x then u else 0) ≡ u
+pub counts : (t x u : ℕ) → t ≤ x → (when leb t x then u else 0) ≡ u
 counts t x u h = rw (le-leb t x h)
 
-pub counts-not : (t x u : ℕ) → x < t → (if leb t x then u else 0) ≡ 0
+pub counts-not : (t x u : ℕ) → x < t → (when leb t x then u else 0) ≡ 0
 counts-not t x u h = rw (lt-leb t x h)
 
-pub is_at : (p x u : ℕ) → x ≡ p → (if eqb x p then u else 0) ≡ u
+pub is_at : (p x u : ℕ) → x ≡ p → (when eqb x p then u else 0) ≡ u
 is_at p x u e = rw (eq-eqb x p e)
 
-pub is-not-at : (p x u : ℕ) → (x ≡ p → ⊥) → (if eqb x p then u else 0) ≡ 0
+pub is-not-at : (p x u : ℕ) → (x ≡ p → ⊥) → (when eqb x p then u else 0) ≡ 0
 is-not-at p x u h = rw (ne_eqb x p h)
 
 -- each price is p or another
@@ -34,7 +34,7 @@ price-cases x p P here elsewhere =
     ⊎_elim (λ k. elsewhere (λ e. omega arith)) (⊎_elim here (λ k. elsewhere (λ e. omega arith))) (order-of x p)
 
 -- what is counted from t on is at t, or from t + 1 on
-part_step : (t x u : ℕ) → (if leb t x then u else 0) ≡ (if leb (t + 1) x then u else 0) + (if eqb x t then u else 0)
+part_step : (t x u : ℕ) → (when leb t x then u else 0) ≡ (when leb (t + 1) x then u else 0) + (when eqb x t then u else 0)
 part_step t x u =
     ⊎_elim
     (λ l. omega (arith, counts-not t x u l, counts-not (t + 1) x u (omega arith), is-not-at t x u (omega arith)))
@@ -47,7 +47,7 @@ part_step t x u =
 
 -- the units bid at the price p
 abbrev pub level : List ℕ → List ℕ → ℕ → ℕ
-level us ps p = sum_to (length us) (λ j. if eqb (get_or ps j 0) p then get_or us j 0 else 0)
+level us ps p = sum_to (length us) (λ j. when eqb (get_or ps j 0) p then get_or us j 0 else 0)
 
 module _ (us ps : List ℕ) where
   pub counted-le : (t i : ℕ) → counted_at us ps t i ≤ get_or us i 0
@@ -67,7 +67,7 @@ module _ (us ps : List ℕ) where
   pub from_step : (t : ℕ) → from us ps t ≡ from us ps (t + 1) + level us ps t
   unfolding from
   from_step t =
-      let here : ℕ → ℕ = λ j. if eqb (get_or ps j 0) t then get_or us j 0 else 0 in
+      let here : ℕ → ℕ = λ j. when eqb (get_or ps j 0) t then get_or us j 0 else 0 in
       sum_to-ext (length us) (counted_at us ps t) (λ j. counted_at us ps (t + 1) j + here j) (λ j l. part_step t (get_or ps j 0) (get_or us j 0))
       ∙ sum_to-add (length us) (counted_at us ps (t + 1)) here
 
@@ -83,7 +83,7 @@ module _ (us ps : List ℕ) where
     valid-from : (test : ℕ → Bool) (t : ℕ) → ((x : ℕ) → (leb r x && test x) ≡ leb t x) → valid_units r test us ps ≡ from us ps t
     unfolding valid_units valid_at from
     valid-from test t h =
-        sum_to-ext (length us) _ (counted_at us ps t) (λ j l. ap (λ (b : Bool). if b then get_or us j 0 else 0) (h (get_or ps j 0)))
+        sum_to-ext (length us) _ (counted_at us ps t) (λ j l. ap (λ (b : Bool). when b then get_or us j 0 else 0) (h (get_or ps j 0)))
 
     pub valid-at-or-above : (p : ℕ) → r ≤ p → valid_units r (leb p) us ps ≡ from us ps p
     valid-at-or-above p h =

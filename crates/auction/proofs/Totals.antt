@@ -8,7 +8,7 @@ use Prim.Native.Nat.{ℕ, zero, suc, ◌+◌, ◌-◌, ◌≤◌, ◌<◌, min}
 use native.Mathlib.Omega.{arith}
 use lib.Dec.{eqb}
 use lib.ListN.{length, get_or}
-use Rattle.lists.specs.Lists.{if◌then◌else◌, sum, sum_to}
+use Rattle.lists.specs.Lists.{when◌then◌else◌, sum, sum_to}
 use Rattle.lists.proofs.Bools.{lt-or-le}
 use Rattle.lists.proofs.Sums.{sum_to-ext, sum_to-zero, sum-places, entry-le}
 use Rattle.auction.specs.Auction.{valid_units, shares_at, allot}
@@ -27,15 +27,15 @@ module _ (n r : ℕ) (us ps : List ℕ) where
   by-price : (f : ℕ → ℕ) (p : ℕ) → ((i : ℕ) → price i ≡ p → get_or ws i 0 ≡ f i) → ((i : ℕ) → (price i ≡ p → ⊥) → f i ≡ 0)
       → level ws ps p ≡ sum_to (length us) f
   by-price f p here elsewhere =
-      ap (λ (m : ℕ). sum_to m (λ i. if eqb (price i) p then get_or ws i 0 else 0)) (allot-length n r us ps)
+      ap (λ (m : ℕ). sum_to m (λ i. when eqb (price i) p then get_or ws i 0 else 0)) (allot-length n r us ps)
       ∙ sum_to-ext (length us) _ f
-      (λ i l. price-cases (price i) p ((if eqb (price i) p then get_or ws i 0 else 0) ≡ f i)
+      (λ i l. price-cases (price i) p ((when eqb (price i) p then get_or ws i 0 else 0) ≡ f i)
       (λ e. is_at p (price i) (get_or ws i 0) e ∙ here i e)
       (λ o. is-not-at p (price i) (get_or ws i 0) o ∙ sym (elsewhere i o)))
 
   level_all : (p : ℕ) → r ≤ p → from us ps p ≤ n → level ws ps p ≡ level us ps p
   level_all p h le =
-      by-price (λ i. if eqb (price i) p then get_or us i 0 else 0) p
+      by-price (λ i. when eqb (price i) p then get_or us i 0 else 0) p
       (λ i e. won-all n r us ps i (omega arith) (rw e le) ∙ sym (is_at p (price i) (get_or us i 0) e))
       (λ i o. is-not-at p (price i) (get_or us i 0) o)
 

@@ -3,7 +3,7 @@
 -- are already n or more it wins none. Otherwise the balance is split among the bids at its price, by units, in bid order."
 -- The bids are given by two lists, of units and of prices. A bid of 0 units is as if it were not there (`allot-kept`).
 use Rattle.std.specs.Prelude.{Bool, ◌&&◌, List, ℕ, ◌-◌, ltb, leb, eqb, length, get_or}
-use Rattle.lists.specs.Lists.{if◌then◌else◌, sum_to, tab}
+use Rattle.lists.specs.Lists.{when◌then◌else◌, sum_to, tab}
 use Rattle.splitting.specs.Split.{split_among}
 
 -- "valid if its price is at or above its pool's reserve"
@@ -12,7 +12,7 @@ valid_at reserve ps i = leb reserve (get_or ps i 0)
 
 -- the valid units at prices that pass a test
 unfoldable pub valid_units : ℕ → (ℕ → Bool) → List ℕ → List ℕ → ℕ
-valid_units reserve p us ps = sum_to (length us) (λ j. if valid_at reserve ps j && p (get_or ps j 0) then get_or us j 0 else 0)
+valid_units reserve p us ps = sum_to (length us) (λ j. when valid_at reserve ps j && p (get_or ps j 0) then get_or us j 0 else 0)
 
 -- "the balance is split among the bids at its price, by units, in bid order"
 unfoldable pub shares_at : ℕ → ℕ → List ℕ → List ℕ → List ℕ
@@ -23,10 +23,10 @@ unfoldable pub won_at : ℕ → ℕ → List ℕ → List ℕ → ℕ → ℕ
 won_at n reserve us ps i =
     let price = get_or ps i 0 in
     let above = valid_units reserve (ltb price) us ps in
-    if leb (valid_units reserve (leb price) us ps) n then get_or us i 0
-    else if leb n above then 0
+    when leb (valid_units reserve (leb price) us ps) n then get_or us i 0
+    else when leb n above then 0
     else get_or (shares_at price (n - above) us ps) i 0
 
 -- what each bid wins of n open units, in bid order
 unfoldable pub allot : ℕ → ℕ → List ℕ → List ℕ → List ℕ
-allot n reserve us ps = tab (length us) (λ i. if valid_at reserve ps i then won_at n reserve us ps i else 0)
+allot n reserve us ps = tab (length us) (λ i. when valid_at reserve ps i then won_at n reserve us ps i else 0)

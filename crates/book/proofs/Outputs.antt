@@ -5,7 +5,7 @@ use mathlib.Core.List.{List}
 use Prim.Native.Nat.{ℕ, ◌+◌, ◌-◌, ◌*◌, ◌≤◌, ◌<◌, min}
 use native.Mathlib.Omega.{arith}
 use lib.ListN.{length, get_or, replicate}
-use Rattle.lists.specs.Lists.{if◌then◌else◌, sum, sum_to}
+use Rattle.lists.specs.Lists.{when◌then◌else◌, sum, sum_to}
 use Rattle.lists.specs.Adding.{most16, most32, held_to}
 use Rattle.lists.proofs.Bools.{either}
 use Rattle.lists.proofs.Sums.{sum_to-le, sum-places, sum_bound, bound-past}
@@ -131,7 +131,7 @@ module _ (stage : Stage) (b : Book) (roll : List Entry) (s : Sound stage b roll)
       omega (
         arith,
         sum-members b.head.set (λ m. get_or xs m 0),
-        sum_to-le 32 (λ m. if member b.head.set m then get_or xs m 0 else 0) (λ m. get_or xs m 0) (λ m l. either (λ (x : ℕ). x ≤ get_or xs m 0) (member b.head.set m) (omega arith) (omega arith)),
+        sum_to-le 32 (λ m. when member b.head.set m then get_or xs m 0 else 0) (λ m. get_or xs m 0) (λ m l. either (λ (x : ℕ). x ≤ get_or xs m 0) (member b.head.set m) (omega arith) (omega arith)),
         sum-places xs,
         ap (λ (n : ℕ). sum_to n (λ m. get_or xs m 0)) s.members.contribution,
       )

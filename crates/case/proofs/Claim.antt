@@ -8,7 +8,7 @@ use Prim.Native.Nat.{ℕ, zero, suc, ◌+◌, ◌*◌}
 use lib.Dec.{eqb}
 use lib.ListN.{length, drop}
 use borrow.Author.Tests.{eqb-true, not-false}
-use Rattle.lists.specs.Lists.{if◌then◌else◌, Bytes}
+use Rattle.lists.specs.Lists.{when◌then◌else◌, Bytes}
 use Rattle.lists.proofs.Bools.{same-choice}
 use Rattle.lists.proofs.Each.{Each, each_take, each-drop}
 use Rattle.lists.specs.Tests.{Passed}
@@ -112,7 +112,7 @@ taken h s t (some call) r =
     record { answer = same; tied = rw same (by_answer (eqb (refusal s call) 0) refl) }
   where
     by_answer : (b : Bool) → eqb (refusal s call) 0 ≡ b
-        → Tied (if b then record { present = true; case = case_after h.case call } else h) (if b then some (accepted (M.the_case s) call) else s)
+        → Tied (when b then record { present = true; case = case_after h.case call } else h) (when b then some (accepted (M.the_case s) call) else s)
     by_answer true e = new-tied h s t call r (accepted-passed s call (eqb-true (refusal s call) 0 e))
     by_answer false e = t
 

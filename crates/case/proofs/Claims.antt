@@ -7,7 +7,7 @@ use Prim.Native.Nat.{ℕ, ◌<◌}
 use lib.Dec.{eqb}
 use lib.ListN.{length, get_or, take}
 use borrow.Author.Tests.{lt-ltb, eqb-true, ne_eqb}
-use Rattle.lists.specs.Lists.{if◌then◌else◌, sum, Bytes}
+use Rattle.lists.specs.Lists.{when◌then◌else◌, sum, Bytes}
 use Rattle.lists.proofs.Each.{each_take}
 use Rattle.lists.proofs.Places.{get_or-tab}
 use Rattle.machine.specs.Wire.{Call, HEAD}
@@ -72,8 +72,8 @@ unfolding outcome_of take_asked answer_to
 as-taken h a e = rw e (by_answer (case_answer_to h.case a) (eqb (case_answer_to h.case a) 0))
   where
     by_answer : (n : ℕ) (b : Bool)
-        → seen n (record { present = true; case = if b then after_asked h.case a else h.case })
-        ≡ seen n (if b then record { present = true; case = after_asked h.case a } else record { present = true; case = h.case })
+        → seen n (record { present = true; case = when b then after_asked h.case a else h.case })
+        ≡ seen n (when b then record { present = true; case = after_asked h.case a } else record { present = true; case = h.case })
     by_answer n true = refl
     by_answer n false = refl
 

@@ -7,7 +7,7 @@ use Prim.Native.Nat.{ℕ, ◌<◌}
 use native.Mathlib.Omega.{arith}
 use lib.Dec.{eqb}
 use lib.ListN.{length}
-use Rattle.lists.specs.Lists.{if◌then◌else◌, count, keep, tab}
+use Rattle.lists.specs.Lists.{when◌then◌else◌, count, keep, tab}
 use Rattle.lists.proofs.Each.{each_more, each-always, map-ext}
 use Rattle.lists.proofs.Places.{tab-ext}
 use Rattle.sets.specs.Set.{member, members}
@@ -124,7 +124,7 @@ module _ (c : Case) (roll : List R.Entry) (sound : Sound c.stage c.book roll) (o
         counts = counts-shown i;
         holdings = λ m pool price. holdings-shown m pool price i;
         prices = prices-shown i;
-        result = if eqb (M.letter (view c roll).stage) 5 then some (result-shown i) else none;
+        result = when eqb (M.letter (view c roll).stage) 5 then some (result-shown i) else none;
       })
 
 -- where no case is held

@@ -11,7 +11,7 @@ use lib.Dec.{leb, ltb, eqb}
 use lib.ListN.{length, take, get_or, length-take, get_or-eq_default}
 use lib.Seq.{get_or-take}
 use borrow.Author.Tests.{eq-eqb, ne_eqb, leb-true, ltb-true, ltb-false}
-use Rattle.lists.specs.Lists.{if◌then◌else◌, between}
+use Rattle.lists.specs.Lists.{when◌then◌else◌, between}
 use Rattle.lists.proofs.Bools.{by-test, cases, either, and_right}
 use Rattle.machine.specs.Wire as Wire
 use Rattle.wire.specs.declared.Head.{Head}
@@ -31,11 +31,11 @@ use Rattle.case.specs.Cases.{case_of, case_answer, case_answer_to, first_answer,
 -- ---- a call as a method
 
 abbrev outcome : ℕ → Case → Case → Outcome
-outcome n old new = record { answer = n; case = if eqb n 0 then new else old }
+outcome n old new = record { answer = n; case = when eqb n 0 then new else old }
 
 -- what is held after an answer
 abbrev after-answer : ℕ → Held → Held → Applied
-after-answer n old new = record { answer = n; held = if eqb n 0 then new else old }
+after-answer n old new = record { answer = n; held = when eqb n 0 then new else old }
 
 module _ (c : Case) (a : Option Wire.Call) where
   pub declined : (n : ℕ) → n ≡ case_answer_to c a → (n ≡ 0 → ⊥) → (o : Outcome) → o ≡ record { answer = n; case = c } → o ≡ outcome_of c a
@@ -101,20 +101,20 @@ module _ (c : Case) (n p q r s : ℕ) where
   unfolding case_answer_to after_asked case_after asked
   reserves-after e = go (between 1 4 n) refl e
     where
-      go : (b : Bool) → between 1 4 n ≡ b → case_answer_to c (if b then some (Wire.ROUND (take n reserves)) else none) ≡ 0
+      go : (b : Bool) → between 1 4 n ≡ b → case_answer_to c (when b then some (Wire.ROUND (take n reserves)) else none) ≡ 0
           → case_of (Bidding (next_round (round_of c.stage))) (round_book c.book (reserve_if n 0 p) (reserve_if n 1 q) (reserve_if n 2 r) (reserve_if n 3 s))
-          ≡ after_asked c (if b then some (Wire.ROUND (take n reserves)) else none)
+          ≡ after_asked c (when b then some (Wire.ROUND (take n reserves)) else none)
       go true t e = rw (reserve-at n 0 reserves, reserve-at n 1 reserves, reserve-at n 2 reserves, reserve-at n 3 reserves)
       go false t e = let z : ◌≡◌ {A = ℕ} 1 0 = e in absurd (omega arith)
 
 -- where no case is held, ROUND is answered 1 or 2
-pub round-first : (n p q r s : ℕ) → ◌≡◌ {A = ℕ} (if not (between 1 4 n) then 1 else 2) (first_answer_to (asked (Round n p q r s)))
+pub round-first : (n p q r s : ℕ) → ◌≡◌ {A = ℕ} (when not (between 1 4 n) then 1 else 2) (first_answer_to (asked (Round n p q r s)))
 unfolding first_answer_to first_answer asked
 round-first n p q r s = cases (between 1 4 n) _ (λ t. rw t) (λ t. rw t)
 
 pub round-later : (n p q r s : ℕ) → first_answer_to (asked (Round n p q r s)) ≡ 0 → ⊥
 round-later n p q r s e =
-    let z : ◌≡◌ {A = ℕ} (if not (between 1 4 n) then 1 else 2) 0 = round-first n p q r s ∙ e in
+    let z : ◌≡◌ {A = ℕ} (when not (between 1 4 n) then 1 else 2) 0 = round-first n p q r s ∙ e in
     either (λ (k : ℕ). (k ≡ 0) → ⊥) (not (between 1 4 n)) (λ x. omega arith) (λ x. omega arith) z
 
 -- ---- HEAD

@@ -8,7 +8,7 @@ use native.Mathlib.Omega.{arith}
 use lib.Dec.{leb, ltb}
 use lib.ListN.{length, get_or, set}
 use borrow.Author.Tests.{leb-false, eqb-true, not-false}
-use Rattle.lists.specs.Lists.{if◌then◌else◌, sum, sum_by_key, tab}
+use Rattle.lists.specs.Lists.{when◌then◌else◌, sum, sum_by_key, tab}
 use Rattle.lists.specs.Adding.{held_to}
 use Rattle.lists.proofs.Bools.{either, or_left, or_right}
 use Rattle.lists.proofs.Places.{get_or-tab, tab-of}
@@ -135,6 +135,6 @@ module _ (c : Case) (roll : List Entry) (s : Sound c.stage c.book roll) (ok : Ca
       (record { set = s.set; pools = s.pools; members = s.members; rounds = s.rounds; bids = s.bids; won = s.won })
       right
     where
-      staged : (b : Bool) → view_stage (if b then c.stage else After 1) ≡ (if b then view_stage c.stage else M.After 1)
+      staged : (b : Bool) → view_stage (when b then c.stage else After 1) ≡ (when b then view_stage c.stage else M.After 1)
       staged true = refl
       staged false = refl

@@ -1,7 +1,7 @@
 -- The program's case and its calls, over its own structs.
 use Rattle.std.specs.Prelude.{Bool, true, false, List, ℕ, ltb, eqb, length, get_or}
 use Rattle.std.proofs.Math.Option.{Option, none, some}
-use Rattle.lists.specs.Lists.{if◌then◌else◌, between}
+use Rattle.lists.specs.Lists.{when◌then◌else◌, between}
 use Rattle.machine.specs.Wire as Wire
 use Rattle.wire.specs.declared.Head.{Head}
 use Rattle.book.specs.declared.Book.{Book}
@@ -81,16 +81,16 @@ first_answer_to none = 1
 first_answer_to (some call) = first_answer call
 
 unfoldable pub answer_to : Bool → Case → Option Wire.Call → ℕ
-answer_to present c asked = if present then case_answer_to c asked else first_answer_to asked
+answer_to present c asked = when present then case_answer_to c asked else first_answer_to asked
 
 -- reserve i of n, and 0 behind the last
 abbrev pub reserve_if : ℕ → ℕ → ℕ → ℕ
-reserve_if n i x = if ltb i n then x else 0
+reserve_if n i x = when ltb i n then x else 0
 
 -- the answer to ROUND with n reserves; it has one to four of them
 unfoldable pub reserves_answer : Case → ℕ → ℕ → ℕ → ℕ → ℕ → ℕ
 reserves_answer c n p q r s =
-    if between 1 4 n then round_answer c.stage c.book n (reserve_if n 0 p) (reserve_if n 1 q) (reserve_if n 2 r) (reserve_if n 3 s) else 1
+    when between 1 4 n then round_answer c.stage c.book n (reserve_if n 0 p) (reserve_if n 1 q) (reserve_if n 2 r) (reserve_if n 3 s) else 1
 
 -- ---- the case after an accepted call
 
@@ -115,7 +115,7 @@ case_after c (Wire.MISS m price) = case_of c.stage (miss_book c.book m price)
 case_after c Wire.FINISH = case_of Finished c.book
 case_after c (Wire.SALE pool m price) =
     let b = sale_book c.book pool m price in
-    case_of (if any_open_in b then c.stage else After 1) b
+    case_of (when any_open_in b then c.stage else After 1) b
 case_after c (Wire.WITHDRAW m n) = case_of c.stage (withdraw_book c.book n)
 
 -- the case after what is asked, if it is accepted
@@ -133,7 +133,7 @@ no_held = record { present = false; case = new_case (record { pools = 0; least =
 unfoldable pub take_asked : Held → Option Wire.Call → Applied
 take_asked h asked =
     let n = answer_to h.present h.case asked in
-    record { answer = n; held = if eqb n 0 then record { present = true; case = after_asked h.case asked } else h }
+    record { answer = n; held = when eqb n 0 then record { present = true; case = after_asked h.case asked } else h }
 
 -- one call, from any bytes
 unfoldable pub applied : Held → List ℕ → Applied
@@ -145,9 +145,9 @@ applied h bytes = take_asked h (Wire.decode bytes)
 unfoldable pub head_outcome : Head → Applied
 head_outcome h =
     let n = head_answer h in
-    record { answer = n; held = if eqb n 0 then record { present = true; case = new_case h } else no_held }
+    record { answer = n; held = when eqb n 0 then record { present = true; case = new_case h } else no_held }
 
 unfoldable pub outcome_of : Case → Option Wire.Call → Outcome
 outcome_of c asked =
     let n = case_answer_to c asked in
-    record { answer = n; case = if eqb n 0 then after_asked c asked else c }
+    record { answer = n; case = when eqb n 0 then after_asked c asked else c }

@@ -2,7 +2,7 @@
 use Rattle.std.specs.Prelude.{List, [], map, ℕ, eqb, ℤ, pos, get_or}
 use Rattle.std.proofs.Math.Option.{none, some}
 use Rattle.std.proofs.Math.IntN.{sub_ℕ}
-use Rattle.lists.specs.Lists.{if◌then◌else◌, tab}
+use Rattle.lists.specs.Lists.{when◌then◌else◌, tab}
 use Rattle.sets.specs.Set.{members}
 use Rattle.machine.specs.Run.{MemberResult, Result, Observed}
 use Rattle.units.specs.Steps.{zero_sum}
@@ -30,18 +30,18 @@ sum_of_prices_in c = sub_ℕ (prices_in c.book) zero_prices
 
 -- document 02, C-16: what is kept of the units of a pool that have left the house, in cents; nothing has left where no case is held
 unfoldable pub pool_prices_in : Held → ℕ → ℤ
-pool_prices_in h pool = if h.present then sub_ℕ (sum_of h.case.book.units pool) zero_sum else pos 0
+pool_prices_in h pool = when h.present then sub_ℕ (sum_of h.case.book.units pool) zero_sum else pos 0
 
 -- the requirement, "read from this sum and the two losses alone; with no case the reading is declined by 2"
 unfoldable pub reading_in : Held → Reading
-reading_in h = if h.present then record { answer = 0; cents = requirement_in h.case.book } else record { answer = 2; cents = 0 }
+reading_in h = when h.present then record { answer = 0; cents = requirement_in h.case.book } else record { answer = 2; cents = 0 }
 
 -- document 02, C-17: "every call on a member", and what each owes, in member order; none where no case is held
 unfoldable pub called_in : Held → List ℕ
-called_in h = let b = h.case.book in if h.present then map (λ m. get_or b.members.called m 0) (members b.head.set) else []
+called_in h = let b = h.case.book in when h.present then map (λ m. get_or b.members.called m 0) (members b.head.set) else []
 
 unfoldable pub owed_in : Held → List ℕ
-owed_in h = let b = h.case.book in if h.present then map (owes_of b.members) (members b.head.set) else []
+owed_in h = let b = h.case.book in when h.present then map (owes_of b.members) (members b.head.set) else []
 
 -- member m's rank and charges
 abbrev pub member_result_in : Book → ℕ → MemberResult
@@ -69,8 +69,8 @@ seen n h =
     let c = h.case in
     record {
       answer = n;
-      counts = if h.present then tab c.book.pools.given (counts_in c) else [];
-      holdings = λ m pool price. if h.present then holding_in c m pool price else 0;
-      prices = if h.present then sum_of_prices_in c else pos 0;
-      result = if h.present then (if eqb (letter_of c.stage) 5 then some (shown_result c.book) else none) else none;
+      counts = when h.present then tab c.book.pools.given (counts_in c) else [];
+      holdings = λ m pool price. when h.present then holding_in c m pool price else 0;
+      prices = when h.present then sum_of_prices_in c else pos 0;
+      result = when h.present then (when eqb (letter_of c.stage) 5 then some (shown_result c.book) else none) else none;
     }

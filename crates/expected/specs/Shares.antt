@@ -1,6 +1,6 @@
 -- What the program prints: "one line a member that can be carried over to MEMBER's expected units, and a total".
 use Rattle.std.specs.Prelude.{ℕ, ◌%◌, ◌^◌, List, [], ◌∷◌, ◌++◌, slice_index}
-use Rattle.lists.specs.Lists.{if◌then◌else◌, sum, tab, joined}
+use Rattle.lists.specs.Lists.{when◌then◌else◌, sum, tab, joined}
 use Rattle.machine.specs.Printed.{decimal}
 use Rattle.sets.specs.Set.{member}
 
@@ -23,7 +23,7 @@ member_text m units = member_word ++ (decimal 20 m ++ (expected_word ++ (decimal
 
 -- the line of a place, where it is a member's
 unfoldable pub place_text : ℕ → ℕ → ℕ → List ℕ
-place_text set m units = if member set m then member_text m units else []
+place_text set m units = when member set m then member_text m units else []
 
 -- the lines of the members, in member order
 unfoldable pub members_text : ℕ → List ℕ → List ℕ

@@ -8,7 +8,7 @@ use native.Mathlib.Nat.{mod-lt}
 use native.Mathlib.Omega.{arith}
 use lib.Dec.{eqb}
 use lib.ListN.{get_or}
-use Rattle.lists.specs.Lists.{if◌then◌else◌, tab}
+use Rattle.lists.specs.Lists.{when◌then◌else◌, tab}
 use Rattle.lists.proofs.Each.{Each}
 use Rattle.lists.proofs.Places.{get_or-tab, tab-ext}
 use Rattle.machine.specs.Roll.{Entry}
@@ -62,9 +62,9 @@ module _ (c : Case) (roll : List Entry) (sound : Sound c.stage c.book roll) (ok 
   unfolding owes_table
   owes-all = tab-ext 32 _ _ (λ m l. debt-shown c.stage c.book roll sound ok m)
 
-  result-all : result_shown c ≡ (if eqb (M.letter (view c roll).stage) 5 then final_of (view c roll) else no_result)
+  result-all : result_shown c ≡ (when eqb (M.letter (view c roll).stage) 5 then final_of (view c roll) else no_result)
   unfolding result_shown
-  result-all = ap (λ (r : Result). if eqb (M.letter (view c roll).stage) 5 then r else no_result) (final-shown c.stage c.book roll sound ok)
+  result-all = ap (λ (r : Result). when eqb (M.letter (view c roll).stage) 5 then r else no_result) (final-shown c.stage c.book roll sound ok)
 
   pub shown-in : case_shown c ≡ shown_in (view c roll)
   unfolding case_shown shown_in

@@ -1,7 +1,7 @@
 -- What the machine shows, in the numbers of `Shown`.
 use Rattle.std.specs.Prelude.{true, ◌/◌, ◌%◌, eqb, length, get_or}
 use Rattle.std.proofs.Math.Option.{none, some}
-use Rattle.lists.specs.Lists.{if◌then◌else◌, tab}
+use Rattle.lists.specs.Lists.{when◌then◌else◌, tab}
 use Rattle.machine.specs.Roll.{no_bid}
 use Rattle.machine.specs.State.{Case, State, letter, round_of}
 use Rattle.machine.specs.Requirement.{requirement, prefunded, owes}
@@ -27,7 +27,7 @@ final_of c =
 -- how many bids there are and which of them stand, "per pool the five counts" and "the sum of prices of the units not open", the requirement, what is prefunded and what each member owes
 unfoldable pub shown_in : Case → Shown
 shown_in c =
-    let r = if eqb (letter c.stage) 5 then final_of c else no_result in
+    let r = when eqb (letter c.stage) 5 then final_of c else no_result in
     record {
       present = true;
       stage = letter c.stage;

@@ -1,6 +1,6 @@
 -- What is shown of what is held, in the program's own terms.
 use Rattle.std.specs.Prelude.{true, false, List, ℕ, ◌/◌, ◌%◌, min, eqb, pos, length, get_or, replicate}
-use Rattle.lists.specs.Lists.{if◌then◌else◌, tab}
+use Rattle.lists.specs.Lists.{when◌then◌else◌, tab}
 use Rattle.units.specs.Shown.{count_of}
 use Rattle.accounts.specs.Members.{owes_of}
 use Rattle.book.specs.declared.Book.{Book}
@@ -35,7 +35,7 @@ no_result =
 
 -- what FINISH gave
 unfoldable pub result_shown : Case → Result
-result_shown c = if eqb (letter_of c.stage) 5 then result_in c.book else no_result
+result_shown c = when eqb (letter_of c.stage) 5 then result_in c.book else no_result
 
 -- where no case is held
 unfoldable pub none_shown : Shown
@@ -85,11 +85,11 @@ case_shown c =
     }
 
 unfoldable pub shown_of : Held → Shown
-shown_of h = if h.present then case_shown h.case else none_shown
+shown_of h = when h.present then case_shown h.case else none_shown
 
 -- the units of a pool that a member holds at a price
 unfoldable pub holding_shown : Held → ℕ → ℕ → ℕ → ℕ
-holding_shown h m pool price = if h.present then holding_in h.case m pool price else 0
+holding_shown h m pool price = when h.present then holding_in h.case m pool price else 0
 
 -- holdings asked by member, pool and price, as many as there are of all three
 unfoldable pub asks : (ℕ → ℕ → ℕ → ℕ) → List ℕ → List ℕ → List ℕ → List ℕ

@@ -2,7 +2,7 @@
 -- complement." The bytes of a call.
 use Rattle.std.specs.Prelude.{◌≡◌, ℕ, zero, suc, ◌+◌, ◌-◌, ◌/◌, ◌%◌, ◌^◌, ◌<◌, ◌≤◌, List, [], ◌∷◌, ◌++◌, length, ◌==◌, nat_lt}
 use Rattle.std.proofs.Math.Option.{Option}
-use Rattle.lists.specs.Lists.{if◌then◌else◌}
+use Rattle.lists.specs.Lists.{when◌then◌else◌}
 use Rattle.auction.specs.Price.{zero_price}
 use Rattle.machine.specs.Wire as Wire
 use Rattle.forms.specs.Forms.{Form, tag_of, numbers_of, form_of, kind_of}
@@ -15,11 +15,11 @@ bytes_of (suc k) n = bytes_of k (n / 256) ++ ((n % 256) ∷ [])
 
 -- how many bytes a number takes, by its kind
 unfoldable pub width_of : ℕ → ℕ
-width_of kind = if nat_lt kind 2 then 1 else if kind == 2 then 2 else 4
+width_of kind = when nat_lt kind 2 then 1 else when kind == 2 then 2 else 4
 
 -- the number that is written: a price, held as `Price` says, in two's complement
 unfoldable pub raw_of : ℕ → ℕ → ℕ
-raw_of kind n = if kind == 5 then (n + (2 ^ 32 - zero_price)) % 2 ^ 32 else n
+raw_of kind n = when kind == 5 then (n + (2 ^ 32 - zero_price)) % 2 ^ 32 else n
 
 unfoldable pub field_bytes : ℕ → ℕ → List ℕ
 field_bytes kind n = bytes_of (width_of kind) (raw_of kind n)

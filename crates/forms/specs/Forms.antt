@@ -1,7 +1,7 @@
 -- A call as its tag and its numbers, and what kind of number each is: the form in which a call is written and read, as bytes or as text.
 use Rattle.std.specs.Prelude.{ℕ, ◌+◌, ◌*◌, ◌&&◌, List, [], ◌∷◌, nat_lt, slice_index}
 use Rattle.std.proofs.Math.Option.{Option, none, some}
-use Rattle.lists.specs.Lists.{if◌then◌else◌, between}
+use Rattle.lists.specs.Lists.{when◌then◌else◌, between}
 use Rattle.machine.specs.Wire as Wire
 use Rattle.wire.specs.declared.Call.{Call}
 use Rattle.wire.specs.declared.Call.TheVariants.{Head as HeadCall, Pool, Member, Round, Bid, Close, Allocate, Tear, Call as CallCall, Pay, Move, Miss, Finish, Sale, Withdraw, Unknown}
@@ -75,7 +75,7 @@ kinds =
 
 -- the kind of a call's number i, by its tag; 0 where the call has no such number
 unfoldable pub kind_of : ℕ → ℕ → ℕ
-kind_of tag i = if nat_lt tag 16 && nat_lt i 8 then slice_index kinds (tag * 8 + i) else 0
+kind_of tag i = when nat_lt tag 16 && nat_lt i 8 then slice_index kinds (tag * 8 + i) else 0
 
 -- a call of the program: a tag and eight numbers, of which the first `count` are the call's
 abbrev pub flat_of : (tag count a b c d e f g h : ℕ) → Tagged
@@ -83,7 +83,7 @@ flat_of tag count a b c d e f g h = record { tag = tag; count = count; numbers =
 
 -- a ROUND has one to four reserves
 unfoldable pub flat_round : ℕ → ℕ → ℕ → ℕ → ℕ → Tagged
-flat_round n a b c d = if between 1 4 n then flat_of 4 n a b c d 0 0 0 0 else flat_of 0 0 0 0 0 0 0 0 0 0
+flat_round n a b c d = when between 1 4 n then flat_of 4 n a b c d 0 0 0 0 else flat_of 0 0 0 0 0 0 0 0 0 0
 
 -- the tag and the numbers of a call of the program
 unfoldable pub flattened : Call → Tagged

@@ -1,6 +1,6 @@
 -- The loop that reads lines of positions: what is kept after the lines that were taken, and what the run gives at its end.
 use Rattle.std.specs.Prelude.{◌≡◌, ℕ, ◌+◌, ◌%◌, ◌^◌, ◌≤◌, Bool, true, false, not, ◌||◌, List, ◌++◌, length, ◌==◌}
-use Rattle.lists.specs.Lists.{if◌then◌else◌, any, joined, Bytes}
+use Rattle.lists.specs.Lists.{when◌then◌else◌, any, joined, Bytes}
 use Rattle.sets.specs.Set.{members}
 use Rattle.feed.specs.Feeds.{Keeps, Fed}
 use Rattle.translation.specs.Writes.{texts, WritesAll}
@@ -94,7 +94,7 @@ Given = Bool × List ℕ
 
 -- nothing, or each member's share of the units by a run of records
 abbrev pub nothing_or : (nothing : Bool) → ℕ → ℕ → List ℕ → List ℕ → Given
-nothing_or nothing set units bytes shares = if nothing then (false, shares) else (true, (expected_units set units bytes shares).1)
+nothing_or nothing set units bytes shares = when nothing then (false, shares) else (true, (expected_units set units bytes shares).1)
 
 -- What a text of days gives: nothing where the set is empty, the units are out of range or a line is refused, else each member's share of the units by the records of
 -- its lines.

@@ -8,7 +8,7 @@ use mathlib.Core.Logic.{⊎_elim}
 use lib.ListN.{length, get_or, take, drop, drop_of_length-le}
 use lib.Seq.{take-length, take_all, drop-length}
 use borrow.Author.Tests.{lt-ltb, le-ltb, lt-leb, le-leb}
-use Rattle.lists.specs.Lists.{if◌then◌else◌}
+use Rattle.lists.specs.Lists.{when◌then◌else◌}
 use Rattle.lists.proofs.Bools.{lt-or-le}
 use Rattle.machine.specs.Printed.{fields_in}
 use Rattle.wire.proofs.Numbers.{number-two}
@@ -61,7 +61,7 @@ fields-more n (tag ∷ high ∷ low ∷ rest) h =
 -- ---- the bytes of the first field at an input's front
 
 module _ (last : Bool) (s : List ℕ) where
-  pub front-short : length s < 3 → (if last then length s else 0) ≡ front_size last s
+  pub front-short : length s < 3 → (when last then length s else 0) ≡ front_size last s
   unfolding front_size
   front-short h = rw (lt-leb 3 (length s) h)
 
@@ -69,7 +69,7 @@ module _ (last : Bool) (s : List ℕ) where
     its : field_size s ≡ size
     its = size-whole s h ∙ sym is
 
-    pub front_cut : length s < size → (if last then length s else 0) ≡ front_size last s
+    pub front_cut : length s < size → (when last then length s else 0) ≡ front_size last s
     unfolding front_size
     front_cut more = rw (le-leb 3 (length s) h, its, lt-leb size (length s) more)
 

@@ -1,10 +1,10 @@
 -- Several byte strings in one run of bytes, and numbers written in front of what was there.
 use Rattle.std.specs.Prelude.{List, [], ◌∷◌, ℕ, ◌+◌, ◌-◌, min, ltb, length, take, drop}
-use Rattle.lists.specs.Lists.{if◌then◌else◌}
+use Rattle.lists.specs.Lists.{when◌then◌else◌}
 
 -- where the string that begins at a place ends, among n bytes: an end below its begin or above n is held to them
 unfoldable pub cut_at : ℕ → ℕ → ℕ → ℕ
-cut_at at n end = if ltb end at then at else min end n
+cut_at at n end = when ltb end at then at else min end n
 
 -- the strings from a place on: each begins where the last one ends
 unfoldable pub strings_from : ℕ → List ℕ → List ℕ → List (List ℕ)

@@ -2,7 +2,7 @@
 #![tactic(auto)]
 
 ghost use Rattle.std.specs.Prelude.{◌≡◌, ◌<◌, min};
-ghost use Rattle.lists.specs.Lists.{if◌then◌else◌};
+ghost use Rattle.lists.specs.Lists.{when◌then◌else◌};
 ghost use Rattle.input.specs.Strings.{cut_at};
 ghost use Rattle.input.specs.Fields.{front_size, Cuts};
 
@@ -25,7 +25,7 @@ fn wide(b: u8) -> usize
 
 // All n bytes where the input ends here, and else none.
 fn all_if(last: bool, n: usize) -> usize
-    ensures { result ≡ (if last then n else 0) }
+    ensures { result ≡ (when last then n else 0) }
 {
     if last { n } else { 0 }
 }

@@ -7,7 +7,7 @@ use native.Mathlib.Omega.{arith}
 use lib.Dec.{ltb}
 use lib.ListN.{length, length-append}
 use borrow.Author.Tests.{lt-ltb, le-ltb}
-use Rattle.lists.specs.Lists.{if◌then◌else◌}
+use Rattle.lists.specs.Lists.{when◌then◌else◌}
 use Rattle.lists.proofs.Bools.{either}
 use Rattle.machine.specs.Printed.{decimal}
 
@@ -34,7 +34,7 @@ decimal-last f n h = rw (lt-ltb n 10 h) (ap (λ (d : ℕ). (48 + d) ∷ []) (ome
 decimal-some : (f n : ℕ) → 1 ≤ f → 1 ≤ length (decimal f n)
 unfolding decimal
 decimal-some zero n h = absurd (omega arith)
-decimal-some (suc f) n h = rw (length-append (if ltb n 10 then [] else decimal f (n / 10)) ((48 + n % 10) ∷ [])) (omega arith)
+decimal-some (suc f) n h = rw (length-append (when ltb n 10 then [] else decimal f (n / 10)) ((48 + n % 10) ∷ [])) (omega arith)
 
 fewer : (f n : ℕ) → n < 10 ^ suc f → n / 10 < 10 ^ f
 fewer f n h = (div-lt_iff_lt-mul {k = 10} {x = n} {y = 10 ^ f} (omega arith)).1 (rw (pow-suc 10 f) at h)
@@ -80,5 +80,5 @@ pub decimal-le : (k n : ℕ) → length (decimal k n) ≤ k
 unfolding decimal
 decimal-le zero n = omega arith
 decimal-le (suc k) n =
-    rw (length-append (if ltb n 10 then [] else decimal k (n / 10)) ((48 + n % 10) ∷ []))
+    rw (length-append (when ltb n 10 then [] else decimal k (n / 10)) ((48 + n % 10) ∷ []))
     (either (λ (l : List ℕ). length l + 1 ≤ suc k) (ltb n 10) (omega arith) (omega (arith, decimal-le k (n / 10))))

@@ -10,7 +10,7 @@ use lib.Dec.{eqb}
 use lib.ListN.{length, get_or, set, take, replicate, length-set}
 use lib.Seq.{take-suc, set_out, get_or-set_same, get_or-set_other, ext_get_or}
 use borrow.Author.Tests.{eqb-true, eqb-false, ne_eqb}
-use Rattle.lists.specs.Lists.{if◌then◌else◌, sum, sum_to, tab, sum_by_key}
+use Rattle.lists.specs.Lists.{when◌then◌else◌, sum, sum_to, tab, sum_by_key}
 use Rattle.lists.specs.Adding.{add_at, held_to}
 use Rattle.lists.proofs.Bools.{cases, lt-or-le, eqb_same}
 use Rattle.lists.proofs.Sums.{sum-append, sum_to-ext, sum_to-add, sum_to-zero}
@@ -62,7 +62,7 @@ module _ (most : ℕ) where
 
 -- the value of an entry, if it has the key k
 abbrev pub of_key : {A : Type 0} → (A → ℕ) → (A → ℕ) → ℕ → A → ℕ
-of_key key value k x = if eqb (key x) k then value x else 0
+of_key key value k x = when eqb (key x) k then value x else 0
 
 module _ {A : Type 0} (n : ℕ) (key value : A → ℕ) where
   pub length-sums : (l : List A) → length (sum_by_key n key value l) ≡ n
@@ -127,11 +127,11 @@ module _ {A : Type 0} (n : ℕ) (key value : A → ℕ) where
 -- ---- what sums by key add up to
 
 -- a value at its key
-key_in : (n j v : ℕ) → j < n → sum_to n (λ k. if eqb j k then v else 0) ≡ v
+key_in : (n j v : ℕ) → j < n → sum_to n (λ k. when eqb j k then v else 0) ≡ v
 key_in n j v h =
-    sum_to-ext n _ (λ k. if eqb k j then v else 0) (λ k l. rw (eqb_same j k k j (λ e. sym e) (λ e. sym e))) ∙ sum_to-one n j v h
+    sum_to-ext n _ (λ k. when eqb k j then v else 0) (λ k l. rw (eqb_same j k k j (λ e. sym e) (λ e. sym e))) ∙ sum_to-one n j v h
 
-key-out : (n j v : ℕ) → n ≤ j → sum_to n (λ k. if eqb j k then v else 0) ≡ 0
+key-out : (n j v : ℕ) → n ≤ j → sum_to n (λ k. when eqb j k then v else 0) ≡ 0
 key-out n j v h = sum_to-ext n _ (λ k. 0) (λ k l. rw (ne_eqb j k (omega arith))) ∙ sum_to-zero n
 
 module _ {A : Type 0} (n : ℕ) (key value : A → ℕ) where

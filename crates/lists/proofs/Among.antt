@@ -8,7 +8,7 @@ use lib.Dec.{ltb}
 use lib.ListN.{length, get_or, drop, replicate}
 use lib.Seq.{ext_get_or}
 use borrow.Author.Tests.{lt-ltb, le-ltb}
-use Rattle.lists.specs.Lists.{if◌then◌else◌, sum_to, tab, places, keep, put_back, among}
+use Rattle.lists.specs.Lists.{when◌then◌else◌, sum_to, tab, places, keep, put_back, among}
 use Rattle.lists.proofs.Bools.{ltb-same}
 use Rattle.lists.proofs.Sums.{sum_to-front}
 use Rattle.lists.proofs.Keep.{drop-one}
@@ -52,7 +52,7 @@ module _ {A : Type 0} (p : A → Bool) where
   place-cases P (x ∷ xs) on off i = go (p x) i on off (place-cases (λ i. P (suc i)) xs)
     where
       go : (b : Bool) (i : ℕ)
-          → ((k : ℕ) → k < length (if b then x ∷ keep p xs else keep p xs) → P (place_if b (place xs) k))
+          → ((k : ℕ) → k < length (when b then x ∷ keep p xs else keep p xs) → P (place_if b (place xs) k))
           → ((i : ℕ) → get_or (b ∷ map p xs) i false ≡ false → P i)
           → (((k : ℕ) → k < length (keep p xs) → P (suc (place xs k))) → ((i : ℕ) → passes xs i ≡ false → P (suc i)) → (i : ℕ) → P (suc i))
           → P i
@@ -69,7 +69,7 @@ module _ {A : Type 0} (p : A → Bool) where
   at_place d f g h (x ∷ xs) k = go (p x) k refl (at_place d f g h xs)
     where
       go : (b : Bool) (k : ℕ) → p x ≡ b → ((k : ℕ) → get_or (map g xs) (place xs k) d ≡ get_or (map f (keep p xs)) k d)
-          → get_or (map g (x ∷ xs)) (place_if b (place xs) k) d ≡ get_or (map f (if b then x ∷ keep p xs else keep p xs)) k d
+          → get_or (map g (x ∷ xs)) (place_if b (place xs) k) d ≡ get_or (map f (when b then x ∷ keep p xs else keep p xs)) k d
       go true zero e rest = h x e
       go true (suc k) e rest = rest k
       go false k e rest = rest k
@@ -88,7 +88,7 @@ module _ {A : Type 0} (p : A → Bool) where
     where
       go : (b : Bool) → ((i : ℕ) → get_or (b ∷ map p xs) i false ≡ false → f i ≡ 0)
           → sum_to (length xs) (λ i. f (suc i)) ≡ sum_to (length (keep p xs)) (λ k. f (suc (place xs k)))
-          → sum_to (suc (length xs)) f ≡ sum_to (length (if b then x ∷ keep p xs else keep p xs)) (λ k. f (place_if b (place xs) k))
+          → sum_to (suc (length xs)) f ≡ sum_to (length (when b then x ∷ keep p xs else keep p xs)) (λ k. f (place_if b (place xs) k))
       go true h rest = omega (arith, rest, sum_to-front (length xs) f, sum_to-front (length (keep p xs)) (λ k. f (place_if true (place xs) k)))
       go false h rest = omega (arith, rest, sum_to-front (length xs) f, h 0 refl)
 
@@ -97,16 +97,16 @@ module _ {A : Type 0} (p : A → Bool) where
   pub put_back-length : (l : List A) (ys : List ℕ) → length (put_back p l ys) ≡ length l
   unfolding put_back
   put_back-length [] ys = refl
-  put_back-length (x ∷ xs) ys = ap suc (put_back-length xs (if p x then drop 1 ys else ys))
+  put_back-length (x ∷ xs) ys = ap suc (put_back-length xs (when p x then drop 1 ys else ys))
 
   pub put_back-on : (l : List A) (ys : List ℕ) (k : ℕ) → k < length (keep p l) → get_or (put_back p l ys) (place l k) 0 ≡ get_or ys k 0
   unfolding keep put_back
   put_back-on [] ys k h = absurd (omega arith)
   put_back-on (x ∷ xs) ys k h = go (p x) k h (put_back-on xs)
     where
-      go : (b : Bool) (k : ℕ) → k < length (if b then x ∷ keep p xs else keep p xs)
+      go : (b : Bool) (k : ℕ) → k < length (when b then x ∷ keep p xs else keep p xs)
           → ((ys : List ℕ) (k : ℕ) → k < length (keep p xs) → get_or (put_back p xs ys) (place xs k) 0 ≡ get_or ys k 0)
-          → get_or ((if b then get_or ys 0 0 else 0) ∷ put_back p xs (if b then drop 1 ys else ys)) (place_if b (place xs) k) 0 ≡ get_or ys k 0
+          → get_or ((when b then get_or ys 0 0 else 0) ∷ put_back p xs (when b then drop 1 ys else ys)) (place_if b (place xs) k) 0 ≡ get_or ys k 0
       go true zero h rest = refl
       go true (suc k) h rest = rest (drop 1 ys) k (omega arith) ∙ drop-one ys k
       go false k h rest = rest ys k h
@@ -115,7 +115,7 @@ module _ {A : Type 0} (p : A → Bool) where
   unfolding put_back
   put_back-off [] ys i e = refl
   put_back-off (x ∷ xs) ys zero e = rw e
-  put_back-off (x ∷ xs) ys (suc i) e = put_back-off xs (if p x then drop 1 ys else ys) i e
+  put_back-off (x ∷ xs) ys (suc i) e = put_back-off xs (when p x then drop 1 ys else ys) i e
 
   -- ---- among
 
@@ -178,10 +178,10 @@ among_first n m f long =
     ∙ ap (λ (k : ℕ). f (places n) ++ replicate k 0) (length-tab m (λ k. n + k))
 
 -- a list and m zeros after it, as the numbers of the first of its places and 0 for the others
-pub padded : (xs : List ℕ) (m : ℕ) → tab (length xs + m) (λ i. if ltb i (length xs) then get_or xs i 0 else 0) ≡ xs ++ replicate m 0
+pub padded : (xs : List ℕ) (m : ℕ) → tab (length xs + m) (λ i. when ltb i (length xs) then get_or xs i 0 else 0) ≡ xs ++ replicate m 0
 padded xs m =
     let n = length xs in
-    let own : ℕ → ℕ = λ i. if ltb i n then get_or xs i 0 else 0 in
+    let own : ℕ → ℕ = λ i. when ltb i n then get_or xs i 0 else 0 in
     tab-append n m own
     ∙ cc (
       tab-ext n own (λ i. get_or xs i 0) (λ i l. rw (lt-ltb i n l)) ∙ sym (tab-self 0 xs),

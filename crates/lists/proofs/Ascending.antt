@@ -3,7 +3,7 @@ use mathlib.Core.Bool.{Bool, true, false}
 use mathlib.Core.List.{List, [], ◌∷◌}
 use Prim.Native.Nat.{ℕ, zero, suc, ◌<◌}
 use native.Mathlib.Omega.{arith}
-use Rattle.lists.specs.Lists.{if◌then◌else◌, tab, places, keep}
+use Rattle.lists.specs.Lists.{when◌then◌else◌, tab, places, keep}
 use Rattle.lists.proofs.Each.{Each, each-kept, each-tab}
 
 abbrev pub Ascending : List ℕ → Type 0
@@ -15,7 +15,7 @@ unfolding keep
 ascending-keep p [] h = tt
 ascending-keep p (x ∷ xs) h = go (p x) (each-kept (λ y. x < y) p xs h.0) (ascending-keep p xs h.1)
   where
-    go : (b : Bool) → Each (λ y. x < y) (keep p xs) → Ascending (keep p xs) → Ascending (if b then x ∷ keep p xs else keep p xs)
+    go : (b : Bool) → Each (λ y. x < y) (keep p xs) → Ascending (keep p xs) → Ascending (when b then x ∷ keep p xs else keep p xs)
     go true e r = (e, r)
     go false e r = r
 

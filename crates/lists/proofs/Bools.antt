@@ -7,17 +7,17 @@ use native.Mathlib.Nat.{eq-or-lt_of_le}
 use native.Mathlib.Omega.{arith}
 use lib.Dec.{leb, ltb, eqb}
 use borrow.Author.Tests.{ltb-true, ltb-false, eqb-true, eqb-false, leb-true, leb-false}
-use Rattle.lists.specs.Lists.{if◌then◌else◌, one_if}
+use Rattle.lists.specs.Lists.{when◌then◌else◌, one_if}
 
 -- ---- a choice
 
 -- a claim about a choice, from the claim about both sides
-pub either : {A : Type 0} (P : A → Type 0) (b : Bool) {x y : A} → P x → P y → P (if b then x else y)
+pub either : {A : Type 0} (P : A → Type 0) (b : Bool) {x y : A} → P x → P y → P (when b then x else y)
 either P true px py = px
 either P false px py = py
 
 -- the same, with what the test says
-pub by-test : {A : Type 0} (P : A → Type 0) (b : Bool) {x y : A} → (b ≡ true → P x) → (b ≡ false → P y) → P (if b then x else y)
+pub by-test : {A : Type 0} (P : A → Type 0) (b : Bool) {x y : A} → (b ≡ true → P x) → (b ≡ false → P y) → P (when b then x else y)
 by-test P true px py = px refl
 by-test P false px py = py refl
 
@@ -27,7 +27,7 @@ cases true P t f = t refl
 cases false P t f = f refl
 
 -- a choice between equals
-pub same-choice : {A : Type 0} (b : Bool) (x : A) → (if b then x else x) ≡ x
+pub same-choice : {A : Type 0} (b : Bool) (x : A) → (when b then x else x) ≡ x
 same-choice true x = refl
 same-choice false x = refl
 
@@ -134,7 +134,7 @@ unfolding one_if
 one_if-le true b h = omega (arith, ap one_if (h refl))
 one_if-le false b h = omega arith
 
-pub one_if-choice : (b : Bool) → (if b then 1 else 0) ≡ one_if b
+pub one_if-choice : (b : Bool) → (when b then 1 else 0) ≡ one_if b
 unfolding one_if
 one_if-choice true = refl
 one_if-choice false = refl

@@ -11,7 +11,7 @@ use lib.Dec.{ltb, eqb}
 use lib.ListN.{length, get_or, take, drop, set, replicate, drop_of_length-le}
 use lib.Seq.{take-suc, drop-cons}
 use borrow.Author.Tests.{lt-ltb, le-ltb, eq-eqb, ne_eqb, eqb-true, eqb-false}
-use Rattle.lists.specs.Lists.{if◌then◌else◌, one_if, sum_to, count, any, all, tab, places, keep, change_first}
+use Rattle.lists.specs.Lists.{when◌then◌else◌, one_if, sum_to, count, any, all, tab, places, keep, change_first}
 use Rattle.lists.proofs.Bools.{one_if-small, one_if-le, and_left, and_right, or_left, or_right, cases, lt-or-le, ltb-same}
 use Rattle.lists.proofs.Sums.{sum_to-ext}
 use Rattle.lists.proofs.Keep.{count_kept, sum_to-one}
@@ -239,7 +239,7 @@ any-kept n p m l =
     any-count (eqb m) (keep p (places n))
     ∙ ap (ltb 0)
     (count_kept n p (eqb m) (λ k. k)
-    ∙ sum_to-ext n _ (λ k. if eqb k m then one_if (p m) else 0) (λ k below. at k (eqb k m) refl)
+    ∙ sum_to-ext n _ (λ k. when eqb k m then one_if (p m) else 0) (λ k below. at k (eqb k m) refl)
     ∙ sum_to-one n m (one_if (p m)) l)
     ∙ positive (p m)
   where
@@ -251,7 +251,7 @@ any-kept n p m l =
     and_one true = refl
     and_one false = refl
 
-    at : (k : ℕ) (b : Bool) → eqb k m ≡ b → one_if (p k && eqb m k) ≡ (if b then one_if (p m) else 0)
+    at : (k : ℕ) (b : Bool) → eqb k m ≡ b → one_if (p k && eqb m k) ≡ (when b then one_if (p m) else 0)
     at k true e = let s : k ≡ m = eqb-true k m e in rw (s, eq-eqb m m refl) (and_one (p m))
     at k false e = rw (ne_eqb m k (λ s. eqb-false k m e (sym s))) (and_none (p k))
 
@@ -302,7 +302,7 @@ unfolding any keep
 any-keep p q [] h = refl
 any-keep p q (x ∷ xs) h = go (q x) refl (any-keep p q xs h.1)
   where
-    go : (b : Bool) → q x ≡ b → any p (keep q xs) ≡ any p xs → any p (if b then x ∷ keep q xs else keep q xs) ≡ (p x || any p xs)
+    go : (b : Bool) → q x ≡ b → any p (keep q xs) ≡ any p xs → any p (when b then x ∷ keep q xs else keep q xs) ≡ (p x || any p xs)
     go true e r = rw r
     go false e r = rw (h.0 e) r
 

@@ -5,7 +5,7 @@ use mathlib.Core.List.{List, [], ◌∷◌, ◌++◌, map}
 use Prim.Native.Nat.{ℕ, zero, suc, ◌+◌, ◌<◌}
 use native.Mathlib.Omega.{arith}
 use lib.ListN.{length, get_or, set, take, drop, replicate}
-use Rattle.lists.specs.Lists.{if◌then◌else◌, tab, keep, change_first, map_from}
+use Rattle.lists.specs.Lists.{when◌then◌else◌, tab, keep, change_first, map_from}
 pub use Rattle.lists.specs.Lists.{Each}
 
 module _ {A : Type 0} (P : A → Type 0) where
@@ -177,7 +177,7 @@ unfolding keep
 each_keep p [] = tt
 each_keep p (x ∷ xs) = go (p x) refl (each_keep p xs)
   where
-    go : (b : Bool) → p x ≡ b → Each (λ y. p y ≡ true) (keep p xs) → Each (λ y. p y ≡ true) (if b then x ∷ keep p xs else keep p xs)
+    go : (b : Bool) → p x ≡ b → Each (λ y. p y ≡ true) (keep p xs) → Each (λ y. p y ≡ true) (when b then x ∷ keep p xs else keep p xs)
     go true e h = (e, h)
     go false e h = h
 
@@ -188,7 +188,7 @@ unfolding keep
 each-kept-at P p [] i d h l e = absurd (omega arith)
 each-kept-at P p (x ∷ xs) i d h l e = go (p x) refl i l e h (λ k g m q. each-kept-at P p xs k d g m q)
   where
-    go : (b : Bool) → p x ≡ b → (i : ℕ) → i < length (x ∷ xs) → p (get_or (x ∷ xs) i d) ≡ true → Each P (if b then x ∷ keep p xs else keep p xs)
+    go : (b : Bool) → p x ≡ b → (i : ℕ) → i < length (x ∷ xs) → p (get_or (x ∷ xs) i d) ≡ true → Each P (when b then x ∷ keep p xs else keep p xs)
         → ((k : ℕ) → Each P (keep p xs) → k < length xs → p (get_or xs k d) ≡ true → P (get_or xs k d)) → P (get_or (x ∷ xs) i d)
     go true q zero l e h rest = h.0
     go true q (suc i) l e h rest = rest i h.1 (omega arith) e
@@ -208,7 +208,7 @@ unfolding keep
 each-kept P p [] h = tt
 each-kept P p (x ∷ xs) h = go (p x) (each-kept P p xs h.1)
   where
-    go : (b : Bool) → Each P (keep p xs) → Each P (if b then x ∷ keep p xs else keep p xs)
+    go : (b : Bool) → Each P (keep p xs) → Each P (when b then x ∷ keep p xs else keep p xs)
     go true r = (h.0, r)
     go false r = r
 

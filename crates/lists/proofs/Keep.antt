@@ -10,7 +10,7 @@ use native.Mathlib.Nat.{not-suc-le-zero, le_of_suc-le-suc, eq-or-lt_of_le}
 use lib.Dec.{eqb}
 use lib.ListN.{length, get_or, drop}
 use borrow.Author.Tests.{eq-eqb, ne_eqb}
-use Rattle.lists.specs.Lists.{if◌then◌else◌, sum, sum_to, one_if, count_to, tab, places, count, keep, put_back}
+use Rattle.lists.specs.Lists.{when◌then◌else◌, sum, sum_to, one_if, count_to, tab, places, count, keep, put_back}
 use Rattle.lists.proofs.Bools.{eqb_same, cases}
 use Rattle.lists.proofs.Sums.{sum_to-ext, sum_to-add, sum_to-front, sum_to-zero, sum_to-swap, sum-places}
 use Rattle.lists.proofs.Each.{Each}
@@ -88,18 +88,18 @@ sum-keep-parts p r s f (x ∷ xs) h = go (p x) (r x) (s x) (h x) (sum-keep-parts
     go false false false e ih = ih
 
 -- a sum over those kept is a sum over all, in which the others give 0
-pub sum-keep : {A : Type 0} (p : A → Bool) (f : A → ℕ) (l : List A) → sum (map f (keep p l)) ≡ sum (map (λ x. if p x then f x else 0) l)
+pub sum-keep : {A : Type 0} (p : A → Bool) (f : A → ℕ) (l : List A) → sum (map f (keep p l)) ≡ sum (map (λ x. when p x then f x else 0) l)
 unfolding keep sum
 sum-keep p f [] = refl
 sum-keep p f (x ∷ xs) = go (p x) (sum-keep p f xs)
   where
-    go : (b : Bool) → sum (map f (keep p xs)) ≡ sum (map (λ x. if p x then f x else 0) xs)
-        → sum (map f (cond b (x ∷ keep p xs) (keep p xs))) ≡ cond b (f x) 0 + sum (map (λ x. if p x then f x else 0) xs)
+    go : (b : Bool) → sum (map f (keep p xs)) ≡ sum (map (λ x. when p x then f x else 0) xs)
+        → sum (map f (cond b (x ∷ keep p xs) (keep p xs))) ≡ cond b (f x) 0 + sum (map (λ x. when p x then f x else 0) xs)
     go true e = omega arith
     go false e = omega arith
 
 -- what those that pass the test give, and 0 from the others
-pub sum-chosen : {A : Type 0} (p : A → Bool) (f g : A → ℕ) (l : List A) → Each (λ x. f x ≡ (if p x then g x else 0)) l → sum (map f l) ≡ sum (map g (keep p l))
+pub sum-chosen : {A : Type 0} (p : A → Bool) (f g : A → ℕ) (l : List A) → Each (λ x. f x ≡ (when p x then g x else 0)) l → sum (map f l) ≡ sum (map g (keep p l))
 unfolding sum keep
 sum-chosen p f g [] h = refl
 sum-chosen p f g (x ∷ xs) h =
@@ -122,12 +122,12 @@ sum-if false f x l = omega arith
 
 -- one entry more, in front
 pub sum-keep-cons : {A : Type 0} (p : A → Bool) (f : A → ℕ) (x : A) (xs : List A)
-    → sum (map f (keep p (x ∷ xs))) ≡ (if p x then f x else 0) + sum (map f (keep p xs))
+    → sum (map f (keep p (x ∷ xs))) ≡ (when p x then f x else 0) + sum (map f (keep p xs))
 unfolding keep
 sum-keep-cons p f x xs = sum-if (p x) f x (keep p xs)
 
 pub sum_kept : {A : Type 0} (n : ℕ) (p : A → Bool) (f : A → ℕ) (g : ℕ → A)
-    → sum (map f (keep p (tab n g))) ≡ sum_to n (λ k. if p (g k) then f (g k) else 0)
+    → sum (map f (keep p (tab n g))) ≡ sum_to n (λ k. when p (g k) then f (g k) else 0)
 unfolding sum tab keep sum_to
 sum_kept zero p f g = refl
 sum_kept (suc n) p f g =
@@ -135,7 +135,7 @@ sum_kept (suc n) p f g =
       arith,
       sum-if (p (g 0)) f (g 0) (keep p (tab n (λ k. g (suc k)))),
       sum_kept n p f (λ k. g (suc k)),
-      sum_to-front n (λ k. if p (g k) then f (g k) else 0),
+      sum_to-front n (λ k. when p (g k) then f (g k) else 0),
     )
 
 length-if : {A : Type 0} (b : Bool) (x : A) (l : List A) → length (cond b (x ∷ l) l) ≡ one_if b + length l
@@ -172,19 +172,19 @@ sum-at-kept n p xs long off =
     ∙ ap (λ m. sum_to m (λ k. get_or xs k 0)) (sym long)
     ∙ sym (sum-places xs)
   where
-    go : (k : ℕ) → k < n → (b : Bool) → p k ≡ b → (if b then get_or xs k 0 else 0) ≡ get_or xs k 0
+    go : (k : ℕ) → k < n → (b : Bool) → p k ≡ b → (when b then get_or xs k 0 else 0) ≡ get_or xs k 0
     go k l true e = refl
     go k l false e = sym (off k l e)
 
 -- ---- groups
 
 -- v at one of n places
-one-past : (n j v : ℕ) → n ≤ j → sum_to n (λ i. if eqb i j then v else 0) ≡ 0
+one-past : (n j v : ℕ) → n ≤ j → sum_to n (λ i. when eqb i j then v else 0) ≡ 0
 unfolding sum_to
 one-past zero j v l = refl
 one-past (suc n) j v l = rw (ne_eqb n j (omega arith)) (omega (arith, one-past n j v (omega arith)))
 
-pub sum_to-one : (n j v : ℕ) → j < n → sum_to n (λ i. if eqb i j then v else 0) ≡ v
+pub sum_to-one : (n j v : ℕ) → j < n → sum_to n (λ i. when eqb i j then v else 0) ≡ v
 unfolding sum_to
 sum_to-one zero j v l = absurd (not-suc-le-zero l)
 sum_to-one (suc n) j v l =
@@ -197,13 +197,13 @@ sum_to-one (suc n) j v l =
 pub sum-by-key : (n m : ℕ) (p : ℕ → Bool) (f key : ℕ → ℕ) → ((k : ℕ) → k < n → p k ≡ true → key k < m)
     → sum_to m (λ i. sum (map f (keep (λ k. eqb i (key k)) (keep p (places n))))) ≡ sum (map f (keep p (places n)))
 sum-by-key n m p f key below =
-    sum_to-ext m _ (λ i. sum_to n (λ k. if p k && eqb i (key k) then f k else 0))
+    sum_to-ext m _ (λ i. sum_to n (λ k. when p k && eqb i (key k) then f k else 0))
     (λ i l. ap (λ ks. sum (map f ks)) (sym (keep-and p (λ k. eqb i (key k)) (places n))) ∙ sum_kept n (λ k. p k && eqb i (key k)) f (λ k. k))
-    ∙ sum_to-swap m n (λ i k. if p k && eqb i (key k) then f k else 0)
-    ∙ sum_to-ext n _ (λ k. if p k then f k else 0) (λ k l. go k l (p k) refl)
+    ∙ sum_to-swap m n (λ i k. when p k && eqb i (key k) then f k else 0)
+    ∙ sum_to-ext n _ (λ k. when p k then f k else 0) (λ k l. go k l (p k) refl)
     ∙ sym (sum_kept n p f (λ k. k))
   where
-    go : (k : ℕ) → k < n → (b : Bool) → p k ≡ b → sum_to m (λ i. if b && eqb i (key k) then f k else 0) ≡ (if b then f k else 0)
+    go : (k : ℕ) → k < n → (b : Bool) → p k ≡ b → sum_to m (λ i. when b && eqb i (key k) then f k else 0) ≡ (when b then f k else 0)
     go k l true e = sum_to-one m (key k) (f k) (below k l e)
     go k l false e = sum_to-zero m
 
@@ -220,9 +220,9 @@ unfolding keep put_back
 put_back-le p f d [] ys h i l = absurd (omega arith)
 put_back-le p f d (x ∷ xs) ys h i l = go (p x) h i l (λ zs g k m. put_back-le p f d xs zs g k m)
   where
-    go : (b : Bool) → ((k : ℕ) → get_or ys k 0 ≤ get_or (map f (if b then x ∷ keep p xs else keep p xs)) k 0) → (i : ℕ) → i < length (x ∷ xs)
+    go : (b : Bool) → ((k : ℕ) → get_or ys k 0 ≤ get_or (map f (when b then x ∷ keep p xs else keep p xs)) k 0) → (i : ℕ) → i < length (x ∷ xs)
         → ((zs : List ℕ) → ((k : ℕ) → get_or zs k 0 ≤ get_or (map f (keep p xs)) k 0) → (k : ℕ) → k < length xs → get_or (put_back p xs zs) k 0 ≤ f (get_or xs k d))
-        → get_or ((if b then get_or ys 0 0 else 0) ∷ put_back p xs (if b then drop 1 ys else ys)) i 0 ≤ f (get_or (x ∷ xs) i d)
+        → get_or ((when b then get_or ys 0 0 else 0) ∷ put_back p xs (when b then drop 1 ys else ys)) i 0 ≤ f (get_or (x ∷ xs) i d)
     go true h zero l rest = h 0
     go true h (suc i) l rest = rest (drop 1 ys) (λ k. rw (drop-one ys k) (h (suc k))) i (omega arith)
     go false h zero l rest = omega arith
@@ -247,7 +247,7 @@ put_back-sum p [] ys = omega arith
 put_back-sum p (x ∷ xs) ys = go (p x) (put_back-sum p xs (drop 1 ys)) (put_back-sum p xs ys)
   where
     go : (b : Bool) → sum (put_back p xs (drop 1 ys)) ≤ sum (drop 1 ys) → sum (put_back p xs ys) ≤ sum ys
-        → (if b then get_or ys 0 0 else 0) + sum (put_back p xs (if b then drop 1 ys else ys)) ≤ sum ys
+        → (when b then get_or ys 0 0 else 0) + sum (put_back p xs (when b then drop 1 ys else ys)) ≤ sum ys
     go true a b = omega (arith, sum_drop ys)
     go false a b = omega arith
 
@@ -259,11 +259,11 @@ put_back-at {A} R none p d [] ys h i l = absurd (omega arith)
 put_back-at {A} R none p d (x ∷ xs) ys h i l = go (p x) h i l (λ zs g k m. put_back-at R none p d xs zs g k m)
   where
     kept : Bool → List A
-    kept b = if b then x ∷ keep p xs else keep p xs
+    kept b = when b then x ∷ keep p xs else keep p xs
 
     go : (b : Bool) → ((k : ℕ) → k < length (kept b) → R (get_or (kept b) k d) (get_or ys k 0)) → (i : ℕ) → i < length (x ∷ xs)
         → ((zs : List ℕ) → ((k : ℕ) → k < length (keep p xs) → R (get_or (keep p xs) k d) (get_or zs k 0)) → (k : ℕ) → k < length xs → R (get_or xs k d) (get_or (put_back p xs zs) k 0))
-        → R (get_or (x ∷ xs) i d) (get_or ((if b then get_or ys 0 0 else 0) ∷ put_back p xs (if b then drop 1 ys else ys)) i 0)
+        → R (get_or (x ∷ xs) i d) (get_or ((when b then get_or ys 0 0 else 0) ∷ put_back p xs (when b then drop 1 ys else ys)) i 0)
     go true h zero l rest = h 0 (omega arith)
     go true h (suc i) l rest = rest (drop 1 ys) (λ k m. rw (drop-one ys k) (h (suc k) (omega arith))) i (omega arith)
     go false h zero l rest = none x
@@ -275,7 +275,7 @@ unfolding keep
 keep-few p [] = omega arith
 keep-few p (x ∷ xs) = go (p x) (keep-few p xs)
   where
-    go : (b : Bool) → length (keep p xs) ≤ length xs → length (if b then x ∷ keep p xs else keep p xs) ≤ suc (length xs)
+    go : (b : Bool) → length (keep p xs) ≤ length xs → length (when b then x ∷ keep p xs else keep p xs) ≤ suc (length xs)
     go true h = omega arith
     go false h = omega arith
 
@@ -285,9 +285,9 @@ pub sum-keys : {A : Type 0} (n : ℕ) (f key : A → ℕ) (xs : List A) → Each
 unfolding keep sum
 sum-keys n f key [] h = sum_to-zero n
 sum-keys n f key (x ∷ xs) h =
-    sum_to-ext n _ (λ k. (if eqb k (key x) then f x else 0) + sum (map f (keep (λ y. eqb (key y) k) xs)))
+    sum_to-ext n _ (λ k. (when eqb k (key x) then f x else 0) + sum (map f (keep (λ y. eqb (key y) k) xs)))
     (λ k l. sum-keep-cons (λ y. eqb (key y) k) f x xs
-    ∙ ap (λ (b : Bool). (if b then f x else 0) + sum (map f (keep (λ y. eqb (key y) k) xs))) (eqb_same (key x) k k (key x) sym sym))
-    ∙ sum_to-add n (λ k. if eqb k (key x) then f x else 0) (λ k. sum (map f (keep (λ y. eqb (key y) k) xs)))
+    ∙ ap (λ (b : Bool). (when b then f x else 0) + sum (map f (keep (λ y. eqb (key y) k) xs))) (eqb_same (key x) k k (key x) sym sym))
+    ∙ sum_to-add n (λ k. when eqb k (key x) then f x else 0) (λ k. sum (map f (keep (λ y. eqb (key y) k) xs)))
     ∙ ap (λ (m : ℕ). m + sum_to n (λ k. sum (map f (keep (λ y. eqb (key y) k) xs)))) (sum_to-one n (key x) (f x) h.0)
     ∙ ap (λ (m : ℕ). f x + m) (sum-keys n f key xs h.1)

@@ -6,7 +6,7 @@ use mathlib.Core.List.{List, [], ◌∷◌, map}
 use Prim.Native.Nat.{ℕ, zero, suc, ◌≤◌, ◌<◌}
 use native.Mathlib.Omega.{arith}
 use lib.ListN.{length, get_or, set, drop}
-use Rattle.lists.specs.Lists.{if◌then◌else◌, sum, count, keep, change_first, map_from}
+use Rattle.lists.specs.Lists.{when◌then◌else◌, sum, count, keep, change_first, map_from}
 use Rattle.lists.proofs.Bools.{one_if-le}
 use Rattle.lists.proofs.Each.{Each, drop-step}
 use Rattle.lists.proofs.Keep.{sum-keep-cons}
@@ -108,7 +108,7 @@ module _ {A : Type 0} (R : A → A → Type 0) where
   pairs-count-falls p stays (x ∷ xs) (y ∷ ys) h = omega (arith, one_if-le (p y) (p x) (stays x y h.0), pairs-count-falls p stays xs ys h.1)
 
   -- a sum over those that pass a test, which does not fall
-  pub pairs-sum : (p : A → Bool) (f : A → ℕ) → ((x y : A) → R x y → (if p x then f x else 0) ≤ (if p y then f y else 0))
+  pub pairs-sum : (p : A → Bool) (f : A → ℕ) → ((x y : A) → R x y → (when p x then f x else 0) ≤ (when p y then f y else 0))
       → (xs ys : List A) → Pairs R xs ys → sum (map f (keep p xs)) ≤ sum (map f (keep p ys))
   unfolding keep
   pairs-sum p f grows [] [] h = omega arith

@@ -7,7 +7,7 @@ use Prim.Native.Nat.{ℕ, ◌≤◌, ◌<◌}
 use native.Mathlib.Omega.{arith}
 use lib.Dec.{ltb}
 use borrow.Author.Tests.{ltb-true, lt-ltb}
-use Rattle.lists.specs.Lists.{if◌then◌else◌}
+use Rattle.lists.specs.Lists.{when◌then◌else◌}
 use Rattle.lists.specs.Tests.{Test, first_of, Passed, First}
 use Rattle.lists.proofs.Bools.{and_left, and_right}
 use Rattle.lists.proofs.Each.{Each, each_more}
@@ -17,7 +17,7 @@ abbrev pub numbered : List Test → Bool
 numbered [] = true
 numbered (t ∷ ts) = ltb 0 t.0 && numbered ts
 
-passed-one : (n : ℕ) (b : Bool) (ts : List Test) → ltb 0 n ≡ true → (first_of ts ≡ 0 → Passed ts) → (if b then n else first_of ts) ≡ 0 → (b ≡ false) × Passed ts
+passed-one : (n : ℕ) (b : Bool) (ts : List Test) → ltb 0 n ≡ true → (first_of ts ≡ 0 → Passed ts) → (when b then n else first_of ts) ≡ 0 → (b ≡ false) × Passed ts
 passed-one n true ts h rest e = absurd (omega (arith, ltb-true 0 n h))
 passed-one n false ts h rest e = (refl, rest e)
 
@@ -36,7 +36,7 @@ accepted (t ∷ ts) p = rw p.0 (accepted ts p.1)
 -- ---- a declined call
 
 first_one : (t : Test) (ts : List Test) (b : Bool) → t.1 ≡ b → ((first_of ts ≡ 0 → ⊥) → First (first_of ts) ts)
-    → ((if b then t.0 else first_of ts) ≡ 0 → ⊥) → First (if b then t.0 else first_of ts) (t ∷ ts)
+    → ((when b then t.0 else first_of ts) ≡ 0 → ⊥) → First (when b then t.0 else first_of ts) (t ∷ ts)
 first_one t ts true e rest h = record { before = []; test = t; after = ts; parts = refl; earlier = tt; holds = e; number = refl }
 first_one t ts false e rest h =
     let r = rest h in
@@ -81,7 +81,7 @@ first-least n (t ∷ ts) h =
     go t.1 refl (ascending-above t.0 ts rest) (first-least t.0 ts rest)
   where
     go : (b : Bool) → t.1 ≡ b → Each (λ u. t.0 < u.0) ts → Each (λ u. u.1 ≡ true → first_of ts ≤ u.0) ts
-        → Each (λ u. u.1 ≡ true → (if b then t.0 else first_of ts) ≤ u.0) (t ∷ ts)
+        → Each (λ u. u.1 ≡ true → (when b then t.0 else first_of ts) ≤ u.0) (t ∷ ts)
     go true e above least = (λ x. omega arith, each_more _ _ (λ u l x. omega arith) ts above)
     go false e above least = (λ x. absurd (false≢true (sym e ∙ x)), least)
 
@@ -92,6 +92,6 @@ pub first-same : (n : ℕ) (ts us : List Test) {t u : Bool} → t ≡ u → (u �
 unfolding first_of
 first-same n ts us {u = u} first rest = rw first (go u rest)
   where
-    go : (v : Bool) → (v ≡ false → first_of ts ≡ first_of us) → (if v then n else first_of ts) ≡ (if v then n else first_of us)
+    go : (v : Bool) → (v ≡ false → first_of ts ≡ first_of us) → (when v then n else first_of ts) ≡ (when v then n else first_of us)
     go true rest = refl
     go false rest = rest refl

@@ -1,9 +1,9 @@
 -- Sums, counts and parts of lists: the words in which the other definitions are written.
 use Rattle.std.specs.Prelude.{Bool, true, false, ◌&&◌, ◌||◌, cond, List, [], ◌∷◌, ◌++◌, map, ℕ, zero, suc, ◌+◌, ◌<◌, min, leb, eqb, get_or, drop}
 
-infixr 1 if◌then◌else◌
-abbrev pub if◌then◌else◌ : {A : Type 0} → Bool → A → A → A
-if b then x else y = cond b x y
+infixr 1 when◌then◌else◌
+abbrev pub when◌then◌else◌ : {A : Type 0} → Bool → A → A → A
+when b then x else y = cond b x y
 
 -- low to high, both included
 abbrev pub between : ℕ → ℕ → ℕ → Bool
@@ -55,12 +55,12 @@ all p (x ∷ xs) = p x && all p xs
 -- those that pass the test, in their order
 unfoldable pub keep : {A : Type 0} → (A → Bool) → List A → List A
 keep p [] = []
-keep p (x ∷ xs) = if p x then x ∷ keep p xs else keep p xs
+keep p (x ∷ xs) = when p x then x ∷ keep p xs else keep p xs
 
 -- the numbers ys, one for each that passes the test, at their places; 0 at the others
 unfoldable pub put_back : {A : Type 0} → (A → Bool) → List A → List ℕ → List ℕ
 put_back p [] ys = []
-put_back p (x ∷ xs) ys = (if p x then get_or ys 0 0 else 0) ∷ put_back p xs (if p x then drop 1 ys else ys)
+put_back p (x ∷ xs) ys = (when p x then get_or ys 0 0 else 0) ∷ put_back p xs (when p x then drop 1 ys else ys)
 
 -- what f gives to those that pass the test, taken as a list in their order, each at its own place; 0 for the others
 unfoldable pub among : {A : Type 0} → (A → Bool) → (List A → List ℕ) → List A → List ℕ
@@ -85,7 +85,7 @@ least (x ∷ y ∷ xs) = min x (least (y ∷ xs))
 
 -- for each key below n, the values of the entries that have it, added up
 unfoldable pub sum_by_key : {A : Type 0} → ℕ → (A → ℕ) → (A → ℕ) → List A → List ℕ
-sum_by_key n key value l = tab n (λ k. sum (map (λ x. if eqb (key x) k then value x else 0) l))
+sum_by_key n key value l = tab n (λ k. sum (map (λ x. when eqb (key x) k then value x else 0) l))
 
 -- P holds of each entry of a list
 abbrev pub Each : {A : Type 0} → (A → Type 0) → List A → Type 0

@@ -1,6 +1,6 @@
 -- Why a call is declined: tests in order, each with its number. "The first number of the list that applies"; 0 is accepted.
 use Rattle.std.specs.Prelude.{◌≡◌, Bool, true, false, List, [], ◌∷◌, ◌++◌, ℕ}
-use Rattle.lists.specs.Lists.{if◌then◌else◌}
+use Rattle.lists.specs.Lists.{when◌then◌else◌}
 
 -- a number, and whether it applies
 abbrev pub Test : Type 0
@@ -9,7 +9,7 @@ Test = ℕ × Bool
 -- the first number that applies, or 0
 unfoldable pub first_of : List Test → ℕ
 first_of [] = 0
-first_of (t ∷ ts) = let r = first_of ts in if t.1 then t.0 else r
+first_of (t ∷ ts) = let r = first_of ts in when t.1 then t.0 else r
 
 -- no test holds: a tuple of equations, nested to the right
 abbrev pub Passed : List Test → Type 0

@@ -9,7 +9,7 @@ use Prim.Native.Nat.{ℕ, zero, suc, ◌-◌, ◌<◌}
 use lib.Dec.{eqb}
 use lib.ListN.{length, get_or, set, drop, get_or-append}
 use borrow.Author.Tests.{not-false}
-use Rattle.lists.specs.Lists.{if◌then◌else◌, keep}
+use Rattle.lists.specs.Lists.{when◌then◌else◌, keep}
 use Rattle.lists.proofs.Bools.{cases, either, by-test, and_left, and_right}
 use Rattle.lists.proofs.Each.{drop-step, map-replicate}
 use Rattle.lists.proofs.Pairs.{Pairs, pairs-same, pairs-trans, pairs-map, pairs-change_first, pairs_set, pairs-at}
@@ -94,7 +94,7 @@ stay-sell : (round i : ℕ) (bs : List Bid) (roll : List Entry) → AllStay roll
 unfolding sell
 stay-sell round i [] roll = pairs-same Stays stays roll
 stay-sell round i (b ∷ bs) roll =
-    let next = if in_round round b then give_lowest b.pool (Sold i) b.won roll else roll in
+    let next = when in_round round b then give_lowest b.pool (Sold i) b.won roll else roll in
     stay-trans roll next _
     (either (AllStay roll) (in_round round b) (stay-give b.pool (Sold i) b.won roll) (pairs-same Stays stays roll))
     (stay-sell round (suc i) bs next)
@@ -135,7 +135,7 @@ stay-move : (bids : List Bid) (m k owed : ℕ) (roll : List Entry) → AllStay r
 unfolding move_units
 stay-move bids m zero owed roll = pairs-same Stays stays roll
 stay-move bids m (suc k) owed roll =
-    go (if eqb owed 0 then none else next_from bids 0 roll none)
+    go (when eqb owed 0 then none else next_from bids 0 roll none)
     (either (Finds bids roll) (eqb owed 0) {x = none} {y = next_from bids 0 roll none} tt (finds-next bids roll 0 roll none refl tt))
     (λ o r. stay-move bids m k o r)
   where
@@ -212,7 +212,7 @@ same-agreed e f stay become =
     cases (is_agreed e.state) _ (λ a. ap (λ (x : Entry). is_agreed x.state) (stay a))
     (λ a. ⊎_elim (λ x. ap (λ (z : Entry). is_agreed z.state) x) (λ x. ap (λ (z : Entry). is_agreed z.state) x.2 ∙ x.1 ∙ sym a) become)
 
-same-entry : (b : Bool) (e f : Entry) (es : List Entry) → (b ≡ true → f ≡ e) → (if b then f ∷ es else es) ≡ (if b then e ∷ es else es)
+same-entry : (b : Bool) (e f : Entry) (es : List Entry) → (b ≡ true → f ≡ e) → (when b then f ∷ es else es) ≡ (when b then e ∷ es else es)
 same-entry true e f es h = rw (h refl)
 same-entry false e f es h = refl
 
@@ -229,7 +229,7 @@ put-up-agreed : (added : List ℕ) (roll : List Entry) → agreed_in (put_up_all
 unfolding keep is_agreed
 put-up-agreed [] [] = refl
 put-up-agreed (pool ∷ added) [] = put-up-agreed added []
-put-up-agreed added (e ∷ es) = ap (λ (l : List Entry). if is_agreed e.state then e ∷ l else l) (put-up-agreed added es)
+put-up-agreed added (e ∷ es) = ap (λ (l : List Entry). when is_agreed e.state then e ∷ l else l) (put-up-agreed added es)
 
 -- any bytes but a SALE's, in any state: the entries sold by agreement are those that were
 pub agreed-kept : (s : State) (bytes : List ℕ) → ((pool m price : ℕ) → decode bytes ≡ some (SALE pool m price) → ⊥)

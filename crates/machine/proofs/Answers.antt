@@ -8,7 +8,7 @@ use Prim.Native.Nat.{ℕ, ◌≤◌}
 use native.Mathlib.Omega.{arith}
 use lib.Dec.{eqb}
 use borrow.Author.Tests.{eqb-true, eqb-false, eq-eqb}
-use Rattle.lists.specs.Lists.{if◌then◌else◌}
+use Rattle.lists.specs.Lists.{when◌then◌else◌}
 use Rattle.lists.proofs.Each.{Each}
 use Rattle.lists.specs.Tests.{Passed, First}
 use Rattle.lists.proofs.Passed.{passed, accepted as passed-accepted, first_holds, ascending, ascending-numbered, first-least}
@@ -78,7 +78,7 @@ call-accepted s bytes call e a = rw (e, eq-eqb (refusal s call) 0 a)
 
 -- "a refused call leaves all as it was"
 refused-call : (s : State) (call : Call) (b : Bool) → eqb (refusal s call) 0 ≡ b → (refusal s call ≡ 0 → ⊥) →
-    ◌≡◌ {A = State} (if b then some (accepted (the_case s) call) else s) s
+    ◌≡◌ {A = State} (when b then some (accepted (the_case s) call) else s) s
 refused-call s call true e h = absurd (h (eqb-true (refusal s call) 0 e))
 refused-call s call false e h = refl
 
@@ -99,7 +99,7 @@ unfolding step answered
 step-cases P s bytes refused taken = by_call (decode bytes) refl
   where
     by_answer : (call : Call) → decode bytes ≡ some call → (b : Bool) → eqb (refusal s call) 0 ≡ b
-        → P (refusal s call) (if b then some (accepted (the_case s) call) else s)
+        → P (refusal s call) (when b then some (accepted (the_case s) call) else s)
     by_answer call e true a =
         let zero = eqb-true (refusal s call) 0 a in
         rw zero (taken call e (accepted-passed s call zero))

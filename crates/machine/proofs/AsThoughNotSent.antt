@@ -11,7 +11,7 @@ use lib.Dec.{eqb}
 use lib.ListN.{length, get_or, take, drop, length-append, get_or-append, get_or-map}
 use lib.Seq.{take-append-le}
 use borrow.Author.Tests.{eq-eqb}
-use Rattle.lists.specs.Lists.{if◌then◌else◌, one_if, count, keep, put_back, among, map_from, tab}
+use Rattle.lists.specs.Lists.{when◌then◌else◌, one_if, count, keep, put_back, among, map_from, tab}
 use Rattle.lists.proofs.Bools.{cases, and_left}
 use Rattle.lists.proofs.Keep.{keep-and, keep-ext}
 use Rattle.lists.proofs.Among.{place, place_if, at_place}
@@ -96,19 +96,19 @@ module _ (f : ℕ → ℕ) where
   sell-alike round i j (b ∷ bs) h roll = go b.stands refl h (λ j h roll. sell-alike round (suc i) j bs h roll)
     where
       given : (t : Bool) → f j ≡ i
-          → (if t then give_lowest b.pool (Sold i) b.won (map (renumbered f) roll) else map (renumbered f) roll)
-          ≡ map (renumbered f) (if t then give_lowest b.pool (Sold j) b.won roll else roll)
+          → (when t then give_lowest b.pool (Sold i) b.won (map (renumbered f) roll) else map (renumbered f) roll)
+          ≡ map (renumbered f) (when t then give_lowest b.pool (Sold j) b.won roll else roll)
       given true e = give-alike b.pool i j b.won e roll
       given false e = refl
 
       go : (t : Bool) → b.stands ≡ t → ((k : ℕ) → f (j + k) ≡ i + place_if t (number_of bs) k)
           → ((j : ℕ) → ((k : ℕ) → f (j + k) ≡ suc i + number_of bs k) → (roll : List Entry)
           → sell round (suc i) bs (map (renumbered f) roll) ≡ map (renumbered f) (sell round j (standing_bids bs) roll))
-          → sell round (suc i) bs (if in_round round b then give_lowest b.pool (Sold i) b.won (map (renumbered f) roll) else map (renumbered f) roll)
-          ≡ map (renumbered f) (sell round j (if t then b ∷ standing_bids bs else standing_bids bs) roll)
+          → sell round (suc i) bs (when in_round round b then give_lowest b.pool (Sold i) b.won (map (renumbered f) roll) else map (renumbered f) roll)
+          ≡ map (renumbered f) (sell round j (when t then b ∷ standing_bids bs else standing_bids bs) roll)
       go true e h rest =
           ap (sell round (suc i) bs) (given (in_round round b) (ap f (omega arith) ∙ h 0 ∙ omega arith))
-          ∙ rest (suc j) (λ k. ap f (omega arith) ∙ h (suc k) ∙ omega arith) (if in_round round b then give_lowest b.pool (Sold j) b.won roll else roll)
+          ∙ rest (suc j) (λ k. ap f (omega arith) ∙ h (suc k) ∙ omega arith) (when in_round round b then give_lowest b.pool (Sold j) b.won roll else roll)
       go false e h rest = rw e (rest j (λ k. h k ∙ omega arith) roll)
 
 -- ---- the units won
@@ -130,10 +130,10 @@ module _ (p q : Bid → Bool) (within : (b : Bid) → q b ≡ true → p b ≡ t
   put-alike (b ∷ bs) ys k = go (p b) refl k (put-alike bs)
     where
       go : (t : Bool) → p b ≡ t → (k : ℕ) → ((ys : List ℕ) (k : ℕ) → get_or (put_back q bs ys) (place p bs k) 0 ≡ get_or (put_back q (keep p bs) ys) k 0)
-          → get_or ((if q b then get_or ys 0 0 else 0) ∷ put_back q bs (if q b then drop 1 ys else ys)) (place_if t (place p bs) k) 0
-          ≡ get_or (put_back q (if t then b ∷ keep p bs else keep p bs) ys) k 0
+          → get_or ((when q b then get_or ys 0 0 else 0) ∷ put_back q bs (when q b then drop 1 ys else ys)) (place_if t (place p bs) k) 0
+          ≡ get_or (put_back q (when t then b ∷ keep p bs else keep p bs) ys) k 0
       go true e zero rest = refl
-      go true e (suc k) rest = rest (if q b then drop 1 ys else ys) k
+      go true e (suc k) rest = rest (when q b then drop 1 ys else ys) k
       go false e k rest = rw (out (q b) refl) (rest ys k)
         where
           out : (u : Bool) → q b ≡ u → q b ≡ false
@@ -180,8 +180,8 @@ module _ (round : ℕ) (wins : List (List ℕ)) where
       go : (t : Bool) → ((pool k : ℕ) → get_or (get_or wins pool []) (i + place_if t (number_of bs) k) 0 ≡ get_or (get_or without pool []) (j + k) 0)
           → ((j : ℕ) → ((pool k : ℕ) → get_or (get_or wins pool []) (suc i + number_of bs k) 0 ≡ get_or (get_or without pool []) (j + k) 0)
           → standing_bids (map_from (suc i) (won_given round wins) bs) ≡ map_from j (won_given round without) (standing_bids bs))
-          → (if t then won_given round wins i b ∷ standing_bids (map_from (suc i) (won_given round wins) bs) else standing_bids (map_from (suc i) (won_given round wins) bs))
-          ≡ map_from j (won_given round without) (if t then b ∷ standing_bids bs else standing_bids bs)
+          → (when t then won_given round wins i b ∷ standing_bids (map_from (suc i) (won_given round wins) bs) else standing_bids (map_from (suc i) (won_given round wins) bs))
+          ≡ map_from j (won_given round without) (when t then b ∷ standing_bids bs else standing_bids bs)
       go true h rest =
           cc (
             won (at wins b.pool (omega arith) ∙ h b.pool 0 ∙ at without b.pool (omega arith)),
@@ -296,8 +296,8 @@ module _ (bids : List Bid) where
   prices-alike (e ∷ es) = rw (same_kind f e.state) (go (not (eqb (kind e.state) 0)) (prices-alike es))
     where
       go : (t : Bool) → prices bids (map (renumbered f) es) ≡ prices (standing_bids bids) es
-          → map (λ x. price_of bids x.state) (if t then renumbered f e ∷ keep (λ x. not (is_open x)) (map (renumbered f) es) else keep (λ x. not (is_open x)) (map (renumbered f) es))
-          ≡ map (λ x. price_of (standing_bids bids) x.state) (if t then e ∷ keep (λ x. not (is_open x)) es else keep (λ x. not (is_open x)) es)
+          → map (λ x. price_of bids x.state) (when t then renumbered f e ∷ keep (λ x. not (is_open x)) (map (renumbered f) es) else keep (λ x. not (is_open x)) (map (renumbered f) es))
+          ≡ map (λ x. price_of (standing_bids bids) x.state) (when t then e ∷ keep (λ x. not (is_open x)) es else keep (λ x. not (is_open x)) es)
       go true rest = cc (price-alike e.state)
       go false rest = rest
 
@@ -319,7 +319,7 @@ without-observed c d w unfinished n =
       counts = tab (length (sym w.pools i)) (counts i);
       holdings = holdings i;
       prices = sum_cents (held i);
-      result = (ap (λ (b : Bool). if b then some (result_of c) else none) unfinished ∙ ap (λ (b : Bool). if b then some (result_of d) else none) (sym (ap (λ (s : Stage). eqb (letter s) 5) w.stage ∙ unfinished))) i;
+      result = (ap (λ (b : Bool). when b then some (result_of c) else none) unfinished ∙ ap (λ (b : Bool). when b then some (result_of d) else none) (sym (ap (λ (s : Stage). eqb (letter s) 5) w.stage ∙ unfinished))) i;
     }
 
 -- so that after CLOSE the counts, the holdings and the sum of prices are those of the case without the withdrawn bids
@@ -422,4 +422,4 @@ module _ (c : Case) (ok : CaseOk c) where
     where
       dropped : (first : List Bid) → standing_bids (first ++ (withdrawn b ∷ bs)) ≡ standing_bids (first ++ bs)
       dropped [] = refl
-      dropped (x ∷ xs) = ap (λ (l : List Bid). if x.stands then x ∷ l else l) (dropped xs)
+      dropped (x ∷ xs) = ap (λ (l : List Bid). when x.stands then x ∷ l else l) (dropped xs)

@@ -10,7 +10,7 @@ use native.Mathlib.Omega.{arith}
 use lib.Dec.{eqb}
 use lib.ListN.{length, get_or, replicate, length-append, length-replicate, get_or-eq_default}
 use borrow.Author.Tests.{eq-eqb, ne_eqb}
-use Rattle.lists.specs.Lists.{if◌then◌else◌, one_if, sum, count, keep, least, map_from, tab}
+use Rattle.lists.specs.Lists.{when◌then◌else◌, one_if, sum, count, keep, least, map_from, tab}
 use Rattle.lists.proofs.Bools.{cases, either, and_right, lt-or-le}
 use Rattle.lists.proofs.Sums.{sum_bound, sum_to-bound, sum-scaled, least-each}
 use Rattle.lists.proofs.Keep.{sum-keep-le, keep_all, keep-few, sum-keys}
@@ -85,7 +85,7 @@ units-bound [] h = omega arith
 units-bound (x ∷ xs) h = omega (arith, units-bound xs h.1, h.0.1)
 
 -- what is left of a list where some entries count for nothing
-some_left : (out : ℕ → Bool) (i : ℕ) (xs : List ℕ) → sum (map_from i (λ pool n. if out pool then 0 else n) xs) ≤ sum xs
+some_left : (out : ℕ → Bool) (i : ℕ) (xs : List ℕ) → sum (map_from i (λ pool n. when out pool then 0 else n) xs) ≤ sum xs
 unfolding map_from sum
 some_left out i [] = omega arith
 some_left out i (x ∷ xs) =
@@ -284,7 +284,7 @@ module _ (c : Case) (ok : CaseOk c) where
       omega (
         arith,
         sum-members c.head.set f,
-        sum_to-bound 32 b (λ m. if member c.head.set m then f m else 0)
+        sum_to-bound 32 b (λ m. when member c.head.set m then f m else 0)
             (λ m l. either (λ n. n ≤ b) (member c.head.set m) {x = f m} {y = 0} (h m) (omega arith)),
       )
 

@@ -11,7 +11,7 @@ use lib.Dec.{leb, ltb, eqb}
 use lib.ListN.{length, get_or, set, take, drop, replicate, length-append, length-set, get_or-map, get_or-append, get_or-eq_default}
 use lib.Seq.{get_or_at, set-get_or, get_or-take, get_or-drop}
 use borrow.Author.Tests.{leb-true, leb-false, ltb-true, ltb-false, lt-ltb, eqb-true, eqb-false, not-false}
-use Rattle.lists.specs.Lists.{between, sum, count, all, keep, places, map_from, tab, if◌then◌else◌}
+use Rattle.lists.specs.Lists.{between, sum, count, all, keep, places, map_from, tab, when◌then◌else◌}
 use Rattle.lists.proofs.Bools.{same-choice, cases, either, by-test, and_left, and_right, or_left, or_right, lt-or-le}
 use Rattle.lists.proofs.Places.{length-tab, get_or-tab, get_or-same}
 use Rattle.lists.proofs.Sums.{entry-le}
@@ -740,7 +740,7 @@ module _ (c : Case) (ok : CaseOk c) where
             ok.won.total p,
             sum-keep (of_pool p) (λ (x : Bid). x.won) c.bids,
             sum-keep (of_pool p) (λ (x : Bid). x.won) (set c.bids n new),
-            ap sum (withdrawn-same n (λ x. if of_pool p x then x.won else 0) (λ x. refl)),
+            ap sum (withdrawn-same n (λ x. when of_pool p x then x.won else 0) (λ x. refl)),
           );
           reserves = each_set (ReserveOk c.rounds) c.bids n new
               (each-get (ReserveOk c.rounds) c.bids n no_bid (λ w. absurd (omega arith)) ok.won.reserves) ok.won.reserves;

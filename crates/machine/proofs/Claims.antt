@@ -8,7 +8,7 @@ use lib.Dec.{eqb, ltb}
 use lib.IntN.{pos, negsuc, ◌+ℤ◌, ◌-ℤ◌}
 use lib.ListN.{length, get_or, set, take, drop}
 use lib.Signed.{le_z}
-use Rattle.lists.specs.Lists.{if◌then◌else◌, sum, count, all, keep}
+use Rattle.lists.specs.Lists.{when◌then◌else◌, sum, count, all, keep}
 use Rattle.lists.proofs.Each.{Each, each_at}
 use Rattle.lists.specs.Tests.{Passed, First}
 use Rattle.auction.specs.Price.{price_limit, price_ok, cents, at_least0}
@@ -155,7 +155,7 @@ module _ (s : State) (bytes : List ℕ) (m n : ℕ) (is : decode bytes ≡ some 
     withdrawn-for-good = D.withdrawn-for-good s bytes m n is taken calls
 
     pub withdrawn-again : (more : List ℕ) (k : ℕ) → decode more ≡ some (WITHDRAW k n)
-        → (step later more).answer ≡ (if is_b later then (if in_set (the_case later).head k then 18 else 4) else 2)
+        → (step later more).answer ≡ (when is_b later then (when in_set (the_case later).head k then 18 else 4) else 2)
     withdrawn-again = D.withdrawn-again s bytes m n is taken calls
 
 -- ---- C-14: "CLOSE allots as though a withdrawn bid had not been sent", of any case
@@ -331,7 +331,7 @@ module _ (calls : List (List ℕ)) (c : Case) (here : run_from none calls ≡ so
 
   -- C-12: SALE "sells the whole pool to one member": every unit of it, and no other
   pub sale-whole : (bytes : List ℕ) (pool m price : ℕ) → decode bytes ≡ some (SALE pool m price) → (step (some c) bytes).answer ≡ 0
-      → S.roll_of (step (some c) bytes).state ≡ map (λ e. if eqb e.pool pool then with_state e (Agreed m price) else e) c.roll
+      → S.roll_of (step (some c) bytes).state ≡ map (λ e. when eqb e.pool pool then with_state e (Agreed m price) else e) c.roll
   sale-whole bytes pool m price is e =
       let zero = sym (A.call-answer (some c) bytes (SALE pool m price) is) ∙ e in
       ap S.roll_of (A.call-accepted (some c) bytes (SALE pool m price) is zero)
@@ -355,7 +355,7 @@ module _ (calls : List (List ℕ)) (c : Case) (here : run_from none calls ≡ so
     -- "a ROUND is declined by 8", after 1 and 5; CALL is declined by 12; FINISH is accepted, and nothing else is
     module _ (bytes : List ℕ) where
       pub sold-out-round : (reserves : List ℕ) → decode bytes ≡ some (ROUND reserves)
-          → (step (some c) bytes).answer ≡ (if eqb (length reserves) c.head.pools then (if all price_ok reserves then 8 else 5) else 1)
+          → (step (some c) bytes).answer ≡ (when eqb (length reserves) c.head.pools then (when all price_ok reserves then 8 else 5) else 1)
       sold-out-round reserves is = A.call-answer (some c) bytes (ROUND reserves) is ∙ O.round-answer c in_order so after no-round reserves
 
       pub sold-out-call : decode bytes ≡ some CALL → (step (some c) bytes).answer ≡ 12

@@ -7,7 +7,7 @@ use native.Mathlib.Omega.{arith}
 use lib.Dec.{eqb}
 use lib.ListN.{length, get_or, drop, get_or-map}
 use borrow.Author.Tests.{eqb-true}
-use Rattle.lists.specs.Lists.{if◌then◌else◌, sum, keep, among, map_from, tab}
+use Rattle.lists.specs.Lists.{when◌then◌else◌, sum, keep, among, map_from, tab}
 use Rattle.lists.proofs.Bools.{either, and_right}
 use Rattle.lists.proofs.Places.{get_or-tab}
 use Rattle.lists.proofs.Keep.{put_back-at, put_back-sum, sum-keep-cons, sum-from}
@@ -70,13 +70,13 @@ module _ (round : ℕ) (wins : List (List ℕ)) where
       new : ℕ
       new = get_or (get_or wins b.pool []) i 0
 
-      go : (t : Bool) → in_round round b ≡ t → b.won + won_then round (if t then with_won b new else b) ≤ (if t then with_won b new else b).won
+      go : (t : Bool) → in_round round b ≡ t → b.won + won_then round (when t then with_won b new else b) ≤ (when t then with_won b new else b).won
       go true e = rw e (omega (arith, none (eqb-true b.round round (and_right b.stands _ e))))
       go false e = rw e (omega arith)
 
   module _ (pool : ℕ) where
     abbrev part : Bid → ℕ
-    part b = if in_auction round pool b then b.won else 0
+    part b = when in_auction round pool b then b.won else 0
 
     part-given : (i : ℕ) (b : Bid) (x : ℕ) → (b.pool ≡ pool → get_or (get_or wins b.pool []) i 0 ≤ x) → part (won_given round wins i b) ≤ x
     unfolding won_given in_auction in_round
@@ -86,7 +86,7 @@ module _ (round : ℕ) (wins : List (List ℕ)) where
         new = get_or (get_or wins b.pool []) i 0
 
         go : (t u : Bool) → in_round round b ≡ t → eqb b.pool pool ≡ u
-            → (if in_round round (if t then with_won b new else b) && eqb (if t then with_won b new else b).pool pool then (if t then with_won b new else b).won else 0) ≤ x
+            → (when in_round round (when t then with_won b new else b) && eqb (when t then with_won b new else b).pool pool then (when t then with_won b new else b).won else 0) ≤ x
         go true true e f = rw (e, f) (h (eqb-true b.pool pool f))
         go true false e f = rw (e, f) (omega arith)
         go false u e f = rw e (omega arith)
@@ -106,8 +106,8 @@ module _ (round : ℕ) (wins : List (List ℕ)) where
         )
 
     -- a bid's new units won are its old ones, or those given now
-    won-given : (i : ℕ) (b : Bid) → (if of_pool pool (won_given round wins i b) then (won_given round wins i b).won else 0)
-        ≤ (if of_pool pool b then b.won else 0) + part (won_given round wins i b)
+    won-given : (i : ℕ) (b : Bid) → (when of_pool pool (won_given round wins i b) then (won_given round wins i b).won else 0)
+        ≤ (when of_pool pool b then b.won else 0) + part (won_given round wins i b)
     unfolding won_given in_auction in_round
     won-given i b = go (in_round round b) (eqb b.pool pool) refl refl
       where
@@ -115,8 +115,8 @@ module _ (round : ℕ) (wins : List (List ℕ)) where
         new = get_or (get_or wins b.pool []) i 0
 
         go : (t u : Bool) → in_round round b ≡ t → eqb b.pool pool ≡ u
-            → (if eqb (if t then with_won b new else b).pool pool then (if t then with_won b new else b).won else 0)
-            ≤ (if u then b.won else 0) + (if in_round round (if t then with_won b new else b) && eqb (if t then with_won b new else b).pool pool then (if t then with_won b new else b).won else 0)
+            → (when eqb (when t then with_won b new else b).pool pool then (when t then with_won b new else b).won else 0)
+            ≤ (when u then b.won else 0) + (when in_round round (when t then with_won b new else b) && eqb (when t then with_won b new else b).pool pool then (when t then with_won b new else b).won else 0)
         go true true e f = rw (e, f) (omega arith)
         go true false e f = rw (e, f) (omega arith)
         go false true e f = rw (e, f) (omega arith)

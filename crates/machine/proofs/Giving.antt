@@ -7,7 +7,7 @@ use native.Mathlib.Omega.{arith}
 use lib.Dec.{eqb}
 use lib.ListN.{get_or}
 use borrow.Author.Tests.{eqb-true, eq-eqb, ne_eqb}
-use Rattle.lists.specs.Lists.{if◌then◌else◌, one_if, sum, count, keep}
+use Rattle.lists.specs.Lists.{when◌then◌else◌, one_if, sum, count, keep}
 use Rattle.lists.proofs.Bools.{by-test, and_right}
 use Rattle.lists.proofs.Counts.{count-given, count_same, count-parts, count-of-map, count-first-le}
 use Rattle.lists.proofs.Keep.{sum-keep-cons}
@@ -86,10 +86,10 @@ sell-open pool round i (b ∷ bs) roll l =
     rest : ℕ
     rest = won_where (in_auction round pool) bs
 
-    go : (t u : Bool) → eqb b.pool pool ≡ u → (if t && u then b.won else 0) + rest ≤ open_units roll pool
+    go : (t u : Bool) → eqb b.pool pool ≡ u → (when t && u then b.won else 0) + rest ≤ open_units roll pool
         → ((r : List Entry) → rest ≤ open_units r pool → open_units (sell round (suc i) bs r) pool + rest ≡ open_units r pool)
-        → open_units (sell round (suc i) bs (if t then give_lowest b.pool (Sold i) b.won roll else roll)) pool
-        + ((if t && u then b.won else 0) + rest) ≡ open_units roll pool
+        → open_units (sell round (suc i) bs (when t then give_lowest b.pool (Sold i) b.won roll else roll)) pool
+        + ((when t && u then b.won else 0) + rest) ≡ open_units roll pool
     go true true f h ih =
         let next = give_lowest pool (Sold i) b.won roll in
         let given = give-open pool (Sold i) (closed i) b.won roll (omega arith) in
@@ -116,7 +116,7 @@ sell-taken pool round bs roll l =
 
 -- the entries sold to a bid: at most as many more as it is given
 give-sold : (b i pool n : ℕ) (roll : List Entry)
-    → count (sold_to b) (give_lowest pool (Sold i) n roll) ≤ count (sold_to b) roll + (if eqb i b then n else 0)
+    → count (sold_to b) (give_lowest pool (Sold i) n roll) ≤ count (sold_to b) roll + (when eqb i b then n else 0)
 unfolding give_lowest sold_is
 give-sold b i pool n roll =
     by-test (λ (k : ℕ). count (sold_to b) (give_lowest pool (Sold i) n roll) ≤ count (sold_to b) roll + k) (eqb i b)
@@ -131,15 +131,15 @@ give-sold b i pool n roll =
 
 -- what a bid won, if it is of this round
 abbrev pub won_then : ℕ → Bid → ℕ
-won_then round b = if in_round round b then b.won else 0
+won_then round b = when in_round round b then b.won else 0
 
 turn-sold : (b round i : ℕ) (x : Bid) (roll : List Entry)
-    → count (sold_to b) (if in_round round x then give_lowest x.pool (Sold i) x.won roll else roll)
-    ≤ count (sold_to b) roll + (if eqb i b then won_then round x else 0)
+    → count (sold_to b) (when in_round round x then give_lowest x.pool (Sold i) x.won roll else roll)
+    ≤ count (sold_to b) roll + (when eqb i b then won_then round x else 0)
 turn-sold b round i x roll = go (in_round round x)
   where
-    go : (t : Bool) → count (sold_to b) (if t then give_lowest x.pool (Sold i) x.won roll else roll)
-        ≤ count (sold_to b) roll + (if eqb i b then (if t then x.won else 0) else 0)
+    go : (t : Bool) → count (sold_to b) (when t then give_lowest x.pool (Sold i) x.won roll else roll)
+        ≤ count (sold_to b) roll + (when eqb i b then (when t then x.won else 0) else 0)
     go true = give-sold b i x.pool x.won roll
     go false = omega arith
 
@@ -151,7 +151,7 @@ sold-before b round i (x ∷ bs) roll l =
     omega (
       arith,
       rw (ne_eqb i b (omega arith)) at (turn-sold b round i x roll),
-      sold-before b round (suc i) bs (if in_round round x then give_lowest x.pool (Sold i) x.won roll else roll) (omega arith),
+      sold-before b round (suc i) bs (when in_round round x then give_lowest x.pool (Sold i) x.won roll else roll) (omega arith),
     )
 
 -- bid i + k, of those that are given units from bid i on
@@ -163,10 +163,10 @@ sell-sold zero round i (x ∷ bs) roll =
     omega (
       arith,
       rw (eq-eqb i (i + 0) (omega arith)) at (turn-sold (i + 0) round i x roll),
-      sold-before (i + 0) round (suc i) bs (if in_round round x then give_lowest x.pool (Sold i) x.won roll else roll) (omega arith),
+      sold-before (i + 0) round (suc i) bs (when in_round round x then give_lowest x.pool (Sold i) x.won roll else roll) (omega arith),
     )
 sell-sold (suc k) round i (x ∷ bs) roll =
-    let next : List Entry = if in_round round x then give_lowest x.pool (Sold i) x.won roll else roll in
+    let next : List Entry = when in_round round x then give_lowest x.pool (Sold i) x.won roll else roll in
     let same : suc i + k ≡ i + suc k = omega arith in
     omega (
       arith,

@@ -9,7 +9,7 @@ use native.Mathlib.Omega.{arith}
 use lib.Dec.{eqb}
 use lib.ListN.{get_or, get_or-map, get_or-eq_default}
 use borrow.Author.Tests.{eqb-true}
-use Rattle.lists.specs.Lists.{if◌then◌else◌, tab}
+use Rattle.lists.specs.Lists.{when◌then◌else◌, tab}
 use Rattle.lists.proofs.Bools.{lt-or-le, and_left, and_right}
 use Rattle.lists.proofs.Places.{length-tab}
 use Rattle.lists.proofs.Each.{get_or-map_from}
@@ -49,7 +49,7 @@ module _ (c : Case) (round pool : ℕ) where
 
   -- its units, or 0 for a bid that does not count
   abbrev weight : Bid → ℕ
-  weight b = if counts b then units b else 0
+  weight b = when counts b then units b else 0
 
   won-in-order : (j i : ℕ) → counts (bid j) ≡ true → counts (bid i) ≡ true → (bid i).price ≡ (bid j).price → (bid i).units < (bid j).units
       → get_or (won_in c round pool) i 0 ≤ get_or (won_in c round pool) j 0

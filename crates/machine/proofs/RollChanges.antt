@@ -9,7 +9,7 @@ use Prim.Native.Nat.{ℕ, zero, suc, ◌-◌, ◌≤◌, ◌<◌}
 use lib.Dec.{eqb}
 use lib.ListN.{length, get_or, set, drop}
 use borrow.Author.Tests.{eqb-true}
-use Rattle.lists.specs.Lists.{if◌then◌else◌, count}
+use Rattle.lists.specs.Lists.{when◌then◌else◌, count}
 use Rattle.lists.proofs.Bools.{either, and_left, and_right}
 use Rattle.lists.proofs.Each.{Each, drop-step}
 use Rattle.lists.proofs.Pairs.{Pairs, pairs-same, pairs-trans, pairs-map, pairs-change_first, pairs_set, pairs-each, pairs-field, pairs-count, pairs-count-falls}
@@ -105,7 +105,7 @@ module _ (New : ℕ → UnitState → Type 0) where
   changes-sell bids new round i [] roll e = changes-none roll
   changes-sell bids new round i (b ∷ bs) roll e =
       let r = drop-step bids i b no_bid bs e in
-      let next = if in_round round b then give_lowest b.pool (Sold i) b.won roll else roll in
+      let next = when in_round round b then give_lowest b.pool (Sold i) b.won roll else roll in
       changes-trans roll next _
       (either (Changes New roll) (in_round round b)
       (changes-give b.pool (Sold i) b.won roll (rw (ap (λ (x : Bid). x.pool) r.1) at (new i r.0))) (changes-none roll))
@@ -135,7 +135,7 @@ pub changes-move : (New : ℕ → UnitState → Type 0) (bids : List Bid) (m : �
 unfolding move_units
 changes-move New bids m new zero owed roll = changes-none New roll
 changes-move New bids m new (suc k) owed roll =
-    go (if eqb owed 0 then none else next_from bids 0 roll none)
+    go (when eqb owed 0 then none else next_from bids 0 roll none)
     (either (At roll) (eqb owed 0) {x = none} {y = next_from bids 0 roll none} tt (next-at bids roll 0 roll none refl tt))
     (λ o r. changes-move New bids m new k o r)
   where

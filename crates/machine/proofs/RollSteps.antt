@@ -8,7 +8,7 @@ use native.Mathlib.Omega.{arith}
 use lib.Dec.{eqb}
 use lib.ListN.{length, get_or, replicate}
 use borrow.Author.Tests.{ne_eqb, not-false}
-use Rattle.lists.specs.Lists.{if◌then◌else◌, count}
+use Rattle.lists.specs.Lists.{when◌then◌else◌, count}
 use Rattle.lists.proofs.Counts.{count-append, count-of-map}
 use Rattle.lists.proofs.Each.{each-always, map-append, map-replicate}
 use Rattle.lists.specs.Tests.{Passed}
@@ -135,18 +135,18 @@ put_up_in (some call) = put_up_by call
 
 -- the pools of the units that a step puts up: none where the call is refused
 abbrev pub added : State → List ℕ → List ℕ
-added s bytes = if eqb (step s bytes).answer 0 then put_up_in (decode bytes) else []
+added s bytes = when eqb (step s bytes).answer 0 then put_up_in (decode bytes) else []
 
 module _ (s : State) (bytes : List ℕ) where
   pub step-pools : map (λ e. e.pool) (roll_of (step s bytes).state) ≡ map (λ e. e.pool) (roll_of s) ++ added s bytes
   step-pools =
-      step-cases (λ n next. map (λ e. e.pool) (roll_of next) ≡ map (λ e. e.pool) (roll_of s) ++ (if eqb n 0 then put_up_in (decode bytes) else [])) s bytes
+      step-cases (λ n next. map (λ e. e.pool) (roll_of next) ≡ map (λ e. e.pool) (roll_of s) ++ (when eqb n 0 then put_up_in (decode bytes) else [])) s bytes
       (λ n h. rw (ne_eqb n 0 h) (sym (append-nil _)))
       (λ call e t. rw e (call-pools s call t))
 
   pub step-open : (pool : ℕ) → open_units (roll_of (step s bytes).state) pool ≤ open_units (roll_of s) pool + count (λ p. eqb p pool) (added s bytes)
   step-open pool =
       step-cases
-      (λ n next. open_units (roll_of next) pool ≤ open_units (roll_of s) pool + count (λ p. eqb p pool) (if eqb n 0 then put_up_in (decode bytes) else [])) s bytes
+      (λ n next. open_units (roll_of next) pool ≤ open_units (roll_of s) pool + count (λ p. eqb p pool) (when eqb n 0 then put_up_in (decode bytes) else [])) s bytes
       (λ n h. omega arith)
       (λ call e t. rw e (call-open s call t pool))

@@ -11,7 +11,7 @@ use lib.Dec.{eqb}
 use lib.IntN.{ℤ, pos, sub_ℕ, ◌+ℤ◌}
 use lib.ListN.{length, get_or, set, drop, replicate, get_or-map, get_or-append, get_or-eq_default}
 use borrow.Author.Tests.{ltb-true, eqb-true, ne_eqb, eq-eqb, not-false}
-use Rattle.lists.specs.Lists.{if◌then◌else◌, one_if, sum, sum_to, count, keep, change_first, map_from, tab}
+use Rattle.lists.specs.Lists.{when◌then◌else◌, one_if, sum, sum_to, count, keep, change_first, map_from, tab}
 use Rattle.lists.specs.Tests.{Passed}
 use Rattle.lists.proofs.Bools.{either, cases, and_left, and_right, lt-or-le, one_if-choice}
 use Rattle.lists.proofs.Sums.{sum_to-ext, sum-none, sum-append}
@@ -75,8 +75,8 @@ sum-changed w p s (e ∷ es) = go (p e) (sum-changed w p s es)
   where
     go : (b : Bool)
         → sum (map w (map (changed_if p s) es)) + sum (map w (keep p es)) ≡ sum (map w es) + sum (map (λ x. w (with_state x s)) (keep p es))
-        → w (if b then with_state e s else e) + sum (map w (map (changed_if p s) es)) + sum (map w (if b then e ∷ keep p es else keep p es))
-        ≡ w e + sum (map w es) + sum (map (λ x. w (with_state x s)) (if b then e ∷ keep p es else keep p es))
+        → w (when b then with_state e s else e) + sum (map w (map (changed_if p s) es)) + sum (map w (when b then e ∷ keep p es else keep p es))
+        ≡ w e + sum (map w es) + sum (map (λ x. w (with_state x s)) (when b then e ∷ keep p es else keep p es))
     go true rest = omega (arith, rest)
     go false rest = omega (arith, rest)
 
@@ -91,14 +91,14 @@ sum-each : {A : Type 0} (w : A → ℕ) (p : A → Bool) (v : ℕ) (xs : List A)
 sum-each w p v xs h = sum-keep-ext p w (λ x. v) xs h ∙ sum-const v (keep p xs) ∙ ap (λ (n : ℕ). n * v) (sym (count-keep p xs))
 
 -- what passes two tests
-sum_both : {A : Type 0} (w : A → ℕ) (p r : A → Bool) (xs : List A) → sum (map (λ x. if r x then w x else 0) (keep p xs)) ≡ sum (map w (keep (λ x. p x && r x) xs))
+sum_both : {A : Type 0} (w : A → ℕ) (p r : A → Bool) (xs : List A) → sum (map (λ x. when r x then w x else 0) (keep p xs)) ≡ sum (map w (keep (λ x. p x && r x) xs))
 sum_both w p r xs = sym (sum-keep r w (keep p xs)) ∙ ap (λ (l : List _). sum (map w l)) (sym (keep-and p r xs))
 
 -- ---- a roll weighed: f of each entry of pool q that is not open
 
 module _ (q : ℕ) (f : UnitState → ℕ) where
   abbrev weigh : ℕ → UnitState → ℕ
-  weigh p s = if not (eqb (kind s) 0) && eqb p q then f s else 0
+  weigh p s = when not (eqb (kind s) 0) && eqb p q then f s else 0
 
   abbrev weight : Entry → ℕ
   weight e = weigh e.pool e.state
@@ -212,13 +212,13 @@ module _ (q : ℕ) (c d : Case) where
   gone_same e f = gone-changed 0 0 e (omega arith)
 
   -- n units of a pool at one price
-  gone_at : (pool n price : ℕ) → count1 ≡ count0 + n * (if eqb pool q then 1 else 0) → price1 ≡ price0 + n * (if eqb pool q then price else 0)
+  gone_at : (pool n price : ℕ) → count1 ≡ count0 + n * (when eqb pool q then 1 else 0) → price1 ≡ price0 + n * (when eqb pool q then price else 0)
       → left_sum d q ≡ left_sum c q +ℤ at_price pool n price q
   unfolding at_price
   gone_at pool n price = go (eqb pool q)
     where
-      go : (b : Bool) → count1 ≡ count0 + n * (if b then 1 else 0) → price1 ≡ price0 + n * (if b then price else 0)
-          → left_sum d q ≡ left_sum c q +ℤ (if b then in_cents n (n * price) else pos 0)
+      go : (b : Bool) → count1 ≡ count0 + n * (when b then 1 else 0) → price1 ≡ price0 + n * (when b then price else 0)
+          → left_sum d q ≡ left_sum c q +ℤ (when b then in_cents n (n * price) else pos 0)
       go true e f = gone-more n (n * price) (omega arith) f
       go false e f = gone_same (omega arith) (omega arith)
 
@@ -229,7 +229,7 @@ same_total q f g roll h = ap sum (map-ext (weight q f) (weight q g) roll (each-w
   where
     each-weighed : (es : List Entry) → Each (λ e. f e.state ≡ g e.state) es → Each (λ e. weight q f e ≡ weight q g e) es
     each-weighed [] h = tt
-    each-weighed (e ∷ es) h = (ap (λ (n : ℕ). if not (eqb (kind e.state) 0) && eqb e.pool q then n else 0) h.0, each-weighed es h.1)
+    each-weighed (e ∷ es) h = (ap (λ (n : ℕ). when not (eqb (kind e.state) 0) && eqb e.pool q then n else 0) h.0, each-weighed es h.1)
 
 -- bids with the same prices
 price-same : (old new : List Bid) → ((i : ℕ) → (get_or new i no_bid).price ≡ (get_or old i no_bid).price) → (s : UnitState) → price_of new s ≡ price_of old s
@@ -256,7 +256,7 @@ price-more c b pool (Agreed m price) o = refl
 module _ (q : ℕ) (f : UnitState → ℕ) (w : Bid → ℕ) (all : List Bid) (at : (i : ℕ) → f (Sold i) ≡ w (get_or all i no_bid)) (round : ℕ) where
   -- what the bids of this round weigh, in pool q
   abbrev sale : Bid → ℕ
-  sale b = b.won * (if eqb b.pool q then w b else 0)
+  sale b = b.won * (when eqb b.pool q then w b else 0)
 
   abbrev sales : List Bid → ℕ
   sales bs = sum (map sale (keep (in_round round) bs))
@@ -273,11 +273,11 @@ module _ (q : ℕ) (f : UnitState → ℕ) (w : Bid → ℕ) (all : List Bid) (a
       (λ next n. sell-total (suc i) bs next r.2 n)
     where
       go : (t : Bool) → in_round round b ≡ t
-          → ((pool : ℕ) → (if in_round round b && eqb b.pool pool then b.won else 0) + won_where (in_auction round pool) bs ≤ open_units roll pool)
+          → ((pool : ℕ) → (when in_round round b && eqb b.pool pool then b.won else 0) + won_where (in_auction round pool) bs ≤ open_units roll pool)
           → w b ≡ f (Sold i)
           → ((next : List Entry) → Enough bs next → total q f (sell round (suc i) bs next) ≡ total q f next + sales bs)
-          → total q f (sell round (suc i) bs (if t then give_lowest b.pool (Sold i) b.won roll else roll))
-          ≡ total q f roll + sum (map sale (if t then b ∷ keep (in_round round) bs else keep (in_round round) bs))
+          → total q f (sell round (suc i) bs (when t then give_lowest b.pool (Sold i) b.won roll else roll))
+          ≡ total q f roll + sum (map sale (when t then b ∷ keep (in_round round) bs else keep (in_round round) bs))
       go true t fits same rest =
           let next = give_lowest b.pool (Sold i) b.won roll in
           let own : b.won + won_where (in_auction round b.pool) bs ≤ open_units roll b.pool = rw (t, eq-eqb b.pool b.pool refl) at (fits b.pool) in
@@ -288,18 +288,18 @@ module _ (q : ℕ) (f : UnitState → ℕ) (w : Bid → ℕ) (all : List Bid) (a
           let here = eqb-true b.pool pool y in
           omega (arith, own, given, ap (λ (k : ℕ). won_where (in_auction round k) bs) here, ap (open_units next) here))
           (λ y. omega (arith, fits pool, give-other b.pool pool y (Sold i) b.won roll)) in
-          let here : total q f next ≡ total q f roll + b.won * (if eqb b.pool q then f (Sold i) else 0) = give-total q f b.pool (Sold i) b.won roll (omega (arith, own)) in
-          omega (arith, rest next enough, here, ap (λ (k : ℕ). b.won * (if eqb b.pool q then k else 0)) same)
+          let here : total q f next ≡ total q f roll + b.won * (when eqb b.pool q then f (Sold i) else 0) = give-total q f b.pool (Sold i) b.won roll (omega (arith, own)) in
+          omega (arith, rest next enough, here, ap (λ (k : ℕ). b.won * (when eqb b.pool q then k else 0)) same)
       go false t fits same rest = rest roll (λ pool. omega (arith, fits pool))
 
   -- the same over the bids of this round in the pool
   sales-in : (bs : List Bid) → sales bs ≡ sum (map (λ b. b.won * w b) (keep (in_auction round q) bs))
   unfolding in_auction
   sales-in bs =
-      ap sum (map-ext sale (λ (b : Bid). if eqb b.pool q then b.won * w b else 0) (keep (in_round round) bs) (each-always _ (λ b. times (eqb b.pool q) b.won (w b)) (keep (in_round round) bs)))
+      ap sum (map-ext sale (λ (b : Bid). when eqb b.pool q then b.won * w b else 0) (keep (in_round round) bs) (each-always _ (λ b. times (eqb b.pool q) b.won (w b)) (keep (in_round round) bs)))
       ∙ sum_both (λ (b : Bid). b.won * w b) (in_round round) (λ b. eqb b.pool q) bs
     where
-      times : (b : Bool) (n v : ℕ) → n * (if b then v else 0) ≡ (if b then n * v else 0)
+      times : (b : Bool) (n v : ℕ) → n * (when b then v else 0) ≡ (when b then n * v else 0)
       times true n v = refl
       times false n v = omega arith
 
@@ -331,7 +331,7 @@ module _ (q : ℕ) (bids : List Bid) (m : ℕ) where
       (total q (price_of bids) (move_units k bids m owed roll) ≡ total q (price_of bids) roll + saved_in q k bids m owed roll)
       × (total q one (move_units k bids m owed roll) ≡ total q one roll)
 
-  raised : (b : Bool) (z p : ℕ) → p < z → (if b then z else 0) ≡ (if b then p else 0) + (if b then z - p else 0)
+  raised : (b : Bool) (z p : ℕ) → p < z → (when b then z else 0) ≡ (when b then p else 0) + (when b then z - p else 0)
   raised true z p l = omega arith
   raised false z p l = omega arith
 
@@ -339,7 +339,7 @@ module _ (q : ℕ) (bids : List Bid) (m : ℕ) where
   unfolding move_units saved_in kind price_of
   move-total zero owed roll = (omega arith, refl)
   move-total (suc k) owed roll =
-      go (if eqb owed 0 then none else next_from bids 0 roll none)
+      go (when eqb owed 0 then none else next_from bids 0 roll none)
       (either (Finds bids roll) (eqb owed 0) {x = none} {y = next_from bids 0 roll none} tt (finds-next bids roll 0 roll none refl tt))
       (λ o r. move-total k o r)
     where
@@ -351,7 +351,7 @@ module _ (q : ℕ) (bids : List Bid) (m : ℕ) where
 
       go : (found : Option Found) → Finds bids roll found → ((o : ℕ) (r : List Entry) → Moves k o r)
           → (total q (price_of bids) (elim found [ none ↦ roll | some x ↦ move_units k bids m (owed - saving x) (after x) ])
-          ≡ total q (price_of bids) roll + elim found [ none ↦ 0 | some x ↦ (if eqb x.entry.pool q then saving x else 0) + saved_in q k bids m (owed - saving x) (after x) ])
+          ≡ total q (price_of bids) roll + elim found [ none ↦ 0 | some x ↦ (when eqb x.entry.pool q then saving x else 0) + saved_in q k bids m (owed - saving x) (after x) ])
           × (total q one (elim found [ none ↦ roll | some x ↦ move_units k bids m (owed - saving x) (after x) ]) ≡ total q one roll)
       go none at rest = (omega arith, refl)
       go (some x) at rest =
@@ -360,8 +360,8 @@ module _ (q : ℕ) (bids : List Bid) (m : ℕ) where
           let may = may-move bids e at.1 in
           let there = found-there roll x at in
           let next = rest (owed - saving x) (after x) in
-          let old : weight q (price_of bids) (get_or roll x.place no_entry) ≡ (if eqb e.pool q then price_of bids e.state else 0) = rw (at.0, may.0) refl in
-          let was : weight q one (get_or roll x.place no_entry) ≡ (if eqb e.pool q then 1 else 0) = rw (at.0, may.0) refl in (
+          let old : weight q (price_of bids) (get_or roll x.place no_entry) ≡ (when eqb e.pool q then price_of bids e.state else 0) = rw (at.0, may.0) refl in
+          let was : weight q one (get_or roll x.place no_entry) ≡ (when eqb e.pool q then 1 else 0) = rw (at.0, may.0) refl in (
             omega (arith, next.0, sum-set (weight q (price_of bids)) roll x.place new no_entry there, old, raised (eqb e.pool q) zero_price (price_of bids e.state) may.1),
             omega (arith, next.1, sum-set (weight q one) roll x.place new no_entry there, was),
           )
@@ -381,7 +381,7 @@ passed-closed m (Agreed a price) e = refl
 taken_at : (q : ℕ) (c : Case) (pool price : ℕ) (s : UnitState) → eqb (kind s) 0 ≡ false → price_of c.bids s ≡ price → (d : Case) → d.bids ≡ c.bids
     → d.roll ≡ map (changed_if (open_in pool) s) c.roll → left_sum d q ≡ left_sum c q +ℤ at_price pool (open_units c.roll pool) price q
 taken_at q c pool price s closed at d same roll =
-    let changed : (f : UnitState → ℕ) → total q f (map (changed_if (open_in pool) s) c.roll) ≡ total q f c.roll + open_units c.roll pool * (if eqb pool q then f s else 0) =
+    let changed : (f : UnitState → ℕ) → total q f (map (changed_if (open_in pool) s) c.roll) ≡ total q f c.roll + open_units c.roll pool * (when eqb pool q then f s else 0) =
     λ f. rw closed at (take-total q f pool s c.roll) in
     gone_at q c d pool (open_units c.roll pool) price (rw roll (changed one)) (rw (roll, same) (rw at at (changed (price_of c.bids))))
 
@@ -436,7 +436,7 @@ module _ (q : ℕ) (c : Case) (ok : CaseOk c) where
       let whole = allocation-sum c pool in
       let given : (f : UnitState → ℕ) (v : ℕ) → ((m : ℕ) → weigh q f pool (Allocated m price) ≡ v) → total q f (give_shares pool price shares ms c.roll) ≡ total q f c.roll + n * v =
       λ f v at. shares-total q f pool price v at shares ms c.roll (omega (arith, whole)) ∙ ap (λ (k : ℕ). total q f c.roll + k * v) whole in
-      gone_at q c (after_allocate c pool price) pool n price (given one (if eqb pool q then 1 else 0) (λ m. refl)) (given (price_of c.bids) (if eqb pool q then price else 0) (λ m. refl))
+      gone_at q c (after_allocate c pool price) pool n price (given one (when eqb pool q then 1 else 0) (λ m. refl)) (given (price_of c.bids) (when eqb pool q then price else 0) (λ m. refl))
 
   move-adds : (m : ℕ) → left_sum (after_move c m) q ≡ left_sum c q +ℤ pos (saved_in q (length c.roll) c.bids m (owes c.members m) c.roll)
   unfolding after_move move_all in_cents
@@ -454,9 +454,9 @@ module _ (q : ℕ) (c : Case) (ok : CaseOk c) where
       let roll = c.roll in
       -- what is weighed of an entry that is passed to the member, before and after
       let before : (f : UnitState → ℕ) → sum (map (weight q f) (keep p roll)) ≡ sum (map (λ (e : Entry). f e.state) (keep (missed_in m q) roll)) =
-      λ f. sum-keep-ext p (weight q f) (λ (e : Entry). if here e then f e.state else 0) roll (λ e o. rw (passed-closed m e.state o) refl)
+      λ f. sum-keep-ext p (weight q f) (λ (e : Entry). when here e then f e.state else 0) roll (λ e o. rw (passed-closed m e.state o) refl)
       ∙ sum_both (λ (e : Entry). f e.state) p here roll in
-      let after : (v : ℕ) → sum (map (λ (e : Entry). if here e then v else 0) (keep p roll)) ≡ count (missed_in m q) roll * v =
+      let after : (v : ℕ) → sum (map (λ (e : Entry). when here e then v else 0) (keep p roll)) ≡ count (missed_in m q) roll * v =
       λ v. sum_both (λ (e : Entry). v) p here roll ∙ sum-each (λ (e : Entry). v) (missed_in m q) v roll (λ e o. refl) in
       gone-changed q c (after_miss c m price) (count (missed_in m q) roll * price) (sum (map (λ (e : Entry). price_of bids e.state) (keep (missed_in m q) roll)))
       (omega (arith, sum-changed (weight q one) p (Torn price) roll, before one, after 1, sum-each (λ (e : Entry). 1) (missed_in m q) 1 roll (λ e o. refl)))
@@ -536,10 +536,10 @@ state-adds q none ok call t =
 state-adds q (some c) ok call t = call-adds q c ok call t
 
 kept_step_lem : (q : ℕ) (s : State) → StateOk s → (z : ℤ) → z ≡ gone s q → (bytes : List ℕ)
-    → (if eqb (step s bytes).answer 0 then z +ℤ added_by (the_case s) (decode bytes) q else z) ≡ gone (step s bytes).state q
+    → (when eqb (step s bytes).answer 0 then z +ℤ added_by (the_case s) (decode bytes) q else z) ≡ gone (step s bytes).state q
 unfolding added_by
 kept_step_lem q s ok z e bytes =
-    step-cases (λ n next. (if eqb n 0 then z +ℤ added_by (the_case s) (decode bytes) q else z) ≡ gone next q) s bytes
+    step-cases (λ n next. (when eqb n 0 then z +ℤ added_by (the_case s) (decode bytes) q else z) ≡ gone next q) s bytes
     (λ n h. rw (ne_eqb n 0 h) e)
     (λ call d t. rw (d, e) (sym (state-adds q s ok call t)))
 

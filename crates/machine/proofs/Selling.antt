@@ -7,7 +7,7 @@ use native.Mathlib.Nat.{zero-mul, suc-mul}
 use native.Mathlib.Omega.{arith}
 use lib.Dec.{eqb, ltb}
 use lib.ListN.{length}
-use Rattle.lists.specs.Lists.{if◌then◌else◌, sum, keep, count, one_if}
+use Rattle.lists.specs.Lists.{when◌then◌else◌, sum, keep, count, one_if}
 use Rattle.lists.proofs.Bools.{cases, either, ltb-same}
 use Rattle.lists.proofs.Each.{Each, each_map}
 use Rattle.auction.specs.Price.{zero_price}
@@ -40,8 +40,8 @@ unfolding keep
 early-keeps [] h = refl
 early-keeps (e ∷ es) h =
     let rest = early-keeps es h.1 in
-    ap (λ (b : Bool). if b then e ∷ keep (λ x. not (is_open x)) es else keep (λ x. not (is_open x)) es) (early-kept e h.0)
-    ∙ ap (λ (l : List Entry). if is_agreed e.state then e ∷ l else l) rest
+    ap (λ (b : Bool). when b then e ∷ keep (λ x. not (is_open x)) es else keep (λ x. not (is_open x)) es) (early-kept e h.0)
+    ∙ ap (λ (l : List Entry). when is_agreed e.state then e ∷ l else l) rest
 
 -- the prices of all units not open are those of the units sold by agreement
 early-prices : (bids : List Bid) (roll : List Entry) → Each Early roll → prices bids roll ≡ agreed_prices bids roll

@@ -10,7 +10,7 @@ use native.Mathlib.Omega.{arith}
 use lib.Dec.{eqb, ltb}
 use lib.ListN.{length, get_or, drop}
 use borrow.Author.Tests.{leb-false, ltb-false, le-leb, le-ltb, not-false}
-use Rattle.lists.specs.Lists.{if◌then◌else◌, all}
+use Rattle.lists.specs.Lists.{when◌then◌else◌, all}
 use Rattle.lists.proofs.Bools.{cases}
 use Rattle.lists.proofs.Counts.{each-any, any_false}
 use Rattle.lists.proofs.Each.{Each, each_more, each_both, each-always, each-get}
@@ -99,12 +99,12 @@ module _ (c : Case) (ok : CaseOk c) (so : SoldOut c) (after : letter c.stage ≡
 
   -- ROUND is asked for its length and its range, and then finds no open unit
   pub round-answer : (reserves : List ℕ)
-      → refusal (some c) (ROUND reserves) ≡ (if eqb (length reserves) c.head.pools then (if all price_ok reserves then 8 else 5) else 1)
+      → refusal (some c) (ROUND reserves) ≡ (when eqb (length reserves) c.head.pools then (when all price_ok reserves then 8 else 5) else 1)
   unfolding refusal tests first_of letter_of
   round-answer reserves =
       rw (after, shut, first-after c.stage (length c.rounds) ok.stage after no-round) (turned (eqb (length reserves) c.head.pools) (all price_ok reserves))
     where
-      turned : (a b : Bool) → ◌≡◌ {A = ℕ} (if not a then 1 else (if not b then 5 else 8)) (if a then (if b then 8 else 5) else 1)
+      turned : (a b : Bool) → ◌≡◌ {A = ℕ} (when not a then 1 else (when not b then 5 else 8)) (when a then (when b then 8 else 5) else 1)
       turned true true = refl
       turned true false = refl
       turned false b = refl

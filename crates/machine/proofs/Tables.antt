@@ -9,7 +9,7 @@ use native.Mathlib.Omega.{arith}
 use lib.Dec.{eqb}
 use lib.ListN.{length}
 use borrow.Author.Tests.{eqb-true, lt-leb}
-use Rattle.lists.specs.Lists.{if◌then◌else◌}
+use Rattle.lists.specs.Lists.{when◌then◌else◌}
 use Rattle.lists.specs.Tests.{Test, first_of}
 use Rattle.lists.proofs.Passed.{ascending, ascending-above}
 use Rattle.lists.proofs.Each.{Each}
@@ -33,13 +33,13 @@ later-none ((n, true) ∷ ts) h = rw (lt-leb n 2 h.0)
 later-none ((n, false) ∷ ts) h = later-none ts h.1
 
 -- test 2 decides unless it fails
-second : (b : Bool) (ts : List Test) → ascending 2 ts ≡ true → first_two (first_of ((2, b) ∷ ts)) ≡ (if b then 2 else 0)
+second : (b : Bool) (ts : List Test) → ascending 2 ts ≡ true → first_two (first_of ((2, b) ∷ ts)) ≡ (when b then 2 else 0)
 unfolding first_of
 second true ts h = refl
 second false ts h = later-none ts (ascending-above 2 ts h)
 
 -- tests 1 and 2 decide unless both fail
-first-and-second : (a b : Bool) (ts : List Test) → ascending 2 ts ≡ true → first_two (first_of ((1, a) ∷ (2, b) ∷ ts)) ≡ (if a then 1 else if b then 2 else 0)
+first-and-second : (a b : Bool) (ts : List Test) → ascending 2 ts ≡ true → first_two (first_of ((1, a) ∷ (2, b) ∷ ts)) ≡ (when a then 1 else when b then 2 else 0)
 unfolding first_of
 first-and-second true b ts h = refl
 first-and-second false b ts h = second b ts h
@@ -53,12 +53,12 @@ unfolding letter round_of letter_of_stage
 by-stage P s b1 b2 a1 a2 c f Setup = s
 by-stage P s b1 b2 a1 a2 c f (Bidding round) = in-round (eqb round 1)
   where
-    in-round : (one : Bool) → P 2 one (if one then B1 else B2)
+    in-round : (one : Bool) → P 2 one (when one then B1 else B2)
     in-round true = b1
     in-round false = b2
 by-stage P s b1 b2 a1 a2 c f (After round) = in-round (eqb round 1)
   where
-    in-round : (one : Bool) → P 3 one (if one then A1 else A2)
+    in-round : (one : Bool) → P 3 one (when one then A1 else A2)
     in-round true = a1
     in-round false = a2
 by-stage P s b1 b2 a1 a2 c f CallsOut = c
@@ -68,7 +68,7 @@ by-stage P s b1 b2 a1 a2 c f Finished = f
 
 -- a test of the stage, by its number and whether its round is the first, and a row of the table that agrees with it at a letter
 abbrev Agree : (ℕ → Bool → Bool) → (Letter → Cell) → ℕ → Bool → Letter → Type 0
-Agree test entry k one l = (if test k one then 2 else 0) ≡ declined (entry l)
+Agree test entry k one l = (when test k one then 2 else 0) ≡ declined (entry l)
 
 -- with no case, HEAD alone is allowed
 head-allowed : (h : Head) → first_two (refusal none (HEAD h)) ≡ 0
@@ -115,7 +115,7 @@ module _ (c : Case) where
   early-some (ROUND reserves) =
       first-and-second _ _ _ refl
       ∙ rw (letter-some c.stage)
-      (ap (λ (n : ℕ). if not (eqb (length reserves) c.head.pools) then 1 else n)
+      (ap (λ (n : ℕ). when not (eqb (length reserves) c.head.pools) then 1 else n)
       (by-stage (Agree (λ k one. not (eqb k 1 || (eqb k 3 && one))) (stage_table (ROUND reserves))) refl refl refl refl refl refl refl c.stage))
   early-some (BID pool m units price) = by_row (BID pool m units price) (λ k one. not (eqb k 2)) _ refl refl refl refl refl refl refl refl
   early-some CLOSE = by_row CLOSE (λ k one. not (eqb k 2)) _ refl refl refl refl refl refl refl refl
@@ -179,13 +179,13 @@ unfolding row declined meant letter_of_stage round_of
 round-makes next Setup e = refl
 round-makes next (Bidding r) e = absurd (never (eqb r 1) e)
   where
-    never : (one : Bool) → declined (row x (to B1) x x (to B2) x x x (if one then B1 else B2)) ≡ 0 → ⊥
+    never : (one : Bool) → declined (row x (to B1) x x (to B2) x x x (when one then B1 else B2)) ≡ 0 → ⊥
     never true e = omega arith
     never false e = omega arith
 round-makes next (After r) e = after (eqb r 1) refl e
   where
-    after : (one : Bool) → eqb r 1 ≡ one → declined (row x (to B1) x x (to B2) x x x (if one then A1 else A2)) ≡ 0
-        → to (of_round (suc r) B1 B2) ≡ meant next (row x (to B1) x x (to B2) x x x (if one then A1 else A2))
+    after : (one : Bool) → eqb r 1 ≡ one → declined (row x (to B1) x x (to B2) x x x (when one then A1 else A2)) ≡ 0
+        → to (of_round (suc r) B1 B2) ≡ meant next (row x (to B1) x x (to B2) x x x (when one then A1 else A2))
     after true first e = rw (eqb-true r 1 first)
     after false first e = absurd (omega arith)
 round-makes next CallsOut e = absurd (omega arith)
@@ -196,7 +196,7 @@ close-makes : (next : State) (s : Stage) → declined (row x x (to A1) (to A2) x
     → to (letter_of_stage (After (round_of s))) ≡ meant next (row x x (to A1) (to A2) x x x x (letter_of_stage s))
 unfolding row declined meant letter_of_stage
 close-makes next =
-    by-stage (λ k one l. declined (row x x (to A1) (to A2) x x x x l) ≡ 0 → to (if one then A1 else A2) ≡ meant next (row x x (to A1) (to A2) x x x x l))
+    by-stage (λ k one l. declined (row x x (to A1) (to A2) x x x x l) ≡ 0 → to (when one then A1 else A2) ≡ meant next (row x x (to A1) (to A2) x x x x l))
     (λ e. absurd (omega arith))
     (λ e. refl)
     (λ e. refl)
@@ -207,7 +207,7 @@ close-makes next =
 
 -- SALE leaves S while a unit is open, and makes A1 where none is
 sale-makes : (s : Stage) (some-open : Bool) → declined (row x (while_open S A1) x x x x x x (letter_of_stage s)) ≡ 0
-    → letter_of_stage (if some-open then s else After 1) ≡ (if some-open then S else A1)
+    → letter_of_stage (when some-open then s else After 1) ≡ (when some-open then S else A1)
 unfolding row declined letter_of_stage
 sale-makes s true = by-stage (λ k one l. declined (row x (while_open S A1) x x x x x x l) ≡ 0 → l ≡ S)
     (λ e. refl)
@@ -272,7 +272,7 @@ stage-after (some c) call e = stage-some c call e
 -- ---- the law
 
 -- where neither 1 nor 2 applies, the table allows the call
-allowed : (b : Bool) (entry : Cell) → (if b then 1 else declined entry) ≡ 0 → declined entry ≡ 0
+allowed : (b : Bool) (entry : Cell) → (when b then 1 else declined entry) ≡ 0 → declined entry ≡ 0
 allowed true entry e = absurd (omega arith)
 allowed false entry e = e
 

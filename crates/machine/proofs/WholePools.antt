@@ -9,7 +9,7 @@ use native.Mathlib.Omega.{arith}
 use lib.Dec.{eqb}
 use lib.ListN.{length, replicate}
 use borrow.Author.Tests.{eqb-true, eqb-false, not-false}
-use Rattle.lists.specs.Lists.{if◌then◌else◌}
+use Rattle.lists.specs.Lists.{when◌then◌else◌}
 use Rattle.lists.proofs.Bools.{cases, by-test, and_right, and-false, or_right}
 use Rattle.lists.proofs.Counts.{count-append, count-replicate-out, count_none}
 use Rattle.lists.proofs.Each.{Each, each_append, each-replicate, each_map, each_more, each-always, map-ext}
@@ -120,5 +120,5 @@ sale-whole c whole pool m price t =
     let left = eqb-false (open_units c.roll pool) 0 t.1.1.1.1.0 in
     map-ext (changed_if (open_in pool) (Agreed m price)) (changed_if (λ e. eqb e.pool pool) (Agreed m price)) c.roll
     (each_more _ (λ e. changed_if (open_in pool) (Agreed m price) e ≡ changed_if (λ e. eqb e.pool pool) (Agreed m price) e)
-    (λ e h. ap (λ (b : Bool). if b then with_state e (Agreed m price) else e) (there pool e h)) c.roll
+    (λ e h. ap (λ (b : Bool). when b then with_state e (Agreed m price) else e) (there pool e h)) c.roll
     (whole (letter-is c.stage 1 t.0) pool (omega (arith, left))))

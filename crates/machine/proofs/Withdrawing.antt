@@ -9,7 +9,7 @@ use lib.Dec.{eqb}
 use lib.ListN.{length, get_or, set, take, drop, length-set, length-append, get_or-append}
 use lib.Seq.{get_or-set_same, get_or-set_other, get_or_at}
 use borrow.Author.Tests.{not-false, eqb-true}
-use Rattle.lists.specs.Lists.{if◌then◌else◌, keep, tab}
+use Rattle.lists.specs.Lists.{when◌then◌else◌, keep, tab}
 use Rattle.lists.proofs.Bools.{by-test, and_left, and_right}
 use Rattle.lists.proofs.Each.{set_cases, get_or-map_from, length-map_from}
 use Rattle.lists.specs.Tests.{first_of, Passed}
@@ -41,7 +41,7 @@ unfolding keep
 drops [] zero = refl
 drops [] (suc n) = refl
 drops (b ∷ bs) zero = refl
-drops (b ∷ bs) (suc n) = ap (λ (l : List Bid). if b.stands then b ∷ l else l) (drops bs n)
+drops (b ∷ bs) (suc n) = ap (λ (l : List Bid). when b.stands then b ∷ l else l) (drops bs n)
 
 module _ (s : State) (bytes : List ℕ) (m n : ℕ) (is : decode bytes ≡ some (WITHDRAW m n)) (taken : (step s bytes).answer ≡ 0) where
   no-refusal : refusal s (WITHDRAW m n) ≡ 0
@@ -182,11 +182,11 @@ stay-run s (bytes ∷ calls) n l out =
     stay-run (step s bytes).state calls n (numbers-kept s bytes n l).0 (ap (λ (b : Bid). b.stands) same ∙ out) ∙ same
 
 -- the answer to a WITHDRAW of a bid that does not stand
-out-answer : (s : State) (m n : ℕ) → (bid_at s n).stands ≡ false → refusal s (WITHDRAW m n) ≡ (if is_b s then (if in_set (the_case s).head m then 18 else 4) else 2)
+out-answer : (s : State) (m n : ℕ) → (bid_at s n).stands ≡ false → refusal s (WITHDRAW m n) ≡ (when is_b s then (when in_set (the_case s).head m then 18 else 4) else 2)
 unfolding refusal first_of tests not_in_set none_stands in_round
 out-answer s m n out = rw out (go (is_b s) (in_set (the_case s).head m))
   where
-    go : (a b : Bool) → ◌≡◌ {A = ℕ} (if not a then 2 else (if not b then 4 else 18)) (if a then (if b then 18 else 4) else 2)
+    go : (a b : Bool) → ◌≡◌ {A = ℕ} (when not a then 2 else (when not b then 4 else 18)) (when a then (when b then 18 else 4) else 2)
     go true true = refl
     go true false = refl
     go false b = refl
@@ -205,6 +205,6 @@ module _ (s : State) (bytes : List ℕ) (m n : ℕ) (is : decode bytes ≡ some 
 
   -- another WITHDRAW of it, by any member, is declined by 18, after 2 and 4
   pub withdrawn-again : (more : List ℕ) (k : ℕ) → decode more ≡ some (WITHDRAW k n)
-      → (step later more).answer ≡ (if is_b later then (if in_set (the_case later).head k then 18 else 4) else 2)
+      → (step later more).answer ≡ (when is_b later then (when in_set (the_case later).head k then 18 else 4) else 2)
   withdrawn-again more k again =
       call-answer later more (WITHDRAW k n) again ∙ out-answer later k n (ap (λ (b : Bid). b.stands) withdrawn-for-good)

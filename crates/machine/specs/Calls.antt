@@ -1,6 +1,6 @@
 -- Document 01, "The case and its calls": the case after each accepted call.
 use Rattle.std.specs.Prelude.{Bool, ◌&&◌, List, [], ◌∷◌, ◌++◌, map, ℕ, suc, ◌+◌, ◌-◌, min, ltb, eqb, get_or, set, replicate, true, false}
-use Rattle.lists.specs.Lists.{if◌then◌else◌, sum, keep, among, map_from, tab}
+use Rattle.lists.specs.Lists.{when◌then◌else◌, sum, keep, among, map_from, tab}
 use Rattle.splitting.specs.Split.{split_among}
 use Rattle.auction.specs.Auction.{allot}
 use Rattle.machine.specs.Wire.{Call, HEAD, POOL, MEMBER, ROUND, BID, CLOSE, ALLOCATE, TEAR, CALL, PAY, MOVE, MISS, FINISH, SALE, WITHDRAW}
@@ -65,7 +65,7 @@ won_in c round pool =
 
 -- bid i, with the units that it won if it stands and is of this round; `wins` has a list of units won for each pool
 unfoldable pub won_given : ℕ → List (List ℕ) → ℕ → Bid → Bid
-won_given round wins i b = if in_round round b then with_won b (get_or (get_or wins b.pool []) i 0) else b
+won_given round wins i b = when in_round round b then with_won b (get_or (get_or wins b.pool []) i 0) else b
 
 -- the bids, those that stand in this round with the units that they won
 unfoldable pub bids_after : Case → ℕ → List Bid
@@ -75,7 +75,7 @@ bids_after c round = let wins = tab c.head.pools (won_in c round) in map_from 0 
 unfoldable pub sell : ℕ → ℕ → List Bid → List Entry → List Entry
 sell round i [] roll = roll
 sell round i (b ∷ bs) roll =
-    sell round (suc i) bs (if in_round round b then give_lowest b.pool (Sold i) b.won roll else roll)
+    sell round (suc i) bs (when in_round round b then give_lowest b.pool (Sold i) b.won roll else roll)
 
 -- CLOSE "makes A"
 unfoldable pub after_close : Case → Case
@@ -164,7 +164,7 @@ sold pool m price roll = map (changed_if (open_in pool) (Agreed m price)) roll
 unfoldable pub after_sale : Case → ℕ → ℕ → ℕ → Case
 after_sale c pool m price =
     let roll = sold pool m price c.roll in
-    with_stage (with_roll c roll) (if any_open roll then c.stage else After 1)
+    with_stage (with_roll c roll) (when any_open roll then c.stage else After 1)
 
 -- ---- WITHDRAW
 

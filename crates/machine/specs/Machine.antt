@@ -2,7 +2,7 @@
 -- above and refuses by the list below; a refused call leaves all as it was."
 use Rattle.std.specs.Prelude.{List, ℕ, eqb}
 use Rattle.std.proofs.Math.Option.{Option, none, some}
-use Rattle.lists.specs.Lists.{if◌then◌else◌}
+use Rattle.lists.specs.Lists.{when◌then◌else◌}
 use Rattle.machine.specs.Wire.{Call, decode}
 use Rattle.machine.specs.State.{State, the_case}
 use Rattle.machine.specs.Calls.{accepted}
@@ -18,7 +18,7 @@ unfoldable pub answered : State → Option Call → Answered
 answered s none = record { answer = 1; state = s }
 answered s (some call) =
     let n = refusal s call in
-    record { answer = n; state = if eqb n 0 then some (accepted (the_case s) call) else s }
+    record { answer = n; state = when eqb n 0 then some (accepted (the_case s) call) else s }
 
 -- one call, from its bytes
 unfoldable pub step : State → List ℕ → Answered

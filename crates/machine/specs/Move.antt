@@ -2,7 +2,7 @@
 -- allocated or sold unit with a negative price is left; only such units move, in pools of either mark."
 use Rattle.std.specs.Prelude.{Bool, true, false, ◌&&◌, ◌||◌, not, List, [], ◌∷◌, ℕ, zero, suc, ◌-◌, ltb, eqb, length, get_or, set}
 use Rattle.std.proofs.Math.Option.{Option, none, some}
-use Rattle.lists.specs.Lists.{if◌then◌else◌}
+use Rattle.lists.specs.Lists.{when◌then◌else◌}
 use Rattle.auction.specs.Price.{zero_price, negative}
 use Rattle.machine.specs.Roll.{Bid, Entry, Open, Sold, Allocated, Moved, Torn, Agreed, no_bid, with_state, price_of, kind, is_agreed}
 
@@ -38,18 +38,18 @@ pub record Found : Type 0 where
 -- of what was found and a later place, the one that goes first: "within one bid or member the highest first", so of equal turns the later
 unfoldable pub better : List Bid → Option Found → Found → Option Found
 better bids none y = some y
-better bids (some x) y = if later (turn bids y.entry) (turn bids x.entry) then some x else some y
+better bids (some x) y = when later (turn bids y.entry) (turn bids x.entry) then some x else some y
 
 -- the unit that moves next, if any, of what was found and the entries from place i on
 unfoldable pub next_from : List Bid → ℕ → List Entry → Option Found → Option Found
 next_from bids i [] found = found
 next_from bids i (e ∷ es) found =
-    next_from bids (suc i) es (if may_move bids e then better bids found (record { place = i; entry = e }) else found)
+    next_from bids (suc i) es (when may_move bids e then better bids found (record { place = i; entry = e }) else found)
 
 -- the roll after at most k moves to member m, which has still to save `owed`
 unfoldable pub move_units : ℕ → List Bid → ℕ → ℕ → List Entry → List Entry
 move_units zero bids m owed roll = roll
-move_units (suc k) bids m owed roll = elim (if eqb owed 0 then none else next_from bids 0 roll none) [
+move_units (suc k) bids m owed roll = elim (when eqb owed 0 then none else next_from bids 0 roll none) [
   | none ↦ roll
   | some x ↦ move_units k bids m (owed - (zero_price - price_of bids x.entry.state)) (set roll x.place (with_state x.entry (Moved m)))
 ]

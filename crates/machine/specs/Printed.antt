@@ -1,7 +1,7 @@
 -- Document 01, "Examples": "The program `ledger` reads fields from standard input" and prints lines.
 use Rattle.std.specs.Prelude.{List, [], ◌∷◌, ◌++◌, map, ℕ, zero, suc, ◌+◌, ◌*◌, ◌/◌, ◌%◌, ltb, length, take, drop}
 use Rattle.std.proofs.Math.Option.{none}
-use Rattle.lists.specs.Lists.{if◌then◌else◌, tab}
+use Rattle.lists.specs.Lists.{when◌then◌else◌, tab}
 use Rattle.machine.specs.State.{State, Case, the_case, is_f}
 use Rattle.machine.specs.Machine.{step}
 use Rattle.machine.specs.Run.{Result, MemberResult, five_counts, result_of}
@@ -43,7 +43,7 @@ unfoldable pub end_lines : State → List Line
 end_lines s =
     let c = the_case s in
     tab (length c.pools) (p_line c)
-    ++ (if is_f s then l_line (result_of c) ∷ map m_line (result_of c).members else [])
+    ++ (when is_f s then l_line (result_of c) ∷ map m_line (result_of c).members else [])
 
 -- an s line for each field, and the lines of the end. A field that is cut off is answered 1, since it isn't exactly one field
 unfoldable pub lines_from : State → List (List ℕ) → List Line
@@ -57,7 +57,7 @@ unfoldable pub decimal : ℕ → ℕ → List ℕ
 decimal zero n = []
 decimal (suc k) n =
     let more = decimal k (n / 10) in
-    (if ltb n 10 then [] else more) ++ ((48 + n % 10) ∷ [])
+    (when ltb n 10 then [] else more) ++ ((48 + n % 10) ∷ [])
 
 -- each number behind a space, and the line's end
 unfoldable pub numbers_text : List ℕ → List ℕ

@@ -1,6 +1,6 @@
 -- Document 01, "Requirement": the loss, the tranches, what is prefunded, and what a member owes.
 use Rattle.std.specs.Prelude.{List, map, ℕ, ◌+◌, ◌-◌, ◌*◌, ◌/◌, length}
-use Rattle.lists.specs.Lists.{if◌then◌else◌, sum}
+use Rattle.lists.specs.Lists.{when◌then◌else◌, sum}
 use Rattle.auction.specs.Price.{zero_price}
 use Rattle.machine.specs.Roll.{prices}
 use Rattle.machine.specs.State.{Case, Member, member_list, member_at}
@@ -33,4 +33,4 @@ prefunded c = c.head.margin + c.head.fund + c.head.house + contributions c
 
 -- "It owes its call less payments, and 0 after MOVE."
 unfoldable pub owes : List Member → ℕ → ℕ
-owes ms m = let x = member_at ms m in if x.moved then 0 else x.called - x.paid
+owes ms m = let x = member_at ms m in when x.moved then 0 else x.called - x.paid

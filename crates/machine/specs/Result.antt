@@ -1,6 +1,6 @@
 -- Document 01, "Rank and layers": each member's rank, and what FINISH charges.
 use Rattle.std.specs.Prelude.{Bool, false, List, [], ◌∷◌, map, ℕ, ◌-◌, ◌*◌, eqb, get_or}
-use Rattle.lists.specs.Lists.{if◌then◌else◌, sum, keep, least, map_from}
+use Rattle.lists.specs.Lists.{when◌then◌else◌, sum, keep, least, map_from}
 use Rattle.splitting.specs.Split.{split_among}
 use Rattle.waterfall.specs.Seniority.{Standing, rank_in}
 use Rattle.waterfall.specs.Charging.{charged, uncovered, charged_by_rank}
@@ -22,7 +22,7 @@ standing c m =
     record {
       D = sum (map (λ b. b.won * (b.price - worst_reserve c.rounds b.pool)) bids);
       W = sum (map (λ b. b.won) bids);
-      expected = sum (map_from 0 (λ pool n. if sold_by_agreement c.roll pool then 0 else n) (member_at c.members m).expected);
+      expected = sum (map_from 0 (λ pool n. when sold_by_agreement c.roll pool then 0 else n) (member_at c.members m).expected);
     }
 
 -- "Rank = 1 + the number strictly senior."

@@ -1,6 +1,6 @@
 -- Document 01, "The unit roll": the entries, and how calls change them.
 use Rattle.std.specs.Prelude.{Bool, true, false, ◌&&◌, not, List, ◌++◌, map, ℕ, eqb, get_or, replicate}
-use Rattle.lists.specs.Lists.{if◌then◌else◌, count, any, keep, change_first}
+use Rattle.lists.specs.Lists.{when◌then◌else◌, count, any, keep, change_first}
 use Rattle.auction.specs.Price.{zero_price}
 
 -- "A pool of N units has N entries, each open, sold (bid), allocated (member, price), moved (member) or torn (price)." Document 02,
@@ -112,7 +112,7 @@ give_lowest pool state n roll = change_first (open_in pool) (λ e. with_state e 
 
 -- an entry changed to a state, if it passes the test
 abbrev pub changed_if : (Entry → Bool) → UnitState → Entry → Entry
-changed_if p state e = if p e then with_state e state else e
+changed_if p state e = when p e then with_state e state else e
 
 -- an entry torn up at a price, if it passes the test
 abbrev pub torn_if : (Entry → Bool) → ℕ → Entry → Entry

@@ -1,7 +1,7 @@
 -- Document 01, "The unit roll": what is compared after every call, over every list of calls.
 use Rattle.std.specs.Prelude.{◌&&◌, List, [], ◌∷◌, map, ℕ, eqb, ℤ, length}
 use Rattle.std.proofs.Math.Option.{Option, none, some}
-use Rattle.lists.specs.Lists.{if◌then◌else◌, count, tab}
+use Rattle.lists.specs.Lists.{when◌then◌else◌, count, tab}
 use Rattle.auction.specs.Price.{sum_cents}
 use Rattle.machine.specs.Roll.{Entry, Bid, kind, price_of, held_by, prices}
 use Rattle.machine.specs.State.{Case, State, the_case, is_f, member_list}
@@ -64,7 +64,7 @@ observed n s =
       counts = tab (length c.pools) (five_counts c.roll);
       holdings = holding c.bids c.roll;
       prices = sum_of_prices c;
-      result = if is_f s then some (result_of c) else none;
+      result = when is_f s then some (result_of c) else none;
     }
 
 -- the state after a list of calls

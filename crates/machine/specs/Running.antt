@@ -3,7 +3,7 @@
 use Rattle.std.specs.Prelude.{Bool, ◌&&◌, not, List, [], ◌∷◌, map, ℕ, zero, suc, ◌+◌, ◌-◌, ◌*◌, min, eqb, ℤ, pos, ◌+ℤ◌, ◌-ℤ◌, length, set}
 use Rattle.std.proofs.Math.Option.{Option, none, some}
 use Rattle.std.proofs.Math.IntN.{sub_ℕ}
-use Rattle.lists.specs.Lists.{if◌then◌else◌, sum, count, keep}
+use Rattle.lists.specs.Lists.{when◌then◌else◌, sum, count, keep}
 use Rattle.auction.specs.Price.{zero_price, sum_cents, at_least0}
 use Rattle.machine.specs.Wire.{Call, HEAD, POOL, MEMBER, ROUND, BID, CLOSE, ALLOCATE, TEAR, CALL, PAY, MOVE, MISS, FINISH, SALE, WITHDRAW, decode}
 use Rattle.machine.specs.Roll.{Entry, Bid, Moved, with_state, is_open, price_of, passed_to, open_units}
@@ -35,7 +35,7 @@ in_cents n total = sub_ℕ total (zero_price * n)
 
 -- ALLOCATE, TEAR, SALE: n units of a pool at one price, and nothing in another pool
 unfoldable pub at_price : ℕ → ℕ → ℕ → ℕ → ℤ
-at_price pool n price p = if eqb pool p then in_cents n (n * price) else pos 0
+at_price pool n price p = when eqb pool p then in_cents n (n * price) else pos 0
 
 -- CLOSE: what the bids of this round in the pool won, at their prices
 unfoldable pub sold_for : ℕ → List Bid → ℕ → ℤ
@@ -46,11 +46,11 @@ sold_for round bids pool =
 -- MOVE: what the units of the pool that pass have saved, one by one as `move_units` moves them
 unfoldable pub saved_in : ℕ → ℕ → List Bid → ℕ → ℕ → List Entry → ℕ
 saved_in pool zero bids m owed roll = 0
-saved_in pool (suc k) bids m owed roll = elim (if eqb owed 0 then none else next_from bids 0 roll none) [
+saved_in pool (suc k) bids m owed roll = elim (when eqb owed 0 then none else next_from bids 0 roll none) [
   | none ↦ 0
   | some x ↦
       let saved = zero_price - price_of bids x.entry.state in
-      (if eqb x.entry.pool pool then saved else 0) + saved_in pool k bids m (owed - saved) (set roll x.place (with_state x.entry (Moved m)))
+      (when eqb x.entry.pool pool then saved else 0) + saved_in pool k bids m (owed - saved) (set roll x.place (with_state x.entry (Moved m)))
 ]
 
 -- MISS: the units of the pool that become torn, each at the new price instead of its old one
@@ -100,7 +100,7 @@ kept_step k bytes =
     let next = step k.state bytes in
     record {
       state = next.state;
-      gone = λ pool. if eqb next.answer 0 then k.gone pool +ℤ added_by (the_case k.state) (decode bytes) pool else k.gone pool;
+      gone = λ pool. when eqb next.answer 0 then k.gone pool +ℤ added_by (the_case k.state) (decode bytes) pool else k.gone pool;
     }
 
 unfoldable pub kept_from : Kept → List (List ℕ) → Kept

@@ -2,7 +2,7 @@
 -- The machine's own tests and stages (`Refusals.tests`, `Calls.accepted`) are not written by this table; `step-by-table` shows that they agree with it.
 use Rattle.std.specs.Prelude.{Bool, false, not, List, ◌≡◌, ℕ, leb, eqb, length}
 use Rattle.std.proofs.Math.Option.{Option, none, some}
-use Rattle.lists.specs.Lists.{if◌then◌else◌}
+use Rattle.lists.specs.Lists.{when◌then◌else◌}
 use Rattle.machine.specs.Wire.{Call, HEAD, POOL, MEMBER, ROUND, BID, CLOSE, ALLOCATE, TEAR, CALL, PAY, MOVE, MISS, FINISH, SALE, WITHDRAW, decode}
 use Rattle.machine.specs.Roll.{any_open}
 use Rattle.machine.specs.State.{Stage, Setup, Bidding, After, CallsOut, Finished, State, the_case}
@@ -23,7 +23,7 @@ pub data Letter : Type 0 where
 
 -- a letter of round 1, or that of round 2
 abbrev pub of_round : ℕ → Letter → Letter → Letter
-of_round round one two = if eqb round 1 then one else two
+of_round round one two = when eqb round 1 then one else two
 
 unfoldable pub letter_of_stage : Stage → Letter
 letter_of_stage Setup = S
@@ -122,16 +122,16 @@ declined (while_open before after) = 0
 unfoldable pub meant : State → Cell → Cell
 meant next x = x
 meant next (to letter) = to letter
-meant next (while_open before after) = to (if any_open (the_case next).roll then before else after)
+meant next (while_open before after) = to (when any_open (the_case next).roll then before else after)
 
 -- the number 1 or 2 that applies to what was decoded, and 0 where neither does
 unfoldable pub early_answer : State → Option Call → ℕ
 early_answer s none = 1
-early_answer s (some call) = if wrong_length s call then 1 else declined (stage_table call (letter_in s))
+early_answer s (some call) = when wrong_length s call then 1 else declined (stage_table call (letter_in s))
 
 -- an answer of 1 or 2, and 0 for any other
 abbrev pub first_two : ℕ → ℕ
-first_two n = if leb n 2 then n else 0
+first_two n = when leb n 2 then n else 0
 
 -- the law: a step is answered 1 or 2 exactly where the table says so, and an accepted call leaves the case in the table's stage
 pub record ByTable (s : State) (bytes : List ℕ) : Type 0 where

@@ -2,7 +2,7 @@
 -- signed two's complement."
 use Rattle.std.specs.Prelude.{Bool, ◌&&◌, List, [], ◌∷◌, ℕ, ◌+◌, ◌-◌, ◌*◌, ◌/◌, ◌%◌, ◌^◌, ltb, eqb, ℤ, pos, negsuc, length, get_or, take, drop}
 use Rattle.std.proofs.Math.Option.{Option, none, some}
-use Rattle.lists.specs.Lists.{if◌then◌else◌, between, tab}
+use Rattle.lists.specs.Lists.{when◌then◌else◌, between, tab}
 use Rattle.auction.specs.Price.{zero_price}
 
 -- the value of HEAD. `set` is "the members of a case .. a set of 32 bits: bit i is member i"
@@ -45,7 +45,7 @@ number at k v = big_endian 0 (take k (drop at v))
 
 -- what a number of 32 bits means in "signed two's complement"
 unfoldable pub signed : ℕ → ℤ
-signed n = if ltb n (2 ^ 31) then pos n else negsuc (2 ^ 32 - 1 - n)
+signed n = when ltb n (2 ^ 31) then pos n else negsuc (2 ^ 32 - 1 - n)
 
 -- the price in 4 bytes, held as cents + 1,000,000 (`Price`): a price that is in range means the cents that its bytes do (`price-in-cents`), and one that is
 -- out of range is above 2,000,000 (`price-in-range`)
@@ -55,14 +55,14 @@ price at v = (number at 4 v + zero_price) % 2 ^ 32
 -- the right length of a value, by its tag; "ROUND: 4 × pools; with no case 4, 8, 12 or 16" (that it is HEAD's number of pools is a test of ROUND)
 unfoldable pub right_length : ℕ → ℕ → Bool
 right_length tag n =
-    if eqb tag 4 then between 4 16 n && eqb (n % 4) 0
+    when eqb tag 4 then between 4 16 n && eqb (n % 4) 0
     else eqb n (get_or (27 ∷ 4 ∷ 13 ∷ 0 ∷ 8 ∷ 0 ∷ 5 ∷ 5 ∷ 0 ∷ 5 ∷ 1 ∷ 5 ∷ 0 ∷ 6 ∷ 3 ∷ []) (tag - 1) 0)
 
 -- the column "value (bytes)"; document 02, C-12: "SALE (tag 14: pool 1, member 1, price 4)"; C-14: "WITHDRAW (tag 15: member 1, bid
 -- number 2)"
 unfoldable pub call_of : ℕ → List ℕ → Call
 call_of tag v =
-    if eqb tag 1 then
+    when eqb tag 1 then
     HEAD (record {
       pools = number 0 1 v;
       least_bid = number 1 2 v;
@@ -73,19 +73,19 @@ call_of tag v =
       fund = number 19 4 v;
       house = number 23 4 v;
     })
-    else if eqb tag 2 then POOL (number 0 1 v) (number 1 2 v) (number 3 1 v)
-    else if eqb tag 3 then MEMBER (number 0 1 v) (number 1 4 v) (tab 4 (λ p. number (5 + 2 * p) 2 v))
-    else if eqb tag 4 then ROUND (tab (length v / 4) (λ p. price (4 * p) v))
-    else if eqb tag 5 then BID (number 0 1 v) (number 1 1 v) (number 2 2 v) (price 4 v)
-    else if eqb tag 6 then CLOSE
-    else if eqb tag 7 then ALLOCATE (number 0 1 v) (price 1 v)
-    else if eqb tag 8 then TEAR (number 0 1 v) (price 1 v)
-    else if eqb tag 9 then CALL
-    else if eqb tag 10 then PAY (number 0 1 v) (number 1 4 v)
-    else if eqb tag 11 then MOVE (number 0 1 v)
-    else if eqb tag 12 then MISS (number 0 1 v) (price 1 v)
-    else if eqb tag 13 then FINISH
-    else if eqb tag 14 then SALE (number 0 1 v) (number 1 1 v) (price 2 v)
+    else when eqb tag 2 then POOL (number 0 1 v) (number 1 2 v) (number 3 1 v)
+    else when eqb tag 3 then MEMBER (number 0 1 v) (number 1 4 v) (tab 4 (λ p. number (5 + 2 * p) 2 v))
+    else when eqb tag 4 then ROUND (tab (length v / 4) (λ p. price (4 * p) v))
+    else when eqb tag 5 then BID (number 0 1 v) (number 1 1 v) (number 2 2 v) (price 4 v)
+    else when eqb tag 6 then CLOSE
+    else when eqb tag 7 then ALLOCATE (number 0 1 v) (price 1 v)
+    else when eqb tag 8 then TEAR (number 0 1 v) (price 1 v)
+    else when eqb tag 9 then CALL
+    else when eqb tag 10 then PAY (number 0 1 v) (number 1 4 v)
+    else when eqb tag 11 then MOVE (number 0 1 v)
+    else when eqb tag 12 then MISS (number 0 1 v) (price 1 v)
+    else when eqb tag 13 then FINISH
+    else when eqb tag 14 then SALE (number 0 1 v) (number 1 1 v) (price 2 v)
     else WITHDRAW (number 0 1 v) (number 1 2 v)
 
 -- the call that the bytes are; none is "1. Unknown tag, bytes that aren't exactly one field, or a wrong length"
@@ -94,4 +94,4 @@ decode [] = none
 decode (tag ∷ []) = none
 decode (tag ∷ high ∷ []) = none
 decode (tag ∷ high ∷ low ∷ v) =
-    if between 1 15 tag && eqb (high * 256 + low) (length v) && right_length tag (length v) then some (call_of tag v) else none
+    when between 1 15 tag && eqb (high * 256 + low) (length v) && right_length tag (length v) then some (call_of tag v) else none

@@ -7,7 +7,7 @@ use native.Mathlib.Omega.{arith}
 use lib.Dec.{eqb}
 use lib.ListN.{get_or}
 use borrow.Author.Tests.{lt-ltb, le-ltb, le-leb, lt-leb, eq-eqb, ne_eqb}
-use Rattle.lists.specs.Lists.{if◌then◌else◌, tab, all, one_if}
+use Rattle.lists.specs.Lists.{when◌then◌else◌, tab, all, one_if}
 use Rattle.lists.proofs.Places.{get_or-tab}
 use Rattle.sets.specs.Set.{with_member}
 use Rattle.wire.specs.declared.Call.TheVariants.{Close, Allocate, Tear, Call as CallCall, Pay, Move, Miss, Finish, Unknown}
@@ -94,7 +94,7 @@ pub limit-in : (kind : ℕ) → limit_of kind ≡ get_or limits kind 0
 unfolding limit_of
 limit-in kind = refl
 
-pub named_by : (v : ℕ) → tag_named v ≡ (if eqb v 267300 then 1 else if eqb v 540140 then 2 else if eqb v 441878706 then 3 else if eqb v 19387844 then 4 else if eqb v 2340 then 5 else if eqb v 3554917 then 6 else if eqb v 47663122053 then 7 else if eqb v 660530 then 8 else if eqb v 99724 then 9 else if eqb v 16441 then 10 else if eqb v 442053 then 11 else if eqb v 435827 then 12 else if eqb v 211232360 then 13 else if eqb v 624005 then 14 else if eqb v 800617285687 then 15 else 0)
+pub named_by : (v : ℕ) → tag_named v ≡ (when eqb v 267300 then 1 else when eqb v 540140 then 2 else when eqb v 441878706 then 3 else when eqb v 19387844 then 4 else when eqb v 2340 then 5 else when eqb v 3554917 then 6 else when eqb v 47663122053 then 7 else when eqb v 660530 then 8 else when eqb v 99724 then 9 else when eqb v 16441 then 10 else when eqb v 442053 then 11 else when eqb v 435827 then 12 else when eqb v 211232360 then 13 else when eqb v 624005 then 14 else when eqb v 800617285687 then 15 else 0)
 unfolding computing
 named_by v = refl
 

@@ -3,7 +3,7 @@
 -- which it can't be a call.
 use Rattle.std.specs.Prelude.{Bool, true, false, ◌&&◌, ◌||◌, not, List, [], ◌∷◌, ℕ, suc, ◌+◌, ◌-◌, ◌*◌, ◌%◌, ◌^◌, min, eqb, leb, ltb, length, get_or}
 use Rattle.std.proofs.Math.Option.{Option, none}
-use Rattle.lists.specs.Lists.{if◌then◌else◌, between, one_if, tab}
+use Rattle.lists.specs.Lists.{when◌then◌else◌, between, one_if, tab}
 use Rattle.lists.specs.Tests.{first_of}
 use Rattle.auction.specs.Price.{zero_price}
 use Rattle.sets.specs.Set.{with_member}
@@ -20,11 +20,11 @@ use Rattle.notation.specs.Scans.{begin, with_phase, in_word, named, longer, nega
 
 -- a letter by its place in the alphabet, from 1 on; 0 is no letter
 unfoldable pub letter_of : ℕ → ℕ
-letter_of b = if between 65 90 b then b - 64 else if between 97 122 b then b - 96 else 0
+letter_of b = when between 65 90 b then b - 64 else when between 97 122 b then b - 96 else 0
 
 -- a word or a number, with a letter or a digit more; what is longer than any word or number of the notation is 2^60
 unfoldable pub grown : (base value digit : ℕ) → ℕ
-grown base v d = if ltb v (2 ^ 55) then v * base + d else 2 ^ 60
+grown base v d = when ltb v (2 ^ 55) then v * base + d else 2 ^ 60
 
 -- a word as a number
 unfoldable pub code_from : ℕ → List ℕ → ℕ
@@ -49,8 +49,8 @@ limit_of kind = get_or (0 ∷ 2 ^ 8 ∷ 2 ^ 16 ∷ 32 ∷ 2 ^ 32 ∷ 2 ^ 31 ∷ 
 -- the number that is held of a value that is read: of members the set with one more, of a price the number that `Price` says
 unfoldable pub number_of : (kind : ℕ) (minus : Bool) (set value : ℕ) → ℕ
 number_of kind minus set value =
-    if eqb kind 3 then with_member set (value % 2 ^ 8)
-    else if eqb kind 5 then (if minus then 2 ^ 32 + zero_price - value else value + zero_price) % 2 ^ 32
+    when eqb kind 3 then with_member set (value % 2 ^ 8)
+    else when eqb kind 5 then (when minus then 2 ^ 32 + zero_price - value else value + zero_price) % 2 ^ 32
     else value % 2 ^ 32
 
 -- ---- what is not expected
@@ -59,11 +59,11 @@ number_of kind minus set value =
 -- 7: "a comma stands directly behind a number of a list"; 2: "not the key that is expected"
 unfoldable pub strangeness : Scan → ℕ
 strangeness s =
-    if ltb s.phase 2 then 1
-    else if eqb s.phase 3 then 8
-    else if leb 4 s.phase then 3
-    else if eqb (kind_of s.tag s.item) 0 then 5
-    else if eqb (key_code s.tag s.item) 0 then 7
+    when ltb s.phase 2 then 1
+    else when eqb s.phase 3 then 8
+    else when leb 4 s.phase then 3
+    else when eqb (kind_of s.tag s.item) 0 then 5
+    else when eqb (key_code s.tag s.item) 0 then 7
     else 2
 
 abbrev pub strange : Scan → (place : ℕ) → Scan
@@ -72,80 +72,80 @@ strange s at = refused s at (strangeness s)
 -- ---- the end of a word or of a number
 
 unfoldable pub settle_name : Scan → Scan
-settle_name s = if eqb (tag_named s.value) 0 then refused s s.start 1 else named s (tag_named s.value)
+settle_name s = when eqb (tag_named s.value) 0 then refused s s.start 1 else named s (tag_named s.value)
 
 unfoldable pub settle_key : Scan → Scan
-settle_key s = if eqb s.value (key_code s.tag s.item) then with_phase s 4 else refused s s.start 2
+settle_key s = when eqb s.value (key_code s.tag s.item) then with_phase s 4 else refused s s.start 2
 
 -- money has two digits behind its point; reason 4: "the number is too large"
 unfoldable pub settle_number : Scan → Scan
 settle_number s =
-    if leb 4 (kind_of s.tag s.item) && not (eqb s.point 3) then refused s s.start 3
-    else if ltb s.value (limit_of (kind_of s.tag s.item) + one_if s.minus)
+    when leb 4 (kind_of s.tag s.item) && not (eqb s.point 3) then refused s s.start 3
+    else when ltb s.value (limit_of (kind_of s.tag s.item) + one_if s.minus)
     then stored s (number_of (kind_of s.tag s.item) s.minus s.set s.value)
     else refused s s.start 4
 
 -- a dash alone is the empty set
 unfoldable pub settle_dash : Scan → Scan
-settle_dash s = if eqb (kind_of s.tag s.item) 3 then stored s 0 else refused s s.start 3
+settle_dash s = when eqb (kind_of s.tag s.item) 3 then stored s 0 else refused s s.start 3
 
 unfoldable pub settle : Scan → Scan
 settle s =
-    if eqb s.phase 1 then settle_name s
-    else if eqb s.phase 3 then settle_key s
-    else if eqb s.phase 5 then settle_number s
-    else if eqb s.phase 6 then settle_dash s
+    when eqb s.phase 1 then settle_name s
+    else when eqb s.phase 3 then settle_key s
+    else when eqb s.phase 5 then settle_number s
+    else when eqb s.phase 6 then settle_dash s
     else s
 
 -- ---- a byte, at a place of the line
 
 unfoldable pub on_letter : Scan → (letter place : ℕ) → Scan
 on_letter s l at =
-    if eqb s.phase 0 then in_word s 1 at l
-    else if eqb s.phase 1 || eqb s.phase 3 then longer s (grown 32 s.value l) s.point
-    else if eqb s.phase 2 then (if eqb (key_code s.tag s.item) 0 then strange s at else in_word s 3 at l)
+    when eqb s.phase 0 then in_word s 1 at l
+    else when eqb s.phase 1 || eqb s.phase 3 then longer s (grown 32 s.value l) s.point
+    else when eqb s.phase 2 then (when eqb (key_code s.tag s.item) 0 then strange s at else in_word s 3 at l)
     else strange s at
 
 -- the digits behind the point, 1 more than there are; 0 where there is no point
 unfoldable pub next_point : ℕ → ℕ
-next_point p = if eqb p 0 then 0 else min (p + 1) 3
+next_point p = when eqb p 0 then 0 else min (p + 1) 3
 
 unfoldable pub more_digits : Scan → (digit place : ℕ) → Scan
-more_digits s d at = if eqb s.point 3 then refused s at 3 else longer s (grown 10 s.value d) (next_point s.point)
+more_digits s d at = when eqb s.point 3 then refused s at 3 else longer s (grown 10 s.value d) (next_point s.point)
 
 unfoldable pub on_digit : Scan → (digit place : ℕ) → Scan
 on_digit s d at =
-    if eqb s.phase 4 then in_word s 5 at d
-    else if eqb s.phase 5 then more_digits s d at
-    else if eqb s.phase 6 && eqb (kind_of s.tag s.item) 5 then in_word s 5 s.start d
+    when eqb s.phase 4 then in_word s 5 at d
+    else when eqb s.phase 5 then more_digits s d at
+    else when eqb s.phase 6 && eqb (kind_of s.tag s.item) 5 then in_word s 5 s.start d
     else strange s at
 
 unfoldable pub on_minus : Scan → (place : ℕ) → Scan
 on_minus s at =
     let kind = kind_of s.tag s.item in
-    if eqb s.phase 4 && (eqb kind 5 || (eqb kind 3 && eqb s.set 0)) then negative s at else strange s at
+    when eqb s.phase 4 && (eqb kind 5 || (eqb kind 3 && eqb s.set 0)) then negative s at else strange s at
 
 unfoldable pub on_point : Scan → (place : ℕ) → Scan
 on_point s at =
-    if eqb s.phase 5 && (eqb s.point 0 && leb 4 (kind_of s.tag s.item)) then longer s s.value 1 else strange s at
+    when eqb s.phase 5 && (eqb s.point 0 && leb 4 (kind_of s.tag s.item)) then longer s s.value 1 else strange s at
 
 -- a comma behind a member of a set
 unfoldable pub on_member : Scan → Scan
-on_member s = if ltb s.value 32 then gathered s (with_member s.set (s.value % 2 ^ 8)) else refused s s.start 4
+on_member s = when ltb s.value 32 then gathered s (with_member s.set (s.value % 2 ^ 8)) else refused s s.start 4
 
 -- a comma behind a number, where the next has no key
 unfoldable pub on_list : Scan → (place : ℕ) → Scan
 on_list t at =
-    if eqb t.phase 8 then t
-    else if eqb t.phase 2 && (eqb (key_code t.tag t.item) 0 && not (eqb (kind_of t.tag t.item) 0)) then with_phase t 4
+    when eqb t.phase 8 then t
+    else when eqb t.phase 2 && (eqb (key_code t.tag t.item) 0 && not (eqb (kind_of t.tag t.item) 0)) then with_phase t 4
     else strange t at
 
 -- no space stands before a comma
 unfoldable pub on_comma : Scan → (place : ℕ) → Scan
 on_comma s at =
-    if eqb s.phase 2 then refused s at 7
-    else if not (eqb s.phase 5) then strange s at
-    else if eqb (kind_of s.tag s.item) 3 then on_member s
+    when eqb s.phase 2 then refused s at 7
+    else when not (eqb s.phase 5) then strange s at
+    else when eqb (kind_of s.tag s.item) 3 then on_member s
     else on_list (settle s) at
 
 -- whether a call has all its numbers; ROUND has one to four
@@ -155,41 +155,41 @@ complete t = eqb (kind_of t.tag t.item) 0 || (eqb t.tag 4 && ltb 0 t.item)
 -- the line's end. Reason 6: "the line ends before the call does"; 9: "the line ends before a number"
 unfoldable pub ended : Scan → (place : ℕ) → Scan
 ended t at =
-    if eqb t.phase 8 then t
-    else if eqb t.phase 0 || (eqb t.phase 2 && complete t) then with_phase t 7
-    else refused t at (if eqb t.phase 4 then 9 else 6)
+    when eqb t.phase 8 then t
+    else when eqb t.phase 0 || (eqb t.phase 2 && complete t) then with_phase t 7
+    else refused t at (when eqb t.phase 4 then 9 else 6)
 
 -- a carriage return, behind a line that has ended
 unfoldable pub returned : Scan → (place : ℕ) → Scan
-returned t at = if eqb t.phase 8 then t else in_word t 9 at t.value
+returned t at = when eqb t.phase 8 then t else in_word t 9 at t.value
 
 -- a byte behind the line's end. Reason 10: "a carriage return stands only at the line's end", also in a comment
 unfoldable pub behind : Scan → (byte place : ℕ) → Scan
 behind s b at =
-    if eqb s.phase 7 && eqb b 13 then returned s at
-    else if leb 9 s.phase && not (eqb b 10) then refused s s.start 10
+    when eqb s.phase 7 && eqb b 13 then returned s at
+    else when leb 9 s.phase && not (eqb b 10) then refused s s.start 10
     else s
 
 -- a sign, a digit or a letter
 unfoldable pub mark_read : Scan → (byte place : ℕ) → Scan
 mark_read s b at =
-    if eqb b 44 then on_comma s at
-    else if eqb b 46 then on_point s at
-    else if eqb b 45 then on_minus s at
-    else if between 48 57 b then on_digit s (b - 48) at
-    else if eqb (letter_of b) 0 then strange s at
+    when eqb b 44 then on_comma s at
+    else when eqb b 46 then on_point s at
+    else when eqb b 45 then on_minus s at
+    else when between 48 57 b then on_digit s (b - 48) at
+    else when eqb (letter_of b) 0 then strange s at
     else on_letter s (letter_of b) at
 
 -- a space or a tab; a comment or the line's end; a carriage return; another byte
 unfoldable pub byte_read : Scan → (byte place : ℕ) → Scan
 byte_read s b at =
-    if eqb b 32 || eqb b 9 then settle s
-    else if eqb b 35 || eqb b 10 then ended (settle s) at
-    else if eqb b 13 then returned (ended (settle s) at) at
+    when eqb b 32 || eqb b 9 then settle s
+    else when eqb b 35 || eqb b 10 then ended (settle s) at
+    else when eqb b 13 then returned (ended (settle s) at) at
     else mark_read s b at
 
 unfoldable pub step : Scan → (byte place : ℕ) → Scan
-step s b at = if leb 7 s.phase then behind s b at else byte_read s b at
+step s b at = when leb 7 s.phase then behind s b at else byte_read s b at
 
 unfoldable pub scan : Scan → ℕ → List ℕ → Scan
 scan s at [] = s
@@ -200,7 +200,7 @@ scan s at (b ∷ line) = scan (step s b at) (suc at) line
 -- the call by its tag and the numbers that were read, each in its width
 unfoldable pub call_of : (tag count : ℕ) → List ℕ → Call
 call_of tag count ns =
-    if eqb tag 1 then
+    when eqb tag 1 then
     HeadCall (record {
       pools = get_or ns 0 0 % 2 ^ 8;
       least = get_or ns 1 0 % 2 ^ 16;
@@ -211,27 +211,27 @@ call_of tag count ns =
       fund = get_or ns 6 0;
       house = get_or ns 7 0;
     })
-    else if eqb tag 2 then Pool (get_or ns 0 0 % 2 ^ 8) (get_or ns 1 0 % 2 ^ 16) (get_or ns 2 0 % 2 ^ 8)
-    else if eqb tag 3 then
+    else when eqb tag 2 then Pool (get_or ns 0 0 % 2 ^ 8) (get_or ns 1 0 % 2 ^ 16) (get_or ns 2 0 % 2 ^ 8)
+    else when eqb tag 3 then
     Member (get_or ns 0 0 % 2 ^ 8) (get_or ns 1 0) (get_or ns 2 0 % 2 ^ 16) (get_or ns 3 0 % 2 ^ 16) (get_or ns 4 0 % 2 ^ 16) (get_or ns 5 0 % 2 ^ 16)
-    else if eqb tag 4 then Round (count % 2 ^ 8) (get_or ns 0 0) (get_or ns 1 0) (get_or ns 2 0) (get_or ns 3 0)
-    else if eqb tag 5 then Bid (get_or ns 0 0 % 2 ^ 8) (get_or ns 1 0 % 2 ^ 8) (get_or ns 2 0 % 2 ^ 16) (get_or ns 3 0)
-    else if eqb tag 6 then Close
-    else if eqb tag 7 then Allocate (get_or ns 0 0 % 2 ^ 8) (get_or ns 1 0)
-    else if eqb tag 8 then Tear (get_or ns 0 0 % 2 ^ 8) (get_or ns 1 0)
-    else if eqb tag 9 then CallCall
-    else if eqb tag 10 then Pay (get_or ns 0 0 % 2 ^ 8) (get_or ns 1 0)
-    else if eqb tag 11 then Move (get_or ns 0 0 % 2 ^ 8)
-    else if eqb tag 12 then Miss (get_or ns 0 0 % 2 ^ 8) (get_or ns 1 0)
-    else if eqb tag 13 then Finish
-    else if eqb tag 14 then Sale (get_or ns 0 0 % 2 ^ 8) (get_or ns 1 0 % 2 ^ 8) (get_or ns 2 0)
-    else if eqb tag 15 then Withdraw (get_or ns 0 0 % 2 ^ 8) (get_or ns 1 0 % 2 ^ 16)
+    else when eqb tag 4 then Round (count % 2 ^ 8) (get_or ns 0 0) (get_or ns 1 0) (get_or ns 2 0) (get_or ns 3 0)
+    else when eqb tag 5 then Bid (get_or ns 0 0 % 2 ^ 8) (get_or ns 1 0 % 2 ^ 8) (get_or ns 2 0 % 2 ^ 16) (get_or ns 3 0)
+    else when eqb tag 6 then Close
+    else when eqb tag 7 then Allocate (get_or ns 0 0 % 2 ^ 8) (get_or ns 1 0)
+    else when eqb tag 8 then Tear (get_or ns 0 0 % 2 ^ 8) (get_or ns 1 0)
+    else when eqb tag 9 then CallCall
+    else when eqb tag 10 then Pay (get_or ns 0 0 % 2 ^ 8) (get_or ns 1 0)
+    else when eqb tag 11 then Move (get_or ns 0 0 % 2 ^ 8)
+    else when eqb tag 12 then Miss (get_or ns 0 0 % 2 ^ 8) (get_or ns 1 0)
+    else when eqb tag 13 then Finish
+    else when eqb tag 14 then Sale (get_or ns 0 0 % 2 ^ 8) (get_or ns 1 0 % 2 ^ 8) (get_or ns 2 0)
+    else when eqb tag 15 then Withdraw (get_or ns 0 0 % 2 ^ 8) (get_or ns 1 0 % 2 ^ 16)
     else Unknown
 
 unfoldable pub outcome : Scan → Read
 outcome s =
-    if eqb s.phase 8 then Refused s.start s.reason s.tag s.item
-    else if eqb s.tag 0 then Nothing
+    when eqb s.phase 8 then Refused s.start s.reason s.tag s.item
+    else when eqb s.tag 0 then Nothing
     else Called (call_of s.tag s.item s.numbers)
 
 -- a line, with or without its end

@@ -1,7 +1,7 @@
 -- What is claimed of every run of days holds. Assumes nothing.
 use Rattle.std.proofs.Common.{◌≡◌, ℕ, zero, suc, ◌+◌, ◌<◌, ◌≤◌, Bool, true, false, List, ◌++◌, length, get_or, take, replicate, refl, ap, ◌∙◌, ⊎_elim, append-nil, arith, drop_of_length-le, le-ltb, lt-ltb}
 use lib.Seq.{sets-eq}
-use Rattle.lists.specs.Lists.{if◌then◌else◌, sum, count_to, all, joined}
+use Rattle.lists.specs.Lists.{when◌then◌else◌, sum, count_to, all, joined}
 use Rattle.lists.proofs.Bools.{cases, lt-or-le}
 use Rattle.lists.proofs.Counts.{each_all}
 use Rattle.lists.proofs.Each.{each_both, each_take}
@@ -81,8 +81,8 @@ no_less set units sums j i h =
     place : ℕ → ℕ
     place m = count_to m (member set)
 
-    go : (a b : Bool) → (if b then get_or sums (place i) 0 else 0) < (if a then get_or sums (place j) 0 else 0)
-        → (if b then get_or shares (place i) 0 else 0) ≤ (if a then get_or shares (place j) 0 else 0)
+    go : (a b : Bool) → (when b then get_or sums (place i) 0 else 0) < (when a then get_or sums (place j) 0 else 0)
+        → (when b then get_or shares (place i) 0 else 0) ≤ (when a then get_or shares (place j) 0 else 0)
     go true true h = split-order units sums (place j) (place i) h
     go false b h = absurd (omega arith)
     go true false h = omega arith

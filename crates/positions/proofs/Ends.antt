@@ -3,7 +3,7 @@ use Rattle.std.proofs.Common.{◌≡◌, ℕ, zero, suc, ◌+◌, ◌-◌, ◌�
 use lib.ListN.{length-replicate}
 use lib.Seq.{sets}
 use borrow.Author.Tests.{eqb-false}
-use Rattle.lists.specs.Lists.{if◌then◌else◌, one_if, sum, sum_to, count_to}
+use Rattle.lists.specs.Lists.{when◌then◌else◌, one_if, sum, sum_to, count_to}
 use Rattle.lists.specs.Tests.{first_of}
 use Rattle.lists.proofs.Places.{take-zeros, drop-zeros, get_or-zeros, tab-ext, sum-tab}
 use Rattle.lists.proofs.Sums.{sum_to-next, sum-places}
@@ -34,7 +34,7 @@ module _ (units n r : ℕ) (ws out : List ℕ) (h : n ≤ 32) (e : ◌≡◌ {A 
 
 -- what stands at place m
 abbrev pub placed : ℕ → List ℕ → ℕ → ℕ
-placed set xs m = if member set m then get_or xs (count_to m (member set)) 0 else 0
+placed set xs m = when member set m then get_or xs (count_to m (member set)) 0 else 0
 
 -- the place of the next member, and the number at a place, as the loop has them
 pub place-next : (set m j : ℕ) (is : Bool) (one : ℕ) → is ≡ member set m → one ≡ one_if is → j ≡ count_to m (member set) → j + one ≡ count_to (m + 1) (member set)
@@ -48,26 +48,26 @@ pub by_member-zeros : (set k : ℕ) (xs : List ℕ) → by_member set (xs ++ rep
 unfolding by_member of_members
 by_member-zeros set k xs =
     tab-ext 32 (placed set (xs ++ replicate k 0)) (placed set xs)
-    (λ m l. ap (λ (v : ℕ). if member set m then v else 0) (get_or-zeros xs k (count_to m (member set))))
+    (λ m l. ap (λ (v : ℕ). when member set m then v else 0) (get_or-zeros xs k (count_to m (member set))))
 
 -- ---- the end
 
-itself : (v : ℕ) → (if not (eqb v 0) then v else 0) ≡ v
+itself : (v : ℕ) → (when not (eqb v 0) then v else 0) ≡ v
 itself v = go (eqb v 0) refl
   where
-    go : (b : Bool) → eqb v 0 ≡ b → (if not b then v else 0) ≡ v
+    go : (b : Bool) → eqb v 0 ≡ b → (when not b then v else 0) ≡ v
     go true e = sym (eqb-true v 0 e)
     go false e = refl
 
 -- a number that declines nothing lets the next one decide
-pub settle : (v w : ℕ) → (if not (eqb v 0) then v else w) ≡ 0 → w ≡ 0
+pub settle : (v w : ℕ) → (when not (eqb v 0) then v else w) ≡ 0 → w ≡ 0
 settle v w = go (eqb v 0) refl
   where
-    go : (b : Bool) → eqb v 0 ≡ b → (if not b then v else w) ≡ 0 → w ≡ 0
+    go : (b : Bool) → eqb v 0 ≡ b → (when not b then v else w) ≡ 0 → w ≡ 0
     go true e h = h
     go false e h = absurd (eqb-false v 0 e h)
 
-settle-1 : (b : Bool) (w : ℕ) → (if b then 1 else w) ≡ 0 → w ≡ 0
+settle-1 : (b : Bool) (w : ℕ) → (when b then 1 else w) ≡ 0 → w ≡ 0
 settle-1 true w h = absurd (omega arith)
 settle-1 false w h = h
 
@@ -105,7 +105,7 @@ placed-sum set zero xs = refl
 placed-sum set (suc m) xs = turn (member set m) (placed-sum set m xs)
   where
     turn : (b : Bool) → sum_to m (placed set xs) ≡ sum_to (count_to m (member set)) (λ k. get_or xs k 0)
-        → sum_to m (placed set xs) + (if b then get_or xs (count_to m (member set)) 0 else 0) ≡ sum_to (count_to m (member set) + one_if b) (λ k. get_or xs k 0)
+        → sum_to m (placed set xs) + (when b then get_or xs (count_to m (member set)) 0 else 0) ≡ sum_to (count_to m (member set) + one_if b) (λ k. get_or xs k 0)
     turn true h = ap (λ (t : ℕ). t + get_or xs (count_to m (member set)) 0) h ∙ sym (sum_to-next (count_to m (member set)) (λ k. get_or xs k 0))
     turn false h =
         let none : sum_to m (placed set xs) + 0 ≡ sum_to m (placed set xs) = omega arith in

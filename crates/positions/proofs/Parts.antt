@@ -4,7 +4,7 @@ use mathlib.Core.List.{foldl}
 use native.Mathlib.Nat.{zero-div, mul-add-div}
 use lib.Seq.{take-append-le, drop-append-le}
 use borrow.Author.Tests.{eqb-false}
-use Rattle.lists.specs.Lists.{if◌then◌else◌, tab, joined}
+use Rattle.lists.specs.Lists.{when◌then◌else◌, tab, joined}
 use Rattle.lists.proofs.Bools.{cases, lt-or-le}
 use Rattle.lists.proofs.Places.{tab-ext, tab-append}
 use Rattle.sets.specs.Set.{members}
@@ -270,7 +270,7 @@ pub part-some-member : (n : ℕ) (x : Kept) (xs : List ℕ) → (part_of n x xs)
 unfolding part_of
 part-some-member n x xs = go (eqb n 0) refl
   where
-    go : (b : Bool) → eqb n 0 ≡ b → (if b then record { kept = x; used = 0; answer = 5 } else taken n x 0 (days_of n xs)).answer ≡ 0 → 1 ≤ n
+    go : (b : Bool) → eqb n 0 ≡ b → (when b then record { kept = x; used = 0; answer = 5 } else taken n x 0 (days_of n xs)).answer ≡ 0 → 1 ≤ n
     go true e h = absurd (omega arith)
     go false e h = ⊎_elim (λ l. absurd (eqb-false n 0 e (omega arith))) (λ g. g) (lt-or-le n 1)
 

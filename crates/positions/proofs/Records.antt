@@ -2,7 +2,7 @@
 use Rattle.std.proofs.Common.{◌≡◌, ℕ, suc, ◌+◌, ◌*◌, ◌/◌, ◌<◌, ◌≤◌, Bool, true, false, ◌&&◌, List, [], ◌∷◌, ◌++◌, length, drop, sym, refl, ap, ◌∙◌, mul-zero, mul-one, mul-add, add-one, arith, drop_of_length-le, drop-cons}
 use mathlib.Core.Bool.{false≢true}
 use mathlib.Core.List.{foldl}
-use Rattle.lists.specs.Lists.{if◌then◌else◌, all}
+use Rattle.lists.specs.Lists.{when◌then◌else◌, all}
 use Rattle.lists.proofs.Bools.{cases, and_left, and_right}
 use Rattle.positions.specs.Days.{Day, size, day_at, days_of, in_range}
 use Rattle.positions.specs.Keeping.{Kept, Taken, day_kept, taken}
@@ -51,7 +51,7 @@ module _ (n : ℕ) where
   taken-bad x used (day ∷ days) e = go (in_range day) (taken-bad (day_kept n x day) (used + size n) days) e
     where
       go : (b : Bool) → (all in_range days ≡ false → (taken n (day_kept n x day) (used + size n) days).answer ≡ 5) → (b && all in_range days) ≡ false
-          → (if b then taken n (day_kept n x day) (used + size n) days else record { kept = x; used = used; answer = 5 }).answer ≡ 5
+          → (when b then taken n (day_kept n x day) (used + size n) days else record { kept = x; used = used; answer = 5 }).answer ≡ 5
       go true rest e = rest e
       go false rest e = refl
 
@@ -71,12 +71,12 @@ module _ (n : ℕ) where
   taken_then x used (day ∷ xs) ys e = go (in_range day) (taken_then (day_kept n x day) (used + size n) xs ys) e
     where
       one : Bool → Taken
-      one t = if t then taken n (day_kept n x day) (used + size n) xs else record { kept = x; used = used; answer = 5 }
+      one t = when t then taken n (day_kept n x day) (used + size n) xs else record { kept = x; used = used; answer = 5 }
 
       go : (t : Bool) → ((taken n (day_kept n x day) (used + size n) xs).answer ≡ 0 → taken n (day_kept n x day) (used + size n) (xs ++ ys)
           ≡ taken n (taken n (day_kept n x day) (used + size n) xs).kept (taken n (day_kept n x day) (used + size n) xs).used ys)
           → (one t).answer ≡ 0
-          → (if t then taken n (day_kept n x day) (used + size n) (xs ++ ys) else record { kept = x; used = used; answer = 5 }) ≡ taken n (one t).kept (one t).used ys
+          → (when t then taken n (day_kept n x day) (used + size n) (xs ++ ys) else record { kept = x; used = used; answer = 5 }) ≡ taken n (one t).kept (one t).used ys
       go true h e = h e
       go false h e = absurd (omega arith)
 
@@ -86,7 +86,7 @@ module _ (n : ℕ) where
   taken-stops x used (day ∷ xs) ys e = go (in_range day) (taken-stops (day_kept n x day) (used + size n) xs ys) e
     where
       one : Bool → List Day → Taken
-      one t l = if t then taken n (day_kept n x day) (used + size n) l else record { kept = x; used = used; answer = 5 }
+      one t l = when t then taken n (day_kept n x day) (used + size n) l else record { kept = x; used = used; answer = 5 }
 
       go : (t : Bool) → (((taken n (day_kept n x day) (used + size n) xs).answer ≡ 0 → ⊥) → taken n (day_kept n x day) (used + size n) (xs ++ ys) ≡ taken n (day_kept n x day) (used + size n) xs)
           → ((one t xs).answer ≡ 0 → ⊥) → one t (xs ++ ys) ≡ one t xs
@@ -105,7 +105,7 @@ module _ (n : ℕ) where
       behind t = record { kept = t.kept; used = a + t.used; answer = t.answer }
 
       go : (t : Bool) → taken n (day_kept n x day) (a + b + size n) days ≡ behind (taken n (day_kept n x day) (b + size n) days)
-          → (if t then taken n (day_kept n x day) (a + b + size n) days else record { kept = x; used = a + b; answer = 5 })
-          ≡ behind (if t then taken n (day_kept n x day) (b + size n) days else record { kept = x; used = b; answer = 5 })
+          → (when t then taken n (day_kept n x day) (a + b + size n) days else record { kept = x; used = a + b; answer = 5 })
+          ≡ behind (when t then taken n (day_kept n x day) (b + size n) days else record { kept = x; used = b; answer = 5 })
       go true h = h
       go false h = refl

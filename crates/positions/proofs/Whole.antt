@@ -3,7 +3,7 @@ use Rattle.std.proofs.Common.{◌≡◌, ℕ, ◌+◌, ◌-◌, ◌*◌, ◌/◌
 use mathlib.Core.List.{foldl}
 use native.Mathlib.Nat.{lt-mul-div-succ, div-eq_of_lt, mul-add-div}
 use borrow.Author.Tests.{eqb-false}
-use Rattle.lists.specs.Lists.{if◌then◌else◌, tab, between, all, Each}
+use Rattle.lists.specs.Lists.{when◌then◌else◌, tab, between, all, Each}
 use Rattle.lists.specs.Tests.{first_of}
 use Rattle.lists.proofs.Bools.{cases, lt-or-le, and_right}
 use Rattle.lists.proofs.Counts.{each_all}
@@ -31,8 +31,8 @@ unfolding firsts first_of
 firsts-on [] ys h = refl
 firsts-on (x ∷ xs) ys h = go (eqb x 0) refl (firsts-on xs ys) h
   where
-    go : (b : Bool) → eqb x 0 ≡ b → (firsts xs ≡ 0 → firsts (xs ++ ys) ≡ firsts ys) → (if not b then x else firsts xs) ≡ 0
-        → (if not b then x else firsts (xs ++ ys)) ≡ firsts ys
+    go : (b : Bool) → eqb x 0 ≡ b → (firsts xs ≡ 0 → firsts (xs ++ ys) ≡ firsts ys) → (when not b then x else firsts xs) ≡ 0
+        → (when not b then x else firsts (xs ++ ys)) ≡ firsts ys
     go true e next h = next h
     go false e next h = absurd (eqb-false x 0 e h)
 
@@ -41,23 +41,23 @@ unfolding firsts first_of
 firsts-stop [] ys h = absurd (h refl)
 firsts-stop (x ∷ xs) ys h = go (eqb x 0) (firsts-stop xs ys) h
   where
-    go : (b : Bool) → ((firsts xs ≡ 0 → ⊥) → firsts (xs ++ ys) ≡ firsts xs) → ((if not b then x else firsts xs) ≡ 0 → ⊥)
-        → (if not b then x else firsts (xs ++ ys)) ≡ (if not b then x else firsts xs)
+    go : (b : Bool) → ((firsts xs ≡ 0 → ⊥) → firsts (xs ++ ys) ≡ firsts xs) → ((when not b then x else firsts xs) ≡ 0 → ⊥)
+        → (when not b then x else firsts (xs ++ ys)) ≡ (when not b then x else firsts xs)
     go true next h = next h
     go false next h = refl
 
 -- ---- the records
 
 abbrev why_day : Day → ℕ
-why_day day = if in_range day then 0 else 5
+why_day day = when in_range day then 0 else 5
 
-days-why : (days : List Day) → firsts (map why_day days) ≡ (if all in_range days then 0 else 5)
+days-why : (days : List Day) → firsts (map why_day days) ≡ (when all in_range days then 0 else 5)
 unfolding firsts first_of all
 days-why [] = refl
 days-why (day ∷ days) = go (in_range day) (days-why days)
   where
-    go : (b : Bool) → firsts (map why_day days) ≡ (if all in_range days then 0 else 5)
-        → (if not (eqb (if b then 0 else 5) 0) then (if b then 0 else 5) else firsts (map why_day days)) ≡ (if b && all in_range days then 0 else 5)
+    go : (b : Bool) → firsts (map why_day days) ≡ (when all in_range days then 0 else 5)
+        → (when not (eqb (when b then 0 else 5) 0) then (when b then 0 else 5) else firsts (map why_day days)) ≡ (when b && all in_range days then 0 else 5)
     go true h = h
     go false h = refl
 
@@ -76,7 +76,7 @@ module _ (n : ℕ) (some : 1 ≤ n) (bytes : List ℕ) where
   unfolding why_record first_of
   whole-why d l = rw (le-ltb (length bytes) (size n * d + size n) (record-fits n bytes d some l)) (turn (in_range (day_at n bytes (size n * d))))
     where
-      turn : (b : Bool) → ◌≡◌ {A = ℕ} (if not b then 5 else 0) (if b then 0 else 5)
+      turn : (b : Bool) → ◌≡◌ {A = ℕ} (when not b then 5 else 0) (when b then 0 else 5)
       turn true = refl
       turn false = refl
 
@@ -159,7 +159,7 @@ pub ready-some : (n units : ℕ) → why_before n units ≡ 0 → 1 ≤ n
 unfolding why_before first_of
 ready-some n units = go (eqb n 0) refl
   where
-    go : (b : Bool) → eqb n 0 ≡ b → ◌≡◌ {A = ℕ} (if b then 5 else (if not (between 1 1_000 units) then 5 else 0)) 0 → 1 ≤ n
+    go : (b : Bool) → eqb n 0 ≡ b → ◌≡◌ {A = ℕ} (when b then 5 else (when not (between 1 1_000 units) then 5 else 0)) 0 → 1 ≤ n
     go true e h = absurd (omega arith)
     go false e h = ⊎_elim (λ z. absurd (eqb-false n 0 e (omega arith))) (λ g. omega arith) (lt-or-le n 1)
 
@@ -167,7 +167,7 @@ ready-units : (n units : ℕ) → why_before n units ≡ 0 → units ≤ 1_000
 unfolding why_before first_of
 ready-units n units = go (eqb n 0) (between 1 1_000 units) (λ t. leb-true units 1_000 (and_right (leb 1 units) (leb units 1_000) t))
   where
-    go : (a b : Bool) → (b ≡ true → units ≤ 1_000) → ◌≡◌ {A = ℕ} (if a then 5 else (if not b then 5 else 0)) 0 → units ≤ 1_000
+    go : (a b : Bool) → (b ≡ true → units ≤ 1_000) → ◌≡◌ {A = ℕ} (when a then 5 else (when not b then 5 else 0)) 0 → units ≤ 1_000
     go true b h e = absurd (omega arith)
     go false true h e = h refl
     go false false h e = absurd (omega arith)

@@ -2,7 +2,7 @@
 use Rattle.std.specs.Prelude.{◌≡◌, ℕ, ◌<◌, ◌≤◌, true, List, [], length, take, nat_lt, slice_index}
 use mathlib.Core.List.{foldl}
 use Rattle.std.proofs.lemmas.List.Edits.{sets}
-use Rattle.lists.specs.Lists.{if◌then◌else◌, sum, all, joined}
+use Rattle.lists.specs.Lists.{when◌then◌else◌, sum, all, joined}
 use Rattle.sets.specs.Set.{members}
 use Rattle.splitting.specs.Split.{split}
 use Rattle.positions.specs.Days.{in_range, days_of, sums_of, by_member, expected_units}
@@ -32,7 +32,7 @@ EveryPart =
 abbrev pub AddsUp : Type 0
 AddsUp =
     (set units : ℕ) (sums : List ℕ) → length sums ≡ length (members set)
-    → sum (by_member set (split units sums)) ≡ (if nat_lt 0 (sum sums) then units else 0)
+    → sum (by_member set (split units sums)) ≡ (when nat_lt 0 (sum sums) then units else 0)
 
 -- document 02, C-15: of two members the one with the larger sum is never expected to take fewer units
 abbrev pub NoLess : Type 0

@@ -2,7 +2,7 @@
 use Rattle.std.specs.Prelude.{◌≡◌, ℕ, ◌+◌, ◌-◌, ◌*◌, ◌%◌, ◌^◌, not, List, [], ◌∷◌, ◌++◌, length, take, drop, replicate, ◌==◌, nat_lt, slice_index}
 use mathlib.Core.List.{foldl}
 use Rattle.std.proofs.lemmas.List.Edits.{sets}
-use Rattle.lists.specs.Lists.{if◌then◌else◌, tab, Each}
+use Rattle.lists.specs.Lists.{when◌then◌else◌, tab, Each}
 use Rattle.lists.specs.Tests.{first_of}
 use Rattle.sets.specs.Set.{members}
 use Rattle.splitting.specs.Split.{split}
@@ -25,7 +25,7 @@ no_days = record { row = 0; ring = replicate 2112 0; sums = replicate 32 0 }
 
 -- behind the last row comes the first
 unfoldable pub row_of : ℕ → ℕ
-row_of row = if nat_lt row 66 then row else 0
+row_of row = when nat_lt row 66 then row else 0
 
 -- a sum with the position that comes and without the one that leaves, in 64 bits
 unfoldable pub rolled : ℕ → ℕ → ℕ → ℕ
@@ -70,11 +70,11 @@ took row ring sums used answer = record { kept = keeping row ring sums; used = u
 unfoldable pub taken : ℕ → Kept → ℕ → List Day → Taken
 taken n x used [] = record { kept = x; used = used; answer = 0 }
 taken n x used (day ∷ days) =
-    if in_range day then taken n (day_kept n x day) (used + size n) days else record { kept = x; used = used; answer = 5 }
+    when in_range day then taken n (day_kept n x day) (used + size n) days else record { kept = x; used = used; answer = 5 }
 
 -- a part of a run of n members: the whole records in it; an empty set has none
 unfoldable pub part_of : ℕ → Kept → List ℕ → Taken
-part_of n x bytes = if n == 0 then record { kept = x; used = 0; answer = 5 } else taken n x 0 (days_of n bytes)
+part_of n x bytes = when n == 0 then record { kept = x; used = 0; answer = 5 } else taken n x 0 (days_of n bytes)
 
 -- why the end of a run is declined of which `left` bytes of a record are left; the sums of a run are never too large to be split
 unfoldable pub why_end : ℕ → ℕ → ℕ → List ℕ → ℕ
@@ -99,11 +99,11 @@ unfoldable pub fed : ℕ → Fed → List ℕ → Fed
 fed n f part =
     let bytes = f.left ++ part in
     let t = part_of n f.kept bytes in
-    if f.answer == 0 then record { kept = t.kept; left = drop t.used bytes; answer = t.answer } else f
+    when f.answer == 0 then record { kept = t.kept; left = drop t.used bytes; answer = t.answer } else f
 
 -- a run in parts, from its begin to its end
 unfoldable pub in_parts : ℕ → ℕ → List (List ℕ) → List ℕ → Answer
 in_parts set units parts shares =
     let n = length (members set) in
     let f = foldl (fed n) (record { kept = no_days; left = []; answer = why_before n units }) parts in
-    if f.answer == 0 then ended set units (length f.left) f.kept.sums shares else (f.answer, shares)
+    when f.answer == 0 then ended set units (length f.left) f.kept.sums shares else (f.answer, shares)

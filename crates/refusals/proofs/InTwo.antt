@@ -6,7 +6,7 @@ use mathlib.Core.List.{List, [], ◌∷◌, ◌++◌}
 use Prim.Native.Nat.{ℕ}
 use lib.Dec.{leb, ltb, eqb}
 use lib.ListN.{get_or}
-use Rattle.lists.specs.Lists.{if◌then◌else◌}
+use Rattle.lists.specs.Lists.{when◌then◌else◌}
 use Rattle.lists.specs.Tests.{Test, first_of, Passed}
 use Rattle.lists.proofs.Passed.{numbered, passed}
 use Rattle.auction.specs.Price.{price_ok}
@@ -19,7 +19,7 @@ use Rattle.refusals.specs.Answers.{is_in, allocate_answer, call_answer, finish_a
 -- ---- any tests in two parts
 
 first_one : (n : ℕ) (b : Bool) (ts us : List Test) → ((first_of ts ≡ 0 → ⊥) → first_of ts ≡ first_of (ts ++ us))
-    → ((if b then n else first_of ts) ≡ 0 → ⊥) → (if b then n else first_of ts) ≡ (if b then n else first_of (ts ++ us))
+    → ((when b then n else first_of ts) ≡ 0 → ⊥) → (when b then n else first_of ts) ≡ (when b then n else first_of (ts ++ us))
 first_one n true ts us rest g = refl
 first_one n false ts us rest g = rest g
 
@@ -58,7 +58,7 @@ module _ (stage : Stage) (b : Book) (pool price : ℕ) (m : ℕ) where
   unfolding allocate_answer
   allocate-declined e g = declined allocate_first ((10, eqb (short_in b pool) 0) ∷ []) m e g
 
-  pub allocate-let-pass : m ≡ first_of allocate_first → m ≡ 0 → (n : ℕ) → n ≡ (if eqb (short_in b pool) 0 then 10 else 0) → n ≡ allocate_answer stage b pool price
+  pub allocate-let-pass : m ≡ first_of allocate_first → m ≡ 0 → (n : ℕ) → n ≡ (when eqb (short_in b pool) 0 then 10 else 0) → n ≡ allocate_answer stage b pool price
   unfolding allocate_answer first_of
   allocate-let-pass e z n f = let-pass allocate_first ((10, eqb (short_in b pool) 0) ∷ []) m e refl z n f
 
@@ -72,7 +72,7 @@ module _ (stage : Stage) (b : Book) (m : ℕ) where
   unfolding call_answer
   call-declined e g = declined call_first ((12, leb (requirement_in b) (prefunded_in b)) ∷ []) m e g
 
-  pub call-let-pass : m ≡ first_of call_first → m ≡ 0 → (n : ℕ) → n ≡ (if leb (requirement_in b) (prefunded_in b) then 12 else 0) → n ≡ call_answer stage b
+  pub call-let-pass : m ≡ first_of call_first → m ≡ 0 → (n : ℕ) → n ≡ (when leb (requirement_in b) (prefunded_in b) then 12 else 0) → n ≡ call_answer stage b
   unfolding call_answer first_of
   call-let-pass e z n f = let-pass call_first ((12, leb (requirement_in b) (prefunded_in b)) ∷ []) m e refl z n f
 

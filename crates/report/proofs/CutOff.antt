@@ -8,7 +8,7 @@ use native.Mathlib.Omega.{arith}
 use lib.Dec.{leb, eqb}
 use lib.ListN.{length}
 use borrow.Author.Tests.{le-leb, leb-false, ne_eqb}
-use Rattle.lists.specs.Lists.{if◌then◌else◌, between}
+use Rattle.lists.specs.Lists.{when◌then◌else◌, between}
 use Rattle.lists.proofs.Bools.{same-choice, and-false}
 use Rattle.machine.specs.Wire.{decode}
 use Rattle.machine.specs.Printed.{s_line}
@@ -36,7 +36,7 @@ applied-cut : (h : Held) (s : List ℕ) → whole_first s ≡ false → ◌≡�
 unfolding applied take_asked answer_to case_answer_to first_answer_to
 applied-cut h s w =
     ap (take_asked h) (decode-cut s w)
-    ∙ ap (λ (n : ℕ). record { answer = n; held = if eqb n 0 then record { present = true; case = after_asked h.case none } else h }) (same-choice h.present 1)
+    ∙ ap (λ (n : ℕ). record { answer = n; held = when eqb n 0 then record { present = true; case = after_asked h.case none } else h }) (same-choice h.present 1)
 
 pub cut-lines : (h : Held) (s : List ℕ) → whole_first s ≡ false → ledger_lines h (cut_fields s) ≡ cut_lines s
 unfolding ledger_lines cut_lines s_line

@@ -7,7 +7,7 @@ use native.Mathlib.Omega.{arith}
 use native.Mathlib.Nat.{suc-mul}
 use lib.Dec.{eqb}
 use lib.ListN.{length, length-append}
-use Rattle.lists.specs.Lists.{if◌then◌else◌, tab}
+use Rattle.lists.specs.Lists.{when◌then◌else◌, tab}
 use Rattle.lists.proofs.Bools.{either}
 use Rattle.lists.proofs.Each.{Each, each-tab}
 use Rattle.lists.proofs.Places.{length-tab, tab-ext}
@@ -62,10 +62,10 @@ unfolding result_lines l_line_of l_line shown_result
 shown-lines b = ap (λ (ls : List Line). l_line_of (result_in b) ∷ ls) (members-lines b (members b.head.set))
 
 finish-shown : (c : Case) (roll : List Entry) → Sound c.stage c.book roll → CaseOk (view c roll)
-    → finish_lines c ≡ (if M.is_f (some (view c roll)) then lines_of (Run.result_of (view c roll)) else [])
+    → finish_lines c ≡ (when M.is_f (some (view c roll)) then lines_of (Run.result_of (view c roll)) else [])
 unfolding finish_lines M.letter_of
 finish-shown c roll sound ok =
-    ap (λ (ls : List Line). if eqb (letter_of c.stage) 5 then ls else [])
+    ap (λ (ls : List Line). when eqb (letter_of c.stage) 5 then ls else [])
     (shown-lines c.book ∙ ap lines_of (result-shown c roll sound ok))
 
 -- what is held shows the machine's state, and so do its lines

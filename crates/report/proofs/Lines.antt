@@ -6,7 +6,7 @@ use Prim.Native.Nat.{ℕ, zero, suc, ◌^◌, ◌≤◌, ◌<◌}
 use native.Mathlib.Omega.{arith}
 use lib.ListN.{length, get_or}
 use borrow.Author.Tests.{eq-eqb, ne_eqb}
-use Rattle.lists.specs.Lists.{if◌then◌else◌, tab}
+use Rattle.lists.specs.Lists.{when◌then◌else◌, tab}
 use Rattle.sets.specs.Set.{members, head_or}
 use Rattle.sets.proofs.Bits.{least, next-is}
 use Rattle.machine.specs.Printed.{Line, s_line}
@@ -91,11 +91,11 @@ present_lines h = tab h.case.book.pools.given (p_line_of h.case) ++ finish_lines
 
 pub held-some : (h : Held) → h.present ≡ true → present_lines h ≡ held_lines h
 unfolding held_lines
-held-some h e = sym (ap (λ (t : Bool). if t then present_lines h else []) e)
+held-some h e = sym (ap (λ (t : Bool). when t then present_lines h else []) e)
 
 pub held_none : (h : Held) → h.present ≡ false → [] ≡ held_lines h
 unfolding held_lines
-held_none h e = sym (ap (λ (t : Bool). if t then present_lines h else []) e)
+held_none h e = sym (ap (λ (t : Bool). when t then present_lines h else []) e)
 
 -- the least member is one of the 32 places
 pub next_small : (set m : ℕ) → (set ≡ 0 → ⊥) → set < 2 ^ 32 → m ≡ head_or 32 (members set) → m < 32

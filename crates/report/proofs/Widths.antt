@@ -6,7 +6,7 @@ use native.Mathlib.Omega.{arith}
 use lib.Dec.{ltb}
 use lib.ListN.{length, length-append}
 use borrow.Author.Tests.{lt-ltb}
-use Rattle.lists.specs.Lists.{if◌then◌else◌}
+use Rattle.lists.specs.Lists.{when◌then◌else◌}
 use Rattle.lists.proofs.Bools.{either}
 use Rattle.machine.specs.Printed.{Line, s_line, decimal, numbers_text}
 use Rattle.lines.specs.Placed.{line_text}
@@ -18,9 +18,9 @@ unfolding decimal
 decimal-most zero n = omega arith
 decimal-most (suc k) n =
     let more = decimal k (n / 10) in
-    let h : length (if ltb n 10 then [] else more) ≤ k =
+    let h : length (when ltb n 10 then [] else more) ≤ k =
     either (λ (l : List ℕ). length l ≤ k) (ltb n 10) (omega arith) (decimal-most k (n / 10)) in
-    omega (arith, h, length-append (if ltb n 10 then [] else more) ((48 + n % 10) ∷ []))
+    omega (arith, h, length-append (when ltb n 10 then [] else more) ((48 + n % 10) ∷ []))
 
 -- a number below 10 has one digit, one below 100 at most two, and so on
 decimal-digits : (d k n : ℕ) → n < 10 ^ suc d → length (decimal k n) ≤ suc d
@@ -30,9 +30,9 @@ decimal-digits zero (suc k) n h = rw (lt-ltb n 10 h) (omega arith)
 decimal-digits (suc d) (suc k) n h =
     let more = decimal k (n / 10) in
     let fewer : n / 10 < 10 ^ suc d = (div-lt_iff_lt-mul {k = 10} {x = n} {y = 10 ^ suc d} (omega arith)).1 (rw (pow-suc 10 (suc d)) at h) in
-    let some : length (if ltb n 10 then [] else more) ≤ suc d =
+    let some : length (when ltb n 10 then [] else more) ≤ suc d =
     either (λ (l : List ℕ). length l ≤ suc d) (ltb n 10) (omega arith) (decimal-digits d k (n / 10) fewer) in
-    omega (arith, some, length-append (if ltb n 10 then [] else more) ((48 + n % 10) ∷ []))
+    omega (arith, some, length-append (when ltb n 10 then [] else more) ((48 + n % 10) ∷ []))
 
 -- a line has at most 21 bytes for each number, and two more
 pub numbers-most : (ns : List ℕ) → length (numbers_text ns) ≤ 1 + 21 * length ns

@@ -2,7 +2,7 @@
 -- a part of an input, and what a lent buffer holds after lines are put into it.
 use Rattle.std.specs.Prelude.{◌≡◌, List, [], ◌∷◌, ◌++◌, map, ℕ, zero, suc, ◌+◌, ◌*◌, ◌≤◌, leb, eqb, length, get_or}
 use Rattle.std.proofs.lemmas.List.Edits.{sets}
-use Rattle.lists.specs.Lists.{if◌then◌else◌, tab}
+use Rattle.lists.specs.Lists.{when◌then◌else◌, tab}
 use Rattle.sets.specs.Set.{members}
 use Rattle.machine.specs.Printed.{Line, s_line, text, printed}
 use Rattle.lines.specs.Placed.{Placed, placed, line_text}
@@ -40,13 +40,13 @@ result_lines r set = l_line_of r ∷ map (m_line_of r) (members set)
 
 -- "After FINISH, l .. m"
 unfoldable pub finish_lines : Case → List Line
-finish_lines c = if eqb (letter_of c.stage) 5 then result_lines (result_in c.book) c.book.head.set else []
+finish_lines c = when eqb (letter_of c.stage) 5 then result_lines (result_in c.book) c.book.head.set else []
 
 -- "At the input's end p .. After FINISH, l .. m"
 unfoldable pub held_lines : Held → List Line
 held_lines h =
     let c = h.case in
-    if h.present then tab c.book.pools.given (p_line_of c) ++ finish_lines c else []
+    when h.present then tab c.book.pools.given (p_line_of c) ++ finish_lines c else []
 
 -- an s line for each call
 unfoldable pub ledger_lines : Held → List (List ℕ) → List Line
@@ -88,7 +88,7 @@ unfoldable pub take_part : Held → List ℕ → List ℕ → PartTaken
 take_part h input out =
     let fs = whole input in
     let t = text (ledger_lines h fs) in
-    if leb (4 * length input) (length out) then (record { held = ledger_after h fs; used = bytes_of fs; written = length t }, sets out 0 t)
+    when leb (4 * length input) (length out) then (record { held = ledger_after h fs; used = bytes_of fs; written = length t }, sets out 0 t)
     else (record { held = h; used = 0; written = 0 }, out)
 
 -- the contract of `take_part`: a part taken, of which the text is at most four times the bytes
@@ -107,5 +107,5 @@ enough n = 4 * n + 4096
 -- the printed text of the machine's run over the input, at the front of the buffer; a buffer with less than enough is untouched
 pub record Prints (input old new : List ℕ) (r : Written) : Type 0 where
   pub whole : r.whole ≡ leb (enough (length input)) (length old)
-  pub len : r.len ≡ (if r.whole then length (printed input) else 0)
-  pub text : new ≡ (if r.whole then sets old 0 (printed input) else old)
+  pub len : r.len ≡ (when r.whole then length (printed input) else 0)
+  pub text : new ≡ (when r.whole then sets old 0 (printed input) else old)

@@ -11,7 +11,7 @@ use lib.Dec.{eqb, leb}
 use lib.ListN.{length, get_or, take}
 use lib.Seq.{take-nil}
 use borrow.Author.Tests.{eqb-true, not-false}
-use Rattle.lists.specs.Lists.{if◌then◌else◌, between, keep, put_back, among, map_from, all}
+use Rattle.lists.specs.Lists.{when◌then◌else◌, between, keep, put_back, among, map_from, all}
 use Rattle.lists.specs.Tests.{first_of}
 use Rattle.lists.proofs.Bools.{either, cases, and_left, and_right}
 use Rattle.lists.proofs.Each.{Each, each_at, each_of, each_more, each_both, each_keep, each-kept, map-append, length-map}
@@ -194,7 +194,7 @@ module _ (s t : State) (alike : Alike s t) where
   unfolding answered
   taken call other answer next = record { answer = answer; state = rw answer (either_way (eqb (refusal t other) 0)) }
     where
-      either_way : (b : Bool) → Alike (if b then some (accepted (the_case s) call) else s) (if b then some (accepted (the_case t) other) else t)
+      either_way : (b : Bool) → Alike (when b then some (accepted (the_case s) call) else s) (when b then some (accepted (the_case t) other) else t)
       either_way true = ap some next
       either_way false = alike
 

@@ -6,7 +6,7 @@ use mathlib.Core.Option.{none, some}
 use Prim.Native.Nat.{ℕ}
 use lib.IntN.{ℤ}
 use lib.ListN.{take}
-use Rattle.lists.specs.Lists.{if◌then◌else◌}
+use Rattle.lists.specs.Lists.{when◌then◌else◌}
 use Rattle.machine.specs.State.{Case, State, the_case, letter_of, is_f, member_list, member_at}
 use Rattle.machine.specs.Requirement.{requirement, contributions, owes}
 use Rattle.machine.specs.Result.{payments, limits, six_charges, charge, uncovered_rest, on_payments}
@@ -18,7 +18,7 @@ use Rattle.reserves.proofs.Alike.{Alike, same-states}
 
 -- ---- the result
 
-same-result : (b : Bool) (r q : Result) → totals r ≡ totals q → totals_if (if b then some r else none) ≡ totals_if (if b then some q else none)
+same-result : (b : Bool) (r q : Result) → totals r ≡ totals q → totals_if (when b then some r else none) ≡ totals_if (when b then some q else none)
 unfolding totals_if
 same-result true r q e = ap some e
 same-result false r q e = refl

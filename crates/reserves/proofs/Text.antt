@@ -10,7 +10,7 @@ use lib.Dec.{eqb, ltb}
 use lib.ListN.{length, take}
 use lib.Seq.{take-length}
 use borrow.Author.Tests.{ne_eqb}
-use Rattle.lists.specs.Lists.{if◌then◌else◌, joined, tab}
+use Rattle.lists.specs.Lists.{when◌then◌else◌, joined, tab}
 use Rattle.lists.proofs.Bools.{either}
 use Rattle.lists.proofs.Each.{Each, each_append, each-always, each_map, each-tab, map-append}
 use Rattle.machine.specs.State.{Case, State, the_case, letter_of, is_f, member_list}
@@ -34,13 +34,13 @@ unfolding decimal
 digits zero n = tt
 digits (suc k) n =
     let d = 48 + n % 10 in
-    each_append InWord (if ltb n 10 then [] else decimal k (n / 10)) (d ∷ [])
+    each_append InWord (when ltb n 10 then [] else decimal k (n / 10)) (d ∷ [])
     (either (Each InWord) (ltb n 10) tt (digits k (n / 10)))
     ((ne_eqb d 10 (λ e. omega arith), ne_eqb d 32 (λ e. omega arith)), tt)
 
 -- what is shown of a word behind the letter
 abbrev shown_word : Bool → ℕ → List ℕ → List ℕ
-shown_word is_m w s = if left_out is_m w then [] else s
+shown_word is_m w s = when left_out is_m w then [] else s
 
 word-shown : (is_m : Bool) (w : ℕ) (ds rest : List ℕ) → Each InWord ds
     → text_from is_m (suc w) (ds ++ rest) ≡ shown_word is_m (suc w) ds ++ text_from is_m (suc w) rest
@@ -54,8 +54,8 @@ word-shown is_m w (d ∷ ds) rest in-word =
     stays true = refl
     stays false = rw (ne_eqb (suc w) 0 (λ e. omega arith))
 
-    go : (b : Bool) → text_from is_m (suc w) (ds ++ rest) ≡ (if b then [] else ds) ++ text_from is_m (suc w) rest
-        → (if b then text_from is_m (suc w) (ds ++ rest) else d ∷ text_from is_m (suc w) (ds ++ rest)) ≡ (if b then [] else d ∷ ds) ++ text_from is_m (suc w) rest
+    go : (b : Bool) → text_from is_m (suc w) (ds ++ rest) ≡ (when b then [] else ds) ++ text_from is_m (suc w) rest
+        → (when b then text_from is_m (suc w) (ds ++ rest) else d ∷ text_from is_m (suc w) (ds ++ rest)) ≡ (when b then [] else d ∷ ds) ++ text_from is_m (suc w) rest
     go true e = e
     go false e = ap (λ (s : List ℕ). d ∷ s) e
 
@@ -172,7 +172,7 @@ end-without (some c) =
     ends : Case → List Line
     ends c = l_line (result_of c) ∷ map m_line (result_of c).members
 
-    go : (b : Bool) → map shown_line (if b then ends (without_reserves c) else []) ≡ map shown_line (if b then ends c else [])
+    go : (b : Bool) → map shown_line (when b then ends (without_reserves c) else []) ≡ map shown_line (when b then ends c else [])
     go true = finish-without c
     go false = refl
 

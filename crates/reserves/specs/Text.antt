@@ -1,7 +1,7 @@
 -- Document 02, C-17, of the text that the program `ledger` prints: of two inputs whose fields are the same but for reserves, with the same bids valid, all lines are
 -- the same, but for the rank and the charge on contribution in m lines. It is proved in proofs/Claims.antt.
 use Rattle.std.specs.Prelude.{◌≡◌, Bool, false, ◌&&◌, ◌||◌, List, [], ◌∷◌, ℕ, suc, eqb, length}
-use Rattle.lists.specs.Lists.{if◌then◌else◌, between}
+use Rattle.lists.specs.Lists.{when◌then◌else◌, between}
 use Rattle.machine.specs.Printed.{fields_in, printed}
 use Rattle.reserves.specs.Reserves.{SameButReserves}
 
@@ -14,9 +14,9 @@ left_out is_m w = is_m && between 2 3 w
 unfoldable pub text_from : Bool → ℕ → List ℕ → List ℕ
 text_from is_m w [] = []
 text_from is_m w (b ∷ s) =
-    if eqb b 10 then b ∷ text_from false 0 s
-    else if eqb b 32 then b ∷ text_from is_m (suc w) s
-    else if left_out is_m w then text_from is_m w s
+    when eqb b 10 then b ∷ text_from false 0 s
+    else when eqb b 32 then b ∷ text_from is_m (suc w) s
+    else when left_out is_m w then text_from is_m w s
     else b ∷ text_from (is_m || (eqb w 0 && eqb b 109)) w s
 
 -- what a text shows outside the house

@@ -10,7 +10,7 @@ use lib.Dec.{eqb, ltb}
 use lib.ListN.{length, get_or, take, drop, length-take}
 use lib.Seq.{drop-cons, drop-length, drop-drop, get_or-take, length-take-le}
 use borrow.Author.Tests.{lt-ltb, le-ltb, eq-eqb, ne_eqb, eqb-true, not-false}
-use Rattle.lists.specs.Lists.{if◌then◌else◌, Each}
+use Rattle.lists.specs.Lists.{when◌then◌else◌, Each}
 use Rattle.lists.proofs.Bools.{cases, either, by-test}
 use Rattle.lists.proofs.Each.{each_take}
 use Rattle.machine.specs.Wire.{number}
@@ -88,19 +88,19 @@ module _ (n room : ℕ) (last : Bool) (s : List ℕ) where
       record {
         size =
             d.size
-            ∙ ap₂ (λ (x : Row) (k : ℕ). if not (eqb x.reason 0) then 0 else k) same is
+            ∙ ap₂ (λ (x : Row) (k : ℕ). when not (eqb x.reason 0) then 0 else k) same is
             ∙ sym (size-there 128 room (day_size n last) s h);
         bytes =
             ap four_each d.numbers
-            ∙ cases (not (eqb row.reason 0)) (four_each (if not (eqb row.reason 0) then [] else take row.count row.numbers) ≡ record_of n (take r.size s))
+            ∙ cases (not (eqb row.reason 0)) (four_each (when not (eqb row.reason 0) then [] else take row.count row.numbers) ≡ record_of n (take r.size s))
             (λ t.
-            ap (λ (b : Bool). four_each (if b then [] else take row.count row.numbers)) t
+            ap (λ (b : Bool). four_each (when b then [] else take row.count row.numbers)) t
             ∙ no_bytes
-            ∙ sym (ap (λ (k : ℕ). record_of n (take k s)) (d.size ∙ ap (λ (b : Bool). if b then 0 else size) t) ∙ empty-record n))
+            ∙ sym (ap (λ (k : ℕ). record_of n (take k s)) (d.size ∙ ap (λ (b : Bool). when b then 0 else size) t) ∙ empty-record n))
             (λ t.
-            ap (λ (b : Bool). four_each (if b then [] else take row.count row.numbers)) t
+            ap (λ (b : Bool). four_each (when b then [] else take row.count row.numbers)) t
             ∙ ap (λ (x : Row). four_each (take x.count x.numbers)) (e ∙ ap (day_of n) lends)
-            ∙ sym (ap (λ (k : ℕ). record_of n (take k s)) (d.size ∙ ap (λ (b : Bool). if b then 0 else size) t)));
+            ∙ sym (ap (λ (k : ℕ). record_of n (take k s)) (d.size ∙ ap (λ (b : Bool). when b then 0 else size) t)));
         few = omega (arith, d.few, ap (λ (x : Row). x.count) e, day-few n part);
       }
 

@@ -1,6 +1,6 @@
 -- A text of days as records: "one line a day, the positions of the members between commas".
 use Rattle.std.specs.Prelude.{◌≡◌, Bool, not, List, [], ◌∷◌, ◌++◌, ℕ, ◌≤◌, eqb, ltb, length, take, replicate}
-use Rattle.lists.specs.Lists.{if◌then◌else◌}
+use Rattle.lists.specs.Lists.{when◌then◌else◌}
 use Rattle.forms.specs.Encode.{bytes_of}
 use Rattle.translation.specs.Writes.{WritesSome}
 use Rattle.text_lines.specs.Lines.{length_to, good_size, size_within}
@@ -15,7 +15,7 @@ too_long = record { reason = 7; at = 65536; count = 0; numbers = replicate 32 0 
 
 -- what a line is read as, with or without its end: so many numbers, each at most 10,000,000
 unfoldable pub day_of : (n : ℕ) → List ℕ → Row
-day_of n line = if ltb 65536 (length_to line) then too_long else row_of n n 10000000 (take (length_to line) line)
+day_of n line = when ltb 65536 (length_to line) then too_long else row_of n n 10000000 (take (length_to line) line)
 
 -- whether a line is refused
 unfoldable pub refused_day : (n : ℕ) → List ℕ → Bool
@@ -36,8 +36,8 @@ day_size n last = good_size (refused_day n) last
 
 -- a line of so many bytes by what it is read as: one that is refused has no bytes
 pub record IsDay (bytes : ℕ) (row : Row) (r : Day) : Type 0 where
-  pub size : r.size ≡ (if not (eqb row.reason 0) then 0 else bytes)
-  pub numbers : take r.count r.numbers ≡ (if not (eqb row.reason 0) then [] else take row.count row.numbers)
+  pub size : r.size ≡ (when not (eqb row.reason 0) then 0 else bytes)
+  pub numbers : take r.count r.numbers ≡ (when not (eqb row.reason 0) then [] else take row.count row.numbers)
   pub few : r.count ≤ row.count
 
 -- the contract of `next_day`: no bytes where the line is not to be taken, or there is no room for its record

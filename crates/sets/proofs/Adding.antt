@@ -3,7 +3,7 @@ use mathlib.Core.Path.{◌≡◌, ap, ◌∙◌}
 use mathlib.Core.List.{map}
 use Prim.Native.Nat.{ℕ, ◌+◌, ◌*◌, ◌^◌, ◌≤◌, ◌<◌}
 use native.Mathlib.Omega.{arith}
-use Rattle.lists.specs.Lists.{if◌then◌else◌, sum, sum_to}
+use Rattle.lists.specs.Lists.{when◌then◌else◌, sum, sum_to}
 use Rattle.lists.proofs.Bools.{either}
 use Rattle.lists.proofs.Sums.{sum_to-le}
 use Rattle.sets.specs.Set.{member, members}
@@ -41,5 +41,5 @@ sum-members-le s f b h =
     omega (
       arith,
       sum-members s f,
-      sum_to-le 32 (λ m. if member s m then f m else 0) (λ m. b) (λ m l. either (λ x. x ≤ b) (member s m) (h m) (omega arith)),
+      sum_to-le 32 (λ m. when member s m then f m else 0) (λ m. b) (λ m l. either (λ x. x ≤ b) (member s m) (h m) (omega arith)),
     )

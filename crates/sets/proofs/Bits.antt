@@ -13,7 +13,7 @@ use lib.Pow.{shl_exact, pow_mono, pow_pos}
 use lib.Bits.{bit_and, bit_or, and_step, and_self, and_high, or_add_and}
 use lib.ListN.{length, drop}
 use lib.Count.{ones, ones_step, ones-ones, count_trailing_zeros, trailing_of_zero}
-use Rattle.lists.specs.Lists.{if◌then◌else◌, keep, tab}
+use Rattle.lists.specs.Lists.{when◌then◌else◌, keep, tab}
 use Rattle.sets.specs.Set.{member, members, head_or, insert}
 
 -- the lowest bit is 0 or 1
@@ -28,7 +28,7 @@ bit-cases t = go (t % 2) (mod-lt t (omega arith))
 -- the places, counted from i, of the ones among the k lowest bits of t
 unfoldable ones_from : ℕ → ℕ → ℕ → List ℕ
 ones_from zero i t = []
-ones_from (suc k) i t = if eqb (t % 2) 1 then i ∷ ones_from k (suc i) (t / 2) else ones_from k (suc i) (t / 2)
+ones_from (suc k) i t = when eqb (t % 2) 1 then i ∷ ones_from k (suc i) (t / 2) else ones_from k (suc i) (t / 2)
 
 half : (s i : ℕ) → s / 2 ^ i / 2 ≡ s / 2 ^ suc i
 half s i = div-div-eq-div-mul s (2 ^ i) 2 ∙ rw pow-suc

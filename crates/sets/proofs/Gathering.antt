@@ -7,7 +7,7 @@ use Prim.Native.Nat.{ℕ, ◌+◌, ◌^◌, ◌<◌}
 use native.Mathlib.Omega.{arith}
 use lib.ListN.{length}
 use borrow.Author.Tests.{ne_eqb}
-use Rattle.lists.specs.Lists.{if◌then◌else◌, count, one_if}
+use Rattle.lists.specs.Lists.{when◌then◌else◌, count, one_if}
 use Rattle.lists.proofs.Each.{Each, each_more, each_both, each-always}
 use Rattle.sets.specs.Set.{member, members, insert, with_member}
 use Rattle.sets.proofs.Bits.{members-none}
@@ -27,7 +27,7 @@ start p set h = record {
 
 -- one turn: j is the first of what is left, left' the rest
 pub turn : (p : ℕ → Bool) (set found left left' j : ℕ) → Gathered p set found left → Taken left j left' → left' < 2 ^ 32
-    → Gathered p set (if p j then with_member found j else found) left'
+    → Gathered p set (when p j then with_member found j else found) left'
 unfolding count one_if
 turn p set found left left' j g t fits = go (p j) refl
   where
@@ -51,7 +51,7 @@ turn p set found left left' j g t fits = go (p j) refl
     as_many : p j ≡ false → Gathered p set found left'
     as_many e = record { left-fits = fits; apart = apart.1; counted = omega (arith, g.counted, rest, ap one_if e) }
 
-    go : (b : Bool) → p j ≡ b → Gathered p set (if b then with_member found j else found) left'
+    go : (b : Bool) → p j ≡ b → Gathered p set (when b then with_member found j else found) left'
     go true e = rw (with-is found j t.below) (one_more e)
     go false e = as_many e
 

@@ -12,7 +12,7 @@ use lib.Pow.{pow_pos, pow-lt, pow-add}
 use lib.Bits.{bit_or, or_step, or_shr, or_lt}
 use lib.ListN.{length, drop}
 use borrow.Author.Tests.{eq-eqb, ne_eqb, eqb-true, eqb-false, lt-ltb, le-ltb}
-use Rattle.lists.specs.Lists.{if◌then◌else◌, sum, sum_to, one_if, count_to, count, any, places}
+use Rattle.lists.specs.Lists.{when◌then◌else◌, sum, sum_to, one_if, count_to, count, any, places}
 use Rattle.lists.proofs.Bools.{lt-or-le}
 use Rattle.lists.proofs.Sums.{sum_to-ext, sum_to-add, count_small}
 use Rattle.lists.proofs.Keep.{sum_kept, length-kept, count_kept, sum_to-one}
@@ -48,7 +48,7 @@ members-ascend s = ascending-places (member s) 32
 
 -- ---- sums and counts over members, by places
 
-pub sum-members : (s : ℕ) (f : ℕ → ℕ) → sum (map f (members s)) ≡ sum_to 32 (λ m. if member s m then f m else 0)
+pub sum-members : (s : ℕ) (f : ℕ → ℕ) → sum (map f (members s)) ≡ sum_to 32 (λ m. when member s m then f m else 0)
 unfolding members
 sum-members s f = sum_kept 32 (member s) f (λ m. m)
 
@@ -69,10 +69,10 @@ pub sum-members-ext : (s : ℕ) (f g : ℕ → ℕ) → ((m : ℕ) → m < 32 �
     → sum (map f (members s)) ≡ sum (map g (members s))
 sum-members-ext s f g h =
     sum-members s f
-    ∙ sum_to-ext 32 _ (λ m. if member s m then g m else 0) (λ m l. go m l (member s m) refl)
+    ∙ sum_to-ext 32 _ (λ m. when member s m then g m else 0) (λ m l. go m l (member s m) refl)
     ∙ sym (sum-members s g)
   where
-    go : (m : ℕ) → m < 32 → (b : Bool) → member s m ≡ b → (if b then f m else 0) ≡ (if b then g m else 0)
+    go : (m : ℕ) → m < 32 → (b : Bool) → member s m ≡ b → (when b then f m else 0) ≡ (when b then g m else 0)
     go m l true e = h m l e
     go m l false e = refl
 
@@ -136,12 +136,12 @@ insert-count s i l new =
       arith,
       length-members (insert s i),
       length-members s,
-      sum_to-ext 32 (λ j. one_if (member (insert s i) j)) (λ j. (if eqb j i then 1 else 0) + one_if (member s j)) (λ j below. at j (eqb i j) refl),
-      sum_to-add 32 (λ j. if eqb j i then 1 else 0) (λ j. one_if (member s j)),
+      sum_to-ext 32 (λ j. one_if (member (insert s i) j)) (λ j. (when eqb j i then 1 else 0) + one_if (member s j)) (λ j below. at j (eqb i j) refl),
+      sum_to-add 32 (λ j. when eqb j i then 1 else 0) (λ j. one_if (member s j)),
       sum_to-one 32 i 1 l,
     )
   where
-    at : (j : ℕ) (b : Bool) → eqb i j ≡ b → one_if (member (insert s i) j) ≡ (if eqb j i then 1 else 0) + one_if (member s j)
+    at : (j : ℕ) (b : Bool) → eqb i j ≡ b → one_if (member (insert s i) j) ≡ (when eqb j i then 1 else 0) + one_if (member s j)
     at j true e = let same : i ≡ j = eqb-true i j e in rw (member-insert, ← same, eq-eqb i i refl, new)
     at j false e = rw (member-insert, e, ne_eqb j i (λ same. eqb-false i j e (sym same))) (omega arith)
 

@@ -7,7 +7,7 @@ use lib.Dec.{eqb}
 use lib.ListN.{length, get_or, set, replicate, length-set, length-replicate, get_or-replicate}
 use lib.Seq.{get_or-set_same, get_or-set_other}
 use borrow.Author.Tests.{eqb-true, eqb-false}
-use Rattle.lists.specs.Lists.{if◌then◌else◌, any}
+use Rattle.lists.specs.Lists.{when◌then◌else◌, any}
 use Rattle.lists.proofs.Bools.{same-choice}
 use Rattle.lists.proofs.Places.{tab-of}
 use Rattle.sets.specs.Set.{member, members, of_members}
@@ -23,14 +23,14 @@ length-written f [] out = refl
 length-written f (m ∷ ms) out = length-written f ms (set out m (f m)) ∙ length-set out m (f m)
 
 written_at : (f : ℕ → ℕ) (ms out : List ℕ) (k : ℕ) → k < length out
-    → get_or (write_all f ms out) k 0 ≡ (if any (eqb k) ms then f k else get_or out k 0)
+    → get_or (write_all f ms out) k 0 ≡ (when any (eqb k) ms then f k else get_or out k 0)
 unfolding any
 written_at f [] out k l = refl
 written_at f (m ∷ ms) out k l =
     written_at f ms (set out m (f m)) k (simp length-set l) ∙ go (eqb k m) refl
   where
     go : (b : Bool) → eqb k m ≡ b
-        → (if any (eqb k) ms then f k else get_or (set out m (f m)) k 0) ≡ (if b || any (eqb k) ms then f k else get_or out k 0)
+        → (when any (eqb k) ms then f k else get_or (set out m (f m)) k 0) ≡ (when b || any (eqb k) ms then f k else get_or out k 0)
     go true e =
         let same : k ≡ m = eqb-true k m e in
         rw (← same, get_or-set_same out k (f k) 0) (same-choice (any (eqb k) ms) (f k))
@@ -40,7 +40,7 @@ written_at f (m ∷ ms) out k l =
 pub written : (s : ℕ) (f : ℕ → ℕ) → write_all f (members s) (replicate 32 0) ≡ of_members s f
 unfolding of_members
 written s f =
-    tab-of 32 (λ m. if member s m then f m else 0) 0 (write_all f (members s) (replicate 32 0))
+    tab-of 32 (λ m. when member s m then f m else 0) 0 (write_all f (members s) (replicate 32 0))
     (length-written f (members s) (replicate 32 0) ∙ length-replicate {A = ℕ} 32 0)
     (λ k l. written_at f (members s) (replicate 32 0) k (simp length-replicate l) ∙ rw (member-listed s k l, zeros k l))
   where

@@ -2,7 +2,7 @@
 use Rattle.std.specs.Prelude.{List, [], ◌∷◌, ◌++◌, ℕ, zero, suc, ◌+◌, ◌-◌, ◌/◌, ◌%◌, ◌^◌, eqb, leb, ltb, length}
 use Rattle.std.proofs.Math.Option.{Option}
 use Rattle.std.proofs.lemmas.List.Edits.{sets}
-use Rattle.lists.specs.Lists.{if◌then◌else◌}
+use Rattle.lists.specs.Lists.{when◌then◌else◌}
 use Rattle.auction.specs.Price.{zero_price}
 use Rattle.sets.specs.Set.{members}
 use Rattle.machine.specs.Wire as Wire
@@ -18,8 +18,8 @@ money_text n = decimal 20 (n / 100) ++ (46 ∷ (48 + n / 10 % 10) ∷ (48 + n % 
 -- a price, held as `Price` says: any number of 32 bits in two's complement has a text
 unfoldable pub price_text : ℕ → List ℕ
 price_text p =
-    if ltb p zero_price then 45 ∷ money_text (zero_price - p)
-    else if ltb p (2 ^ 31 + zero_price) then money_text (p - zero_price)
+    when ltb p zero_price then 45 ∷ money_text (zero_price - p)
+    else when ltb p (2 ^ 31 + zero_price) then money_text (p - zero_price)
     else 45 ∷ money_text (2 ^ 32 + zero_price - p)
 
 -- further members, each behind a comma
@@ -35,9 +35,9 @@ members_text (m ∷ ms) = decimal 20 m ++ more_text ms
 -- a number by its kind
 unfoldable pub number_text : ℕ → ℕ → List ℕ
 number_text kind n =
-    if ltb kind 3 then decimal 20 n
-    else if eqb kind 3 then members_text (members n)
-    else if eqb kind 4 then money_text n
+    when ltb kind 3 then decimal 20 n
+    else when eqb kind 3 then members_text (members n)
+    else when eqb kind 4 then money_text n
     else price_text n
 
 -- number i of a call, behind its key or a comma
@@ -69,9 +69,9 @@ line_into call out at = put_into 8192 (line_form (form_of call)) out at
 unfoldable pub key_into : (tag i : ℕ) → List ℕ → Written
 key_into tag i out =
     let t = separator (key_of tag i) in
-    if ltb (length out) 16 then (0, out)
-    else if leb 16 tag then (0, out)
-    else if leb 8 i then (0, out)
+    when ltb (length out) 16 then (0, out)
+    else when leb 16 tag then (0, out)
+    else when leb 8 i then (0, out)
     else (length t, sets out 0 t)
 
 -- cents put into a buffer from a place on, where there is room for 23 bytes, which no amount of 64 bits passes

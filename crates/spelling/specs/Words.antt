@@ -1,6 +1,6 @@
 -- The words of the notation: the name of each call, and the key before each of its numbers. Letters are given by their ASCII codes.
 use Rattle.std.specs.Prelude.{◌&&◌, List, [], ◌∷◌, ◌++◌, map, ℕ, ◌+◌, ◌*◌, ltb, get_or}
-use Rattle.lists.specs.Lists.{if◌then◌else◌}
+use Rattle.lists.specs.Lists.{when◌then◌else◌}
 
 -- no key: the number stands behind a comma, or there is none
 abbrev pub nokey : List ℕ
@@ -104,7 +104,7 @@ names =
 
 -- the key of a call's number i
 unfoldable pub key_of : ℕ → ℕ → List ℕ
-key_of tag i = if ltb tag 16 && ltb i 8 then get_or keys (tag * 8 + i) [] else []
+key_of tag i = when ltb tag 16 && ltb i 8 then get_or keys (tag * 8 + i) [] else []
 
 unfoldable pub name_of : ℕ → List ℕ
 name_of tag = get_or names tag []

@@ -7,7 +7,7 @@ use Prim.Native.Nat.{ℕ, ◌+◌, ◌≤◌, ◌<◌}
 use native.Mathlib.Omega.{arith}
 use lib.Dec.{ltb}
 use lib.ListN.{length, get_or, replicate, get_or-eq_default}
-use Rattle.lists.specs.Lists.{if◌then◌else◌, sum, tab, places, keep}
+use Rattle.lists.specs.Lists.{when◌then◌else◌, sum, tab, places, keep}
 use Rattle.lists.proofs.Bools.{lt-or-le, either, cases}
 use Rattle.lists.proofs.Places.{length-tab, get_or-tab, get_or-tab-past, map-tab, map-places, sum-tab, tab-ext}
 use Rattle.lists.proofs.Keep.{sum_kept, sum-at-kept}
@@ -19,12 +19,12 @@ use Rattle.splitting.proofs.Ties.{split-order}
 
 module _ (n : ℕ) (who : ℕ → Bool) (q : ℕ) (f : ℕ → ℕ) where
   -- the same as a weight of 0 for the others
-  pub split-masked : split_among n who q f ≡ split q (tab n (λ i. if who i then f i else 0))
+  pub split-masked : split_among n who q f ≡ split q (tab n (λ i. when who i then f i else 0))
   unfolding split_among
-  split-masked = sym (split-among q who f (places n)) ∙ ap (split q) (map-tab n (λ i. if who i then f i else 0) (λ i. i))
+  split-masked = sym (split-among q who f (places n)) ∙ ap (split q) (map-tab n (λ i. when who i then f i else 0) (λ i. i))
 
   abbrev masked : List ℕ
-  masked = tab n (λ i. if who i then f i else 0)
+  masked = tab n (λ i. when who i then f i else 0)
 
   abbrev total : ℕ
   total = sum (map f (keep who (places n)))
@@ -33,25 +33,25 @@ module _ (n : ℕ) (who : ℕ → Bool) (q : ℕ) (f : ℕ → ℕ) where
   share i = get_or (split_among n who q f) i 0
 
   masked-sum : sum masked ≡ total
-  masked-sum = sum-tab n (λ i. if who i then f i else 0) ∙ sym (sum_kept n who f (λ i. i))
+  masked-sum = sum-tab n (λ i. when who i then f i else 0) ∙ sym (sum_kept n who f (λ i. i))
 
   masked-le : (i : ℕ) → get_or masked i 0 ≤ f i
   masked-le i =
       ⊎_elim
-      (λ l. rw (get_or-tab {A = ℕ} n (λ i. if who i then f i else 0) i 0 l) (either (λ x. x ≤ f i) (who i) (omega arith) (omega arith)))
-      (λ g. rw (get_or-tab-past n (λ i. if who i then f i else 0) i g) (omega arith))
+      (λ l. rw (get_or-tab {A = ℕ} n (λ i. when who i then f i else 0) i 0 l) (either (λ x. x ≤ f i) (who i) (omega arith) (omega arith)))
+      (λ g. rw (get_or-tab-past n (λ i. when who i then f i else 0) i g) (omega arith))
       (lt-or-le i n)
 
   masked_off : (i : ℕ) → who i ≡ false → get_or masked i 0 ≡ 0
   masked_off i e =
       ⊎_elim
-      (λ l. get_or-tab n (λ i. if who i then f i else 0) i 0 l ∙ rw e)
-      (λ g. get_or-tab-past n (λ i. if who i then f i else 0) i g)
+      (λ l. get_or-tab n (λ i. when who i then f i else 0) i 0 l ∙ rw e)
+      (λ g. get_or-tab-past n (λ i. when who i then f i else 0) i g)
       (lt-or-le i n)
 
   -- a share for each place
   pub shares-length : length (split_among n who q f) ≡ n
-  shares-length = ap length split-masked ∙ split-length q masked ∙ length-tab n (λ i. if who i then f i else 0)
+  shares-length = ap length split-masked ∙ split-length q masked ∙ length-tab n (λ i. when who i then f i else 0)
 
   -- none for those that do not pass, nor past the end
   pub share-off : (i : ℕ) → who i ≡ false → get_or (split_among n who q f) i 0 ≡ 0
@@ -85,7 +85,7 @@ module _ (n : ℕ) (who : ℕ → Bool) (q : ℕ) (f : ℕ → ℕ) where
   -- of those that pass, none with a larger weight has a smaller share
   pub shares-order : (j i : ℕ) → j < n → who j ≡ true → f i < f j → get_or (split_among n who q f) i 0 ≤ get_or (split_among n who q f) j 0
   shares-order j i l on h =
-      let weight : get_or masked j 0 ≡ f j = get_or-tab n (λ i. if who i then f i else 0) j 0 l ∙ rw on in
+      let weight : get_or masked j 0 ≡ f j = get_or-tab n (λ i. when who i then f i else 0) j 0 l ∙ rw on in
       rw split-masked (split-order q masked j i (omega (arith, masked-le i)))
 
 -- tests that agree on the places, and weights that agree where the test passes
@@ -94,9 +94,9 @@ pub shares-ext : (n : ℕ) (who who' : ℕ → Bool) (q : ℕ) (f f' : ℕ → �
 shares-ext n who who' q f f' same_test same-weight =
     split-masked n who q f
     ∙ ap (split q)
-    (tab-ext n (λ i. if who i then f i else 0) (λ i. if who' i then f' i else 0)
+    (tab-ext n (λ i. when who i then f i else 0) (λ i. when who' i then f' i else 0)
     (λ i l. rw (sym (same_test i l))
-    (cases (who i) ((if who i then f i else 0) ≡ (if who i then f' i else 0)) (λ e. rw (e, same-weight i l e)) (λ e. rw e))))
+    (cases (who i) ((when who i then f i else 0) ≡ (when who i then f' i else 0)) (λ e. rw (e, same-weight i l e)) (λ e. rw e))))
     ∙ sym (split-masked n who' q f')
 
 -- places of weight 0 behind the others, as an array has them behind its used part, get 0 and change nothing

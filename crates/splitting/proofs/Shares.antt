@@ -10,7 +10,7 @@ use lib.Dec.{ltb, eqb}
 use lib.ListN.{length, get_or, get_or-eq_default, replicate, length-replicate, get_or-replicate}
 use lib.Seq.{ext_get_or}
 use borrow.Author.Tests.{ltb-true, lt-ltb, le-ltb, eq-eqb, ne_eqb}
-use Rattle.lists.specs.Lists.{if◌then◌else◌, sum, one_if, count_to, tab}
+use Rattle.lists.specs.Lists.{when◌then◌else◌, sum, one_if, count_to, tab}
 use Rattle.lists.specs.Order.{earlier}
 use Rattle.lists.proofs.Bools.{lt-or-le, one_if-small, one-false}
 use Rattle.lists.proofs.Sums.{entry-le, sum_to-add, sum_to-zero}
@@ -64,12 +64,12 @@ module _ (q : ℕ) (ws : List ℕ) where
 
   pub split-some : 0 < sum ws → split q ws ≡ tab (length ws) (share_at q ws)
   unfolding split
-  split-some h = ap (λ (b : Bool). tab (length ws) (λ i. if b then 0 else share_at q ws i)) (ne_eqb (sum ws) 0 (omega arith))
+  split-some h = ap (λ (b : Bool). tab (length ws) (λ i. when b then 0 else share_at q ws i)) (ne_eqb (sum ws) 0 (omega arith))
 
   pub split-none : sum ws ≡ 0 → split q ws ≡ replicate (length ws) 0
   unfolding split
   split-none h =
-      ap (λ (b : Bool). tab (length ws) (λ i. if b then 0 else share_at q ws i)) (eq-eqb (sum ws) 0 h) ∙ tab-same (length ws) 0
+      ap (λ (b : Bool). tab (length ws) (λ i. when b then 0 else share_at q ws i)) (eq-eqb (sum ws) 0 h) ∙ tab-same (length ws) 0
 
   -- as many shares as weights
   pub split-length : length (split q ws) ≡ length ws

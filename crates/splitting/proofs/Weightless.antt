@@ -7,7 +7,7 @@ use Prim.Native.Nat.{ℕ, ◌<◌}
 use native.Mathlib.Nat.{eq-zero-or-pos, mul-zero, zero-mod, zero-div}
 use native.Mathlib.Omega.{arith}
 use lib.ListN.{length, get_or, length-map}
-use Rattle.lists.specs.Lists.{if◌then◌else◌, sum, sum_to, one_if, keep, among}
+use Rattle.lists.specs.Lists.{when◌then◌else◌, sum, sum_to, one_if, keep, among}
 use Rattle.lists.specs.Order.{larger_first, earlier}
 use Rattle.lists.proofs.Bools.{one-false}
 use Rattle.lists.proofs.Sums.{sum_to-ext, sum-places}
@@ -20,7 +20,7 @@ use Rattle.splitting.proofs.Shares.{no-remainder, split_at, split-at-none, split
 module _ {A : Type 0} (q : ℕ) (p : A → Bool) (f : A → ℕ) (l : List A) where
   -- with 0 for those that do not pass
   abbrev weight : A → ℕ
-  weight x = if p x then f x else 0
+  weight x = when p x then f x else 0
 
   abbrev all-weights : List ℕ
   all-weights = map weight l
@@ -100,7 +100,7 @@ module _ {A : Type 0} (q : ℕ) (p : A → Bool) (f : A → ℕ) (l : List A) wh
       (λ m. cc (floor-on k, same_left, same_ahead k m))
       (eq-zero-or-pos (remainder_at q own-weights k))
 
-  pub split-among : split q (map (λ x. if p x then f x else 0) l) ≡ among p (λ ks. split q (map f ks)) l
+  pub split-among : split q (map (λ x. when p x then f x else 0) l) ≡ among p (λ ks. split q (map f ks)) l
   split-among =
       among-is p (λ ks. split q (map f ks)) l (split q all-weights) (split-length q all-weights ∙ length-map l weight)
       (λ k m. ⊎_elim

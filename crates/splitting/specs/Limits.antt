@@ -1,6 +1,6 @@
 -- The functions `splitting::split` and `splitting::ranking`: their limits, what they answer, and what they leave in the run that is lent to them.
 use Rattle.std.specs.Prelude.{Bool, ◌&&◌, not, List, [], ◌∷◌, ◌++◌, ℕ, leb, eqb, length, drop}
-use Rattle.lists.specs.Lists.{if◌then◌else◌, all}
+use Rattle.lists.specs.Lists.{when◌then◌else◌, all}
 use Rattle.lists.specs.Tests.{first_of}
 use Rattle.splitting.specs.Split.{split}
 use Rattle.splitting.specs.Ranking.{ranking}
@@ -24,7 +24,7 @@ Answer = ℕ × List ℕ
 
 -- the answer a: where it is 0 the run holds what was asked for, and where it is not the run is untouched
 abbrev pub answered : ℕ → List ℕ → List ℕ → Answer
-answered a done before = (a, if eqb a 0 then done else before)
+answered a done before = (a, when eqb a 0 then done else before)
 
 -- why a split of q by the weights into n shares is declined: 1 where the runs differ in length or pass the limit of places, 5 where a number is out of range
 unfoldable pub refusal : ℕ → List ℕ → ℕ → ℕ
@@ -50,5 +50,5 @@ at_front ks l = ks ++ drop (length ks) l
 unfoldable pub ranking_into : ℕ → List ℕ → List ℕ → RankedAnswer
 ranking_into q ws run =
     let a = refusal q ws (length run) in
-    let ks = if eqb a 0 then ranking q ws else [] in
+    let ks = when eqb a 0 then ranking q ws else [] in
     (a, length ks, at_front ks run)

@@ -3,7 +3,7 @@
 -- money among members." W is `sum ws`. Document 02, C-15, of "an exact tie of remainders": "From now on such a tie goes to the larger weight, and only then to the
 -- earlier in the list. This holds for allotments, allocations, calls and charges alike."
 use Rattle.std.specs.Prelude.{Bool, List, map, ℕ, ◌+◌, ◌-◌, ◌*◌, ◌/◌, ◌%◌, ltb, eqb, length, get_or}
-use Rattle.lists.specs.Lists.{if◌then◌else◌, sum, sum_to, one_if, count_to, tab, places, among}
+use Rattle.lists.specs.Lists.{when◌then◌else◌, sum, sum_to, one_if, count_to, tab, places, among}
 use Rattle.lists.specs.Order.{larger_first, earlier}
 
 -- "each share is floor(q × w / W)"
@@ -36,7 +36,7 @@ share_at q ws i = floor_at q ws i + one_if (ltb (places_ahead q ws i) (left q ws
 
 -- the shares, in the order of the weights; "If W = 0 every share is 0"
 unfoldable pub split : ℕ → List ℕ → List ℕ
-split q ws = tab (length ws) (λ i. if eqb (sum ws) 0 then 0 else share_at q ws i)
+split q ws = tab (length ws) (λ i. when eqb (sum ws) 0 then 0 else share_at q ws i)
 
 -- q split by f among those of the places below n that pass the test, in their order; 0 for the others
 unfoldable pub split_among : ℕ → (ℕ → Bool) → ℕ → (ℕ → ℕ) → List ℕ

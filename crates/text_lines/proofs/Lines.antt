@@ -10,7 +10,7 @@ use lib.Dec.{eqb}
 use lib.ListN.{length, get_or, take, drop, drop_of_length-le, length-take}
 use lib.Seq.{drop-cons}
 use borrow.Author.Tests.{lt-ltb, le-ltb, eq-eqb, ne_eqb, eqb-true, eqb-false}
-use Rattle.lists.specs.Lists.{if◌then◌else◌}
+use Rattle.lists.specs.Lists.{when◌then◌else◌}
 use Rattle.lists.proofs.Bools.{cases, lt-or-le}
 use Rattle.text_lines.specs.Lines.{length_to, line_size}
 
@@ -64,15 +64,15 @@ module _ (last : Bool) (s : List ℕ) (n : ℕ) (is : n ≡ length_to s) where
   unfolding line_size
   size-ended h k = rw (← is, le-ltb 65536 n h, lt-ltb n (length s) k) refl
 
-  left : n ≤ 65536 → length s ≤ n → (if last then length s else 0) ≡ line_size last s
+  left : n ≤ 65536 → length s ≤ n → (when last then length s else 0) ≡ line_size last s
   unfolding line_size
   left h k = rw (← is, le-ltb 65536 n h, le-ltb n (length s) k) refl
 
   pub size-last : n ≤ 65536 → length s ≤ n → last ≡ true → n ≡ line_size last s
-  size-last h k e = omega (arith, is, to-most s) ∙ sym (ap (λ (b : Bool). if b then length s else 0) e) ∙ left h k
+  size-last h k e = omega (arith, is, to-most s) ∙ sym (ap (λ (b : Bool). when b then length s else 0) e) ∙ left h k
 
   pub size_none : n ≤ 65536 → length s ≤ n → last ≡ false → 0 ≡ line_size last s
-  size_none h k e = sym (ap (λ (b : Bool). if b then length s else 0) e) ∙ left h k
+  size_none h k e = sym (ap (λ (b : Bool). when b then length s else 0) e) ∙ left h k
 
 pub size-most : (last : Bool) (s : List ℕ) → line_size last s ≤ length s
 size-most last s =

@@ -10,7 +10,7 @@ use lib.Dec.{eqb}
 use lib.ListN.{length, take, drop, length-append, length-take, length-drop}
 use lib.Seq.{take-append-le, drop-drop}
 use borrow.Author.Tests.{eqb-true, eqb-false}
-use Rattle.lists.specs.Lists.{if◌then◌else◌, any, Each}
+use Rattle.lists.specs.Lists.{when◌then◌else◌, any, Each}
 use Rattle.lists.proofs.Bools.{cases, either, lt-or-le}
 use Rattle.lists.proofs.Each.{each_append}
 use Rattle.input.specs.Strings.{bytes_of}
@@ -118,11 +118,11 @@ module _ (refused : List ℕ → Bool) where
 
   size-good : (last : Bool) (s : List ℕ) → refused (take (line_size last s) s) ≡ false → good_size refused last s ≡ line_size last s
   unfolding good_size
-  size-good last s e = ap (λ (b : Bool). if b then 0 else line_size last s) e
+  size-good last s e = ap (λ (b : Bool). when b then 0 else line_size last s) e
 
   size-refused : (last : Bool) (s : List ℕ) → refused (take (line_size last s) s) ≡ true → good_size refused last s ≡ 0
   unfolding good_size
-  size-refused last s e = ap (λ (b : Bool). if b then 0 else line_size last s) e
+  size-refused last s e = ap (λ (b : Bool). when b then 0 else line_size last s) e
 
   -- a line that is taken is not refused
   pub taken-good : (last : Bool) (s : List ℕ) → (good_size refused last s ≡ 0 → ⊥) → (good_size refused last s ≡ line_size last s) × (refused (take (good_size refused last s) s) ≡ false)

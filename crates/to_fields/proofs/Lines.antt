@@ -1,7 +1,7 @@
 -- The first line of a text: what it is read as. Assumes nothing.
 use Rattle.std.proofs.Common.{◌≡◌, ℕ, ◌<◌, ◌≤◌, Bool, true, List, [], take, sym, refl, ap, ◌∙◌, ap₂, le-ltb, lt-ltb}
 use mathlib.Core.Bool.{false≢true}
-use Rattle.lists.specs.Lists.{if◌then◌else◌}
+use Rattle.lists.specs.Lists.{when◌then◌else◌}
 use Rattle.lists.proofs.Bools.{cases}
 use Rattle.notation.specs.declared.Read.{Read}
 use Rattle.notation.specs.declared.Read.TheVariants.{Nothing, Called, Refused}
@@ -78,13 +78,13 @@ next-is room last s part size read r h is lends e l =
     record {
       size =
           l.size
-          ∙ ap₂ (λ (x : Read) (n : ℕ). if is_refused x then 0 else n) same is
+          ∙ ap₂ (λ (x : Read) (n : ℕ). when is_refused x then 0 else n) same is
           ∙ sym (size-there 64 room (good_size last) s h);
       field =
           l.field
           ∙ cases (is_refused read) (field_of read ≡ line_field (take r.size s))
-          (λ t. refused-field read t ∙ sym (ap (λ (n : ℕ). line_field (take n s)) (l.size ∙ ap (λ (b : Bool). if b then 0 else size) t) ∙ empty-field))
+          (λ t. refused-field read t ∙ sym (ap (λ (n : ℕ). line_field (take n s)) (l.size ∙ ap (λ (b : Bool). when b then 0 else size) t) ∙ empty-field))
           (λ t.
           ap field_of (e ∙ ap line_read lends)
-          ∙ sym (ap (λ (n : ℕ). line_field (take n s)) (l.size ∙ ap (λ (b : Bool). if b then 0 else size) t)));
+          ∙ sym (ap (λ (n : ℕ). line_field (take n s)) (l.size ∙ ap (λ (b : Bool). when b then 0 else size) t)));
     }

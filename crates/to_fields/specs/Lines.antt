@@ -1,6 +1,6 @@
 -- A text as lines, and the lines as the fields of their calls.
 use Rattle.std.specs.Prelude.{ℕ, Bool, List, take, nat_lt}
-use Rattle.lists.specs.Lists.{if◌then◌else◌}
+use Rattle.lists.specs.Lists.{when◌then◌else◌}
 use Rattle.forms.specs.Forms.{form_of}
 use Rattle.forms.specs.Encode.{encode_form}
 use Rattle.notation.specs.declared.Read.{Read}
@@ -12,7 +12,7 @@ use Rattle.text_lines.specs.Lines.{length_to}
 
 -- what a line is read as. Reason 11: "the line is longer than 65536 bytes"
 unfoldable pub line_read : List ℕ → Read
-line_read line = if nat_lt 65536 (length_to line) then Refused 65536 11 0 0 else read_line (take (length_to line) line)
+line_read line = when nat_lt 65536 (length_to line) then Refused 65536 11 0 0 else read_line (take (length_to line) line)
 
 -- the field of the call that was read; nothing where the line is empty or a comment, or is refused
 unfoldable pub field_of : Read → List ℕ

@@ -1,6 +1,6 @@
 -- The loop that writes lines as fields: what one part of it writes, and what is still to be written when the reading has stopped.
 use Rattle.std.specs.Prelude.{◌≡◌, ℕ, ◌+◌, ◌%◌, ◌^◌, ◌<◌, ◌≤◌, Bool, true, false, not, List, [], ◌∷◌, ◌++◌, length, take, ◌==◌}
-use Rattle.lists.specs.Lists.{if◌then◌else◌, joined, Bytes, Each}
+use Rattle.lists.specs.Lists.{when◌then◌else◌, joined, Bytes, Each}
 use Rattle.wire.specs.Asked.{asked}
 use Rattle.forms.specs.Forms.{form_of}
 use Rattle.forms.specs.Encode.{encode_form}
@@ -30,7 +30,7 @@ pub record NoCall (bytes : ℕ) (r : Line) : Type 0 where
 
 -- a line of so many bytes by what it is read as: one that is refused has no bytes
 pub record IsLine (bytes : ℕ) (read : Read) (r : Line) : Type 0 where
-  pub size : r.size ≡ (if is_refused read then 0 else bytes)
+  pub size : r.size ≡ (when is_refused read then 0 else bytes)
   pub field : encode_form (form_of (asked r.call)) ≡ field_of read
 
 -- the contract of `next_line`

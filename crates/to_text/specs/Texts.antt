@@ -1,13 +1,13 @@
 -- Fields as text: a call as its line in the notation, and what is no call as a comment, with its bytes in hexadecimal.
 use Rattle.std.specs.Prelude.{◌&&◌, List, [], ◌∷◌, ◌++◌, map, ℕ, suc, ◌+◌, ◌/◌, ◌%◌, ltb, eqb}
 use Rattle.std.proofs.Math.Option.{Option, none, some}
-use Rattle.lists.specs.Lists.{if◌then◌else◌, joined}
+use Rattle.lists.specs.Lists.{when◌then◌else◌, joined}
 use Rattle.machine.specs.Wire.{Call, decode}
 use Rattle.spelling.specs.Text.{line_of}
 
 -- 0 to 9, a to f
 unfoldable pub hex_digit : ℕ → ℕ
-hex_digit d = if ltb d 10 then 48 + d else 87 + d
+hex_digit d = when ltb d 10 then 48 + d else 87 + d
 
 -- a byte behind a space
 unfoldable pub hex_text : ℕ → List ℕ
@@ -15,7 +15,7 @@ hex_text b = 32 ∷ hex_digit (b / 16) ∷ hex_digit (b % 16) ∷ []
 
 -- a further line, "\n#", before every 32nd byte but the first
 unfoldable pub break_text : ℕ → List ℕ
-break_text i = if ltb 0 i && eqb (i % 32) 0 then 10 ∷ 35 ∷ [] else []
+break_text i = when ltb 0 i && eqb (i % 32) 0 then 10 ∷ 35 ∷ [] else []
 
 -- the bytes from byte i on
 unfoldable pub hex_from : ℕ → List ℕ → List ℕ

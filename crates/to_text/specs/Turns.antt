@@ -1,6 +1,6 @@
 -- The loop that writes fields as text: what one part of it writes, and what is still to be written when the input has ended.
 use Rattle.std.specs.Prelude.{◌≡◌, true, false, List, [], ◌∷◌, ◌++◌, ℕ, ◌-◌, ◌/◌, ◌≤◌, leb, ltb, length, take}
-use Rattle.lists.specs.Lists.{if◌then◌else◌, joined, Bytes}
+use Rattle.lists.specs.Lists.{when◌then◌else◌, joined, Bytes}
 use Rattle.machine.specs.Printed.{fields_in}
 use Rattle.input.specs.Fields.{front_size, whole, rest}
 use Rattle.feed.specs.Feeds.{Fed}
@@ -12,8 +12,8 @@ use Rattle.to_text.specs.Texts.{field_text, fields_text}
 -- the bytes of the first field, and 0 where it is not all there or its text may have no room: a text has at most 8,192 bytes and five for each byte of its field
 unfoldable pub size_within : ℕ → List ℕ → ℕ
 size_within room s =
-    if ltb room 8192 then 0
-    else if leb (front_size false s) ((room - 8192) / 5) then front_size false s
+    when ltb room 8192 then 0
+    else when leb (front_size false s) ((room - 8192) / 5) then front_size false s
     else 0
 
 -- the contract of `take_some`: the text of the first whole fields stands at the buffer's front. With 335,882 bytes there is room for the longest field

@@ -10,7 +10,7 @@ use lib.Dec.{eqb}
 use lib.ListN.{length, get_or, set, take, drop, length-set}
 use lib.Seq.{length-take-le, take-suc, take-length, drop-cons, get_or-set_same, get_or-set_other}
 use borrow.Author.Tests.{lt-ltb, eqb-true, eqb-false, eq-eqb, ne_eqb}
-use Rattle.lists.specs.Lists.{if◌then◌else◌, sum, count, one_if}
+use Rattle.lists.specs.Lists.{when◌then◌else◌, sum, count, one_if}
 use Rattle.lists.specs.Adding.{most16, add_at}
 use Rattle.lists.proofs.Adding.{length-added}
 use Rattle.lists.proofs.Bools.{cases, lt-or-le, same-choice, and_right}
@@ -190,7 +190,7 @@ pub record Lent (bids : List Bid) (rounds pools prices wins : List ℕ) : Type 0
 
 -- the turn of one bid on the roll
 abbrev sold_one : ℕ → ℕ → Bid → List Entry → List Entry
-sold_one round i b roll = if in_round round b then give_lowest b.pool (Sold i) b.won roll else roll
+sold_one round i b roll = when in_round round b then give_lowest b.pool (Sold i) b.won roll else roll
 
 sell-more : (round i : ℕ) (bs : List Bid) (b : Bid) (roll : List Entry) → sell round i (bs ++ (b ∷ [])) roll ≡ sold_one round (i + length bs) b (sell round i bs roll)
 unfolding sell
@@ -231,7 +231,7 @@ module _ (allocation noted buyers : List ℕ) (bids : List Bid) (few : length bi
         (λ s. rw (none-withdrawn i l s) (same-choice {A = ℕ} (eqb bid.round round) 0)))
 
     -- the bids from number i on, with this one first
-    here-won : (pool : ℕ) → won_where (in_auction round pool) (drop i bids) ≡ (if in_round round bid && eqb bid.pool pool then bid.won else 0) + won_where (in_auction round pool) (drop (suc i) bids)
+    here-won : (pool : ℕ) → won_where (in_auction round pool) (drop i bids) ≡ (when in_round round bid && eqb bid.pool pool then bid.won else 0) + won_where (in_auction round pool) (drop (suc i) bids)
     unfolding in_auction
     here-won pool = rw (drop-cons bids i no_bid l) (sum-keep-cons (in_auction round pool) (λ (x : Bid). x.won) bid (drop (suc i) bids))
 

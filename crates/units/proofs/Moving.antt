@@ -10,7 +10,7 @@ use native.Mathlib.Omega.{arith}
 use lib.Dec.{leb, ltb, eqb}
 use lib.ListN.{length, get_or, set}
 use borrow.Author.Tests.{leb-true, le-leb, lt-ltb, le-ltb, ltb-true, ne_eqb, eq-eqb, eqb-true, eqb-false}
-use Rattle.lists.specs.Lists.{if◌then◌else◌}
+use Rattle.lists.specs.Lists.{when◌then◌else◌}
 use Rattle.lists.proofs.Bools.{cases, lt-or-le, and_both}
 use Rattle.lists.proofs.Each.{Each, each_at, each_more}
 use Rattle.auction.specs.Price.{zero_price}
@@ -120,14 +120,14 @@ module _ (bids : List Bid) (m : ℕ) where
   unfolding move_units
   move-none zero owed roll e = refl
   move-none (suc t) owed roll e =
-      let stop : (if eqb owed 0 then none else next_from bids 0 roll none) ≡ none = cases (eqb owed 0) _ (λ z. rw z) (λ z. rw z e) in
+      let stop : (when eqb owed 0 then none else next_from bids 0 roll none) ≡ none = cases (eqb owed 0) _ (λ z. rw z) (λ z. rw z e) in
       ap (choice t owed roll) stop
 
   move-one : (t owed : ℕ) (roll : List Entry) (x : Found) → 0 < owed → next_from bids 0 roll none ≡ some x
       → move_units (suc t) bids m owed roll ≡ move_units t bids m (owed - (zero_price - price_of bids x.entry.state)) (set roll x.place (with_state x.entry (Moved m)))
   unfolding move_units
   move-one t owed roll x owes e =
-      let here : (if eqb owed 0 then none else next_from bids 0 roll none) ≡ some x = rw (ne_eqb owed 0 (omega arith)) e in
+      let here : (when eqb owed 0 then none else next_from bids 0 roll none) ≡ some x = rw (ne_eqb owed 0 (omega arith)) e in
       ap (choice t owed roll) here
 
 -- ---- the units that may move, and what is lent of the bids

@@ -9,7 +9,7 @@ use native.Mathlib.Omega.{arith}
 use lib.Dec.{ltb, eqb}
 use lib.ListN.{length, get_or}
 use borrow.Author.Tests.{lt-ltb, le-ltb, eqb-true, eqb-false, eq-eqb, ne_eqb}
-use Rattle.lists.specs.Lists.{if◌then◌else◌, sum, sum_to, one_if, count, keep, tab}
+use Rattle.lists.specs.Lists.{when◌then◌else◌, sum, sum_to, one_if, count, keep, tab}
 use Rattle.lists.proofs.Bools.{cases, eqb_same, same-choice, and_left, and_right, lt-or-le}
 use Rattle.lists.proofs.Sums.{sum_to-ext, sum_to-zero}
 use Rattle.lists.proofs.Counts.{any-count}
@@ -32,13 +32,13 @@ use Rattle.units.proofs.Kept.{Kept}
 
 -- ---- sums of what passes a test
 
-times-if : (b : Bool) (n : ℕ) → n * one_if b ≡ (if b then n else 0)
+times-if : (b : Bool) (n : ℕ) → n * one_if b ≡ (when b then n else 0)
 unfolding one_if
 times-if true n = mul-one n
 times-if false n = mul-zero n
 
 -- two tests that agree where there is something to count
-if-same : (a b : Bool) (n : ℕ) → (0 < n → a ≡ b) → (if a then n else 0) ≡ (if b then n else 0)
+if-same : (a b : Bool) (n : ℕ) → (0 < n → a ≡ b) → (when a then n else 0) ≡ (when b then n else 0)
 if-same a b zero same = same-choice {A = ℕ} a 0 ∙ sym (same-choice {A = ℕ} b 0)
 if-same a b (suc n) same = rw (same (omega arith))
 
@@ -48,7 +48,7 @@ sum-nothing n f h = sum_to-ext n f (λ k. 0) h ∙ sum_to-zero n
 -- one place of several
 sum_one : (n j : ℕ) (f : ℕ → ℕ) → j < n → ((k : ℕ) → k < n → (k ≡ j → ⊥) → f k ≡ 0) → sum_to n f ≡ f j
 sum_one n j f l others =
-    sum_to-ext n f (λ k. if eqb k j then f j else 0)
+    sum_to-ext n f (λ k. when eqb k j then f j else 0)
     (λ k h. cases (eqb k j) _ (λ t. rw (t, eqb-true k j t)) (λ t. rw t (others k h (eqb-false k j t))))
     ∙ sum_to-one n j (f j) l
 
@@ -58,12 +58,12 @@ module _ (u : Units) (bids : List Bid) (roll : List Entry) (kept : Kept u bids r
 
   -- how many entries pass a test, kind by kind
   by_parts : (t : Entry → Bool) → count t roll
-      ≡ sum_to 4 (λ p. if t (record { pool = p; state = Open }) then c p else 0)
-      + sum_to 32 (λ m. sum_to 4 (λ p. if t (record { pool = p; state = Allocated m (get_or u.allocation p 0) }) then c (allocated_at p m) else 0))
-      + sum_to 256 (λ b. if t (record { pool = (get_or bids b no_bid).pool; state = Sold b }) then c (sold_at b) else 0)
-      + sum_to 32 (λ m. sum_to 4 (λ p. if t (record { pool = p; state = Moved m }) then c (moved_at p m) else 0))
-      + sum_to 260 (λ i. if t (record { pool = i % 4; state = Torn (get_or u.noted i 0) }) then c (516 + i) else 0)
-      + sum_to 4 (λ p. if t (record { pool = p; state = Agreed (get_or u.buyers p 0) (get_or u.noted (260 + p) 0) }) then c (agreed_at p) else 0)
+      ≡ sum_to 4 (λ p. when t (record { pool = p; state = Open }) then c p else 0)
+      + sum_to 32 (λ m. sum_to 4 (λ p. when t (record { pool = p; state = Allocated m (get_or u.allocation p 0) }) then c (allocated_at p m) else 0))
+      + sum_to 256 (λ b. when t (record { pool = (get_or bids b no_bid).pool; state = Sold b }) then c (sold_at b) else 0)
+      + sum_to 32 (λ m. sum_to 4 (λ p. when t (record { pool = p; state = Moved m }) then c (moved_at p m) else 0))
+      + sum_to 260 (λ i. when t (record { pool = i % 4; state = Torn (get_or u.noted i 0) }) then c (516 + i) else 0)
+      + sum_to 4 (λ p. when t (record { pool = p; state = Agreed (get_or u.buyers p 0) (get_or u.noted (260 + p) 0) }) then c (agreed_at p) else 0)
   by_parts t =
       let a = u.allocation in
       let r = u.noted in
@@ -75,18 +75,18 @@ module _ (u : Units) (bids : List Bid) (roll : List Entry) (kept : Kept u bids r
         count-over t roll,
         kept.tied.counted.all (λ e. one_if (t e)),
         weigh-parts u.counts v,
-        sum_to-ext 4 (λ p. c p * v p) (λ p. if t (record { pool = p; state = Open }) then c p else 0) (λ p l. rw (unit-open a r y bids p l) (times-if _ (c p))),
+        sum_to-ext 4 (λ p. c p * v p) (λ p. when t (record { pool = p; state = Open }) then c p else 0) (λ p l. rw (unit-open a r y bids p l) (times-if _ (c p))),
         sum_to-ext 32 (λ m. sum_to 4 (λ p. c (allocated_at p m) * v (allocated_at p m)))
-            (λ m. sum_to 4 (λ p. if t (record { pool = p; state = Allocated m (get_or a p 0) }) then c (allocated_at p m) else 0))
+            (λ m. sum_to 4 (λ p. when t (record { pool = p; state = Allocated m (get_or a p 0) }) then c (allocated_at p m) else 0))
             (λ m lm. sum_to-ext 4 _ _ (λ p lp. rw (unit-allocated a r y bids p m lp lm) (times-if _ (c (allocated_at p m))))),
-        sum_to-ext 256 (λ b. c (sold_at b) * v (sold_at b)) (λ b. if t (record { pool = (get_or bids b no_bid).pool; state = Sold b }) then c (sold_at b) else 0)
+        sum_to-ext 256 (λ b. c (sold_at b) * v (sold_at b)) (λ b. when t (record { pool = (get_or bids b no_bid).pool; state = Sold b }) then c (sold_at b) else 0)
             (λ b l. rw (unit-sold a r y bids b l) (times-if _ (c (sold_at b)))),
         sum_to-ext 32 (λ m. sum_to 4 (λ p. c (moved_at p m) * v (moved_at p m)))
-            (λ m. sum_to 4 (λ p. if t (record { pool = p; state = Moved m }) then c (moved_at p m) else 0))
+            (λ m. sum_to 4 (λ p. when t (record { pool = p; state = Moved m }) then c (moved_at p m) else 0))
             (λ m lm. sum_to-ext 4 _ _ (λ p lp. rw (unit-moved a r y bids p m lp lm) (times-if _ (c (moved_at p m))))),
-        sum_to-ext 260 (λ i. c (516 + i) * v (516 + i)) (λ i. if t (record { pool = i % 4; state = Torn (get_or r i 0) }) then c (516 + i) else 0)
+        sum_to-ext 260 (λ i. c (516 + i) * v (516 + i)) (λ i. when t (record { pool = i % 4; state = Torn (get_or r i 0) }) then c (516 + i) else 0)
             (λ i l. rw (unit-torn a r y bids i l) (times-if _ (c (516 + i)))),
-        sum_to-ext 4 (λ p. c (agreed_at p) * v (agreed_at p)) (λ p. if t (record { pool = p; state = Agreed (get_or y p 0) (get_or r (260 + p) 0) }) then c (agreed_at p) else 0)
+        sum_to-ext 4 (λ p. c (agreed_at p) * v (agreed_at p)) (λ p. when t (record { pool = p; state = Agreed (get_or y p 0) (get_or r (260 + p) 0) }) then c (agreed_at p) else 0)
             (λ p l. rw (unit-agreed a r y bids p l) (times-if _ (c (agreed_at p)))),
       )
 
@@ -94,33 +94,33 @@ module _ (u : Units) (bids : List Bid) (roll : List Entry) (kept : Kept u bids r
 
   module _ (pools : List ℕ) (lent : (b : ℕ) → b < 256 → 0 < c (sold_at b) → get_or pools b 0 ≡ (get_or bids b no_bid).pool) (pool : ℕ) (l : pool < 4) where
     -- one pool of four
-    row : (g : ℕ → ℕ) (b : Bool) → sum_to 4 (λ p. if eqb p pool && b then g p else 0) ≡ (if b then g pool else 0)
+    row : (g : ℕ → ℕ) (b : Bool) → sum_to 4 (λ p. when eqb p pool && b then g p else 0) ≡ (when b then g pool else 0)
     row g b =
-        sum_one 4 pool (λ p. if eqb p pool && b then g p else 0) l (λ p lp a. rw (ne_eqb p pool a)) ∙ rw (eq-eqb pool pool refl)
+        sum_one 4 pool (λ p. when eqb p pool && b then g p else 0) l (λ p lp a. rw (ne_eqb p pool a)) ∙ rw (eq-eqb pool pool refl)
 
     -- a number of rows of four
-    rows : (n first : ℕ) (b : Bool) → sum_to n (λ m. sum_to 4 (λ p. if eqb p pool && b then c (first + (4 * m + p)) else 0)) ≡ (if b then column u.counts (first + pool) n else 0)
+    rows : (n first : ℕ) (b : Bool) → sum_to n (λ m. sum_to 4 (λ p. when eqb p pool && b then c (first + (4 * m + p)) else 0)) ≡ (when b then column u.counts (first + pool) n else 0)
     unfolding column
     rows n first true =
         sum_to-ext n _ _
         (λ m lm. row (λ p. c (first + (4 * m + p))) true ∙ (let e : first + (4 * m + pool) ≡ first + pool + 4 * m = omega arith in ap c e))
     rows n first false = sum-nothing n _ (λ m lm. row (λ p. c (first + (4 * m + p))) false)
 
-    open-part : (b : Bool) → sum_to 4 (λ p. if eqb p pool && b then c p else 0) ≡ (if b then column u.counts pool 1 else 0)
+    open-part : (b : Bool) → sum_to 4 (λ p. when eqb p pool && b then c p else 0) ≡ (when b then column u.counts pool 1 else 0)
     unfolding column sum_to
     open-part true = row c true ∙ (let e : pool ≡ pool + 4 * 0 = omega arith in omega (arith, ap c e))
     open-part false = row c false
 
-    sold-part : (b : Bool) → sum_to 256 (λ i. if eqb (get_or bids i no_bid).pool pool && b then c (sold_at i) else 0) ≡ (if b then sold_in u.counts pools pool else 0)
+    sold-part : (b : Bool) → sum_to 256 (λ i. when eqb (get_or bids i no_bid).pool pool && b then c (sold_at i) else 0) ≡ (when b then sold_in u.counts pools pool else 0)
     unfolding sold_in
     sold-part true =
         sum_to-ext 256 _ _
         (λ i li. if-same (eqb (get_or bids i no_bid).pool pool && true) (eqb (get_or pools i 0) pool) (c (sold_at i)) (λ some. and-true (eqb (get_or bids i no_bid).pool pool) ∙ rw (lent i li some)))
     sold-part false = sum-nothing 256 _ (λ i li. rw (and-false (eqb (get_or bids i no_bid).pool pool)))
 
-    torn-part : (b : Bool) → sum_to 260 (λ i. if eqb (i % 4) pool && b then c (516 + i) else 0) ≡ (if b then column u.counts (516 + pool) 65 else 0)
+    torn-part : (b : Bool) → sum_to 260 (λ i. when eqb (i % 4) pool && b then c (516 + i) else 0) ≡ (when b then column u.counts (516 + pool) 65 else 0)
     torn-part b =
-        sum_rows 65 (λ i. if eqb (i % 4) pool && b then c (516 + i) else 0)
+        sum_rows 65 (λ i. when eqb (i % 4) pool && b then c (516 + i) else 0)
         ∙ sum_to-ext 65 _ _ (λ r lr. sum_to-ext 4 _ _ (λ p lp. let e : (4 * r + p) % 4 ≡ p = omega arith in rw e))
         ∙ rows 65 516 b
 
@@ -130,9 +130,9 @@ module _ (u : Units) (bids : List Bid) (roll : List Entry) (kept : Kept u bids r
         by_parts (λ e. eqb e.pool pool && eqb (kind e.state) k)
         ∙ rw (open-part (eqb 0 k), rows 32 4 (eqb 2 k), sold-part (eqb 1 k), rows 32 388 (eqb 3 k), torn-part (eqb 4 k), row (λ p. c (agreed_at p)) (eqb 1 k)) (go k)
       where
-        go : (k : ℕ) → (if eqb 0 k then column u.counts pool 1 else 0) + (if eqb 2 k then column u.counts (4 + pool) 32 else 0) + (if eqb 1 k then sold_in u.counts pools pool else 0)
-            + (if eqb 3 k then column u.counts (388 + pool) 32 else 0) + (if eqb 4 k then column u.counts (516 + pool) 65 else 0)
-            + (if eqb 1 k then c (agreed_at pool) else 0) ≡ kind_of u pools pool k
+        go : (k : ℕ) → (when eqb 0 k then column u.counts pool 1 else 0) + (when eqb 2 k then column u.counts (4 + pool) 32 else 0) + (when eqb 1 k then sold_in u.counts pools pool else 0)
+            + (when eqb 3 k then column u.counts (388 + pool) 32 else 0) + (when eqb 4 k then column u.counts (516 + pool) 65 else 0)
+            + (when eqb 1 k then c (agreed_at pool) else 0) ≡ kind_of u pools pool k
         go zero = omega arith
         go (suc zero) = rw (lt-ltb pool 4 l) (omega arith)
         go (suc (suc zero)) = omega arith
@@ -153,14 +153,14 @@ module _ (u : Units) (bids : List Bid) (roll : List Entry) (kept : Kept u bids r
       (m pool price : ℕ) (lm : m < 32) (lp : pool < 4) where
     -- one member and pool
     held_one : (g : ℕ → ℕ → ℕ) (b : ℕ → Bool)
-        → sum_to 32 (λ a. sum_to 4 (λ p. if eqb p pool && eqb a m && b p then g p a else 0)) ≡ (if b pool then g pool m else 0)
+        → sum_to 32 (λ a. sum_to 4 (λ p. when eqb p pool && eqb a m && b p then g p a else 0)) ≡ (when b pool then g pool m else 0)
     held_one g b =
-        sum_one 32 m (λ a. sum_to 4 (λ p. if eqb p pool && eqb a m && b p then g p a else 0)) lm
+        sum_one 32 m (λ a. sum_to 4 (λ p. when eqb p pool && eqb a m && b p then g p a else 0)) lm
         (λ a la no. sum-nothing 4 _ (λ p l. rw (ne_eqb a m no, and-false (eqb p pool))))
-        ∙ sum_one 4 pool (λ p. if eqb p pool && eqb m m && b p then g p m else 0) lp (λ p l no. rw (ne_eqb p pool no))
+        ∙ sum_one 4 pool (λ p. when eqb p pool && eqb m m && b p then g p m else 0) lp (λ p l no. rw (ne_eqb p pool no))
         ∙ rw (eq-eqb pool pool refl, eq-eqb m m refl)
 
-    sold-to : sum_to 256 (λ b. if eqb (get_or bids b no_bid).pool pool && eqb (get_or bids b no_bid).member m && eqb (get_or bids b no_bid).price price then c (sold_at b) else 0)
+    sold-to : sum_to 256 (λ b. when eqb (get_or bids b no_bid).pool pool && eqb (get_or bids b no_bid).member m && eqb (get_or bids b no_bid).price price then c (sold_at b) else 0)
         ≡ sold_for u.counts members pools prices' m pool price
     unfolding sold_for
     sold-to =
@@ -180,23 +180,23 @@ module _ (u : Units) (bids : List Bid) (roll : List Entry) (kept : Kept u bids r
         (sym (by_parts (λ e. eqb e.pool pool && held_by bids m e.state && eqb (price_of bids e.state) price)
         ∙ omega (
           arith,
-          sum-nothing 4 (λ p. if eqb p pool && false && eqb zero_price price then c p else 0) (λ p l. rw (and-false (eqb p pool))),
+          sum-nothing 4 (λ p. when eqb p pool && false && eqb zero_price price then c p else 0) (λ p l. rw (and-false (eqb p pool))),
           held_one (λ p x. c (allocated_at p x)) (λ p. eqb (get_or a p 0) price),
           sold-to,
           held_one (λ p x. c (moved_at p x)) (λ p. eqb zero_price price),
           same-price,
-          sum-nothing 260 (λ i. if eqb (i % 4) pool && false && eqb (get_or u.noted i 0) price then c (516 + i) else 0) (λ i l. rw (and-false (eqb (i % 4) pool))),
+          sum-nothing 260 (λ i. when eqb (i % 4) pool && false && eqb (get_or u.noted i 0) price then c (516 + i) else 0) (λ i l. rw (and-false (eqb (i % 4) pool))),
           agreed-one,
         )))
       where
-        agreed-one : sum_to 4 (λ p. if eqb p pool && eqb (get_or u.buyers p 0) m && eqb (get_or u.noted (260 + p) 0) price then c (agreed_at p) else 0)
-            ≡ (if eqb (get_or u.buyers pool 0) m && eqb (get_or u.noted (260 + pool) 0) price then c (agreed_at pool) else 0)
+        agreed-one : sum_to 4 (λ p. when eqb p pool && eqb (get_or u.buyers p 0) m && eqb (get_or u.noted (260 + p) 0) price then c (agreed_at p) else 0)
+            ≡ (when eqb (get_or u.buyers pool 0) m && eqb (get_or u.noted (260 + pool) 0) price then c (agreed_at pool) else 0)
         agreed-one =
-            sum_one 4 pool (λ p. if eqb p pool && eqb (get_or u.buyers p 0) m && eqb (get_or u.noted (260 + p) 0) price then c (agreed_at p) else 0) lp
+            sum_one 4 pool (λ p. when eqb p pool && eqb (get_or u.buyers p 0) m && eqb (get_or u.noted (260 + p) 0) price then c (agreed_at p) else 0) lp
             (λ p l no. rw (ne_eqb p pool no))
             ∙ rw (eq-eqb pool pool refl)
 
-        same-price : (if eqb zero_price price then c (moved_at pool m) else 0) ≡ (if eqb price zero_price then c (moved_at pool m) else 0)
+        same-price : (when eqb zero_price price then c (moved_at pool m) else 0) ≡ (when eqb price zero_price then c (moved_at pool m) else 0)
         same-price = rw (eqb_same zero_price price price zero_price (λ e. sym e) (λ e. sym e))
 
   -- ---- units allocated or moved to a member
@@ -208,17 +208,17 @@ module _ (u : Units) (bids : List Bid) (roll : List Entry) (kept : Kept u bids r
       (by_parts (λ e. passed_to m e.state)
       ∙ omega (
         arith,
-        sum-nothing 4 (λ p. if false then c p else 0) (λ p l. refl),
+        sum-nothing 4 (λ p. when false then c p else 0) (λ p l. refl),
         one (λ p a. c (allocated_at p a)),
-        sum-nothing 256 (λ b. if false then c (sold_at b) else 0) (λ b l. refl),
+        sum-nothing 256 (λ b. when false then c (sold_at b) else 0) (λ b l. refl),
         one (λ p a. c (moved_at p a)),
-        sum-nothing 260 (λ i. if false then c (516 + i) else 0) (λ i l. refl),
-        sum-nothing 4 (λ p. if false then c (agreed_at p) else 0) (λ p l. refl),
+        sum-nothing 260 (λ i. when false then c (516 + i) else 0) (λ i l. refl),
+        sum-nothing 4 (λ p. when false then c (agreed_at p) else 0) (λ p l. refl),
       ))
     where
-      one : (g : ℕ → ℕ → ℕ) → sum_to 32 (λ a. sum_to 4 (λ p. if eqb a m then g p a else 0)) ≡ sum_to 4 (λ p. g p m)
+      one : (g : ℕ → ℕ → ℕ) → sum_to 32 (λ a. sum_to 4 (λ p. when eqb a m then g p a else 0)) ≡ sum_to 4 (λ p. g p m)
       one g =
-          sum_one 32 m (λ a. sum_to 4 (λ p. if eqb a m then g p a else 0)) lm (λ a la no. sum-nothing 4 _ (λ p l. rw (ne_eqb a m no)))
+          sum_one 32 m (λ a. sum_to 4 (λ p. when eqb a m then g p a else 0)) lm (λ a la no. sum-nothing 4 _ (λ p l. rw (ne_eqb a m no)))
           ∙ sum_to-ext 4 _ _ (λ p l. rw (eq-eqb m m refl))
 
   -- ---- open units in any pool
@@ -229,11 +229,11 @@ module _ (u : Units) (bids : List Bid) (roll : List Entry) (kept : Kept u bids r
       by_parts is_open
       ∙ omega (
         arith,
-        sum-nothing 32 (λ m. sum_to 4 (λ p. if false then c (allocated_at p m) else 0)) (λ m l. sum-nothing 4 _ (λ p lp. refl)),
-        sum-nothing 256 (λ b. if false then c (sold_at b) else 0) (λ b l. refl),
-        sum-nothing 32 (λ m. sum_to 4 (λ p. if false then c (moved_at p m) else 0)) (λ m l. sum-nothing 4 _ (λ p lp. refl)),
-        sum-nothing 260 (λ i. if false then c (516 + i) else 0) (λ i l. refl),
-        sum-nothing 4 (λ p. if false then c (agreed_at p) else 0) (λ p l. refl),
+        sum-nothing 32 (λ m. sum_to 4 (λ p. when false then c (allocated_at p m) else 0)) (λ m l. sum-nothing 4 _ (λ p lp. refl)),
+        sum-nothing 256 (λ b. when false then c (sold_at b) else 0) (λ b l. refl),
+        sum-nothing 32 (λ m. sum_to 4 (λ p. when false then c (moved_at p m) else 0)) (λ m l. sum-nothing 4 _ (λ p lp. refl)),
+        sum-nothing 260 (λ i. when false then c (516 + i) else 0) (λ i l. refl),
+        sum-nothing 4 (λ p. when false then c (agreed_at p) else 0) (λ p l. refl),
       )
 
   -- ---- sold by agreement
@@ -244,16 +244,16 @@ module _ (u : Units) (bids : List Bid) (roll : List Entry) (kept : Kept u bids r
       by_parts (agreed_in pool)
       ∙ omega (
         arith,
-        sum-nothing 4 (λ p. if false then c p else 0) (λ p l. refl),
-        sum-nothing 32 (λ m. sum_to 4 (λ p. if false then c (allocated_at p m) else 0)) (λ m l. sum-nothing 4 _ (λ p lp. refl)),
-        sum-nothing 256 (λ b. if false then c (sold_at b) else 0) (λ b l. refl),
-        sum-nothing 32 (λ m. sum_to 4 (λ p. if false then c (moved_at p m) else 0)) (λ m l. sum-nothing 4 _ (λ p lp. refl)),
-        sum-nothing 260 (λ i. if false then c (516 + i) else 0) (λ i l. refl),
+        sum-nothing 4 (λ p. when false then c p else 0) (λ p l. refl),
+        sum-nothing 32 (λ m. sum_to 4 (λ p. when false then c (allocated_at p m) else 0)) (λ m l. sum-nothing 4 _ (λ p lp. refl)),
+        sum-nothing 256 (λ b. when false then c (sold_at b) else 0) (λ b l. refl),
+        sum-nothing 32 (λ m. sum_to 4 (λ p. when false then c (moved_at p m) else 0)) (λ m l. sum-nothing 4 _ (λ p lp. refl)),
+        sum-nothing 260 (λ i. when false then c (516 + i) else 0) (λ i l. refl),
         one,
       )
     where
-      one : sum_to 4 (λ p. if eqb p pool then c (agreed_at p) else 0) ≡ c (agreed_at pool)
-      one = sum_one 4 pool (λ p. if eqb p pool then c (agreed_at p) else 0) l (λ p lp no. rw (ne_eqb p pool no)) ∙ rw (eq-eqb pool pool refl)
+      one : sum_to 4 (λ p. when eqb p pool then c (agreed_at p) else 0) ≡ c (agreed_at pool)
+      one = sum_one 4 pool (λ p. when eqb p pool then c (agreed_at p) else 0) l (λ p lp no. rw (ne_eqb p pool no)) ∙ rw (eq-eqb pool pool refl)
 
   pub agreed-shown : (pool : ℕ) → pool < 4 → sold_by_agreement roll pool ≡ ltb 0 (c (agreed_at pool))
   unfolding sold_by_agreement

@@ -10,7 +10,7 @@ use lib.Dec.{ltb, eqb}
 use lib.ListN.{length, get_or, set, length-set}
 use lib.Seq.{get_or-set_same, get_or-set_other}
 use borrow.Author.Tests.{lt-ltb, le-ltb, eqb-true, eqb-false, eq-eqb, ne_eqb}
-use Rattle.lists.specs.Lists.{if◌then◌else◌}
+use Rattle.lists.specs.Lists.{when◌then◌else◌}
 use Rattle.lists.proofs.Bools.{cases, either, lt-or-le}
 use Rattle.lists.proofs.Each.{Each, set_cases}
 use Rattle.auction.specs.Price.{zero_price, price_limit}
@@ -28,7 +28,7 @@ use Rattle.units.proofs.Kept.{unit_of, Kept, low-labels, labels-low, open-alone,
 
 -- the prices noted after it
 abbrev pub notes : List ℕ → ℕ → ℕ → ℕ → List ℕ
-notes noted n i price = if eqb n 0 then noted else set noted i price
+notes noted n i price = when eqb n 0 then noted else set noted i price
 
 price-torn : (bids : List Bid) (price : ℕ) → price_of bids (Torn price) ≡ price
 unfolding price_of

@@ -8,7 +8,7 @@ use lib.Dec.{leb, eqb}
 use lib.ListN.{length, get_or, set, length-set}
 use lib.Seq.{get_or-set_same, get_or-set_other}
 use borrow.Author.Tests.{leb-true, le-leb, eqb-true, eqb-false, eq-eqb, ne_eqb}
-use Rattle.lists.specs.Lists.{if◌then◌else◌, one_if}
+use Rattle.lists.specs.Lists.{when◌then◌else◌, one_if}
 use Rattle.lists.specs.Adding.{most32}
 use Rattle.lists.proofs.Bools.{cases}
 use Rattle.lists.proofs.Sums.{sum-scaled}
@@ -25,7 +25,7 @@ unfoldable pub in_pool : ℕ → Entry → ℕ
 in_pool pool e = one_if (eqb e.pool pool)
 
 unfoldable pub price_in : List Bid → ℕ → Entry → ℕ
-price_in bids pool e = if eqb e.pool pool then price_of bids e.state else 0
+price_in bids pool e = when eqb e.pool pool then price_of bids e.state else 0
 
 module _ (bids : List Bid) (pool : ℕ) (e : Entry) where
   pub in-it : e.pool ≡ pool → (in_pool pool e ≡ 1) × (price_in bids pool e ≡ price_of bids e.state)

@@ -1,6 +1,6 @@
 -- MOVE by groups: the units of one place that have their turn, moved at once. Units move from the 384 places 4 to 387, which are numbered from 0 here.
 use Rattle.std.specs.Prelude.{true, false, ◌||◌, List, ℕ, zero, suc, ◌+◌, ◌-◌, ◌*◌, ◌%◌, min, leb, ltb, eqb, get_or, set}
-use Rattle.lists.specs.Lists.{if◌then◌else◌}
+use Rattle.lists.specs.Lists.{when◌then◌else◌}
 use Rattle.auction.specs.Price.{zero_price}
 use Rattle.turns.specs.Keys.{no_key, live_keys, least_key, key_place, key_price, needed}
 use Rattle.units.specs.Places.{moved_at}
@@ -9,7 +9,7 @@ use Rattle.units.specs.declared.Units.{Units}
 
 -- the pool of the units at place j; the pools of the bids are given
 unfoldable pub pool_at : List ℕ → ℕ → ℕ
-pool_at pools j = if ltb j 128 then j % 4 else min (get_or pools (j - 128) 0) 3
+pool_at pools j = when ltb j 128 then j % 4 else min (get_or pools (j - 128) 0) 3
 
 -- ---- the turns
 

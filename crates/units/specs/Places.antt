@@ -1,6 +1,6 @@
 -- The units of a case are counted at 780 places, each for units that are alike, and what it means that they are the counts of a roll.
 use Rattle.std.specs.Prelude.{◌≡◌, List, map, ℕ, ◌+◌, ◌-◌, ◌*◌, ◌/◌, ◌%◌, ltb, get_or}
-use Rattle.lists.specs.Lists.{if◌then◌else◌, sum, sum_to}
+use Rattle.lists.specs.Lists.{when◌then◌else◌, sum, sum_to}
 use Rattle.machine.specs.Roll.{Entry, Open, Sold, Allocated, Moved, Torn, Agreed, Bid, no_bid}
 
 -- ---- the places. What belongs to member m in pool p stands 4 × m + p places behind the first of its kind
@@ -34,11 +34,11 @@ agreed_at pool = 776 + pool
 -- sold by agreement, and the bids
 unfoldable pub unit_at : List ℕ → List ℕ → List ℕ → List Bid → ℕ → Entry
 unit_at allocation noted buyers bids k =
-    if ltb k 4 then record { pool = k; state = Open }
-    else if ltb k 132 then record { pool = k % 4; state = Allocated ((k - 4) / 4) (get_or allocation (k % 4) 0) }
-    else if ltb k 388 then record { pool = (get_or bids (k - 132) no_bid).pool; state = Sold (k - 132) }
-    else if ltb k 516 then record { pool = k % 4; state = Moved ((k - 388) / 4) }
-    else if ltb k 776 then record { pool = k % 4; state = Torn (get_or noted (k - 516) 0) }
+    when ltb k 4 then record { pool = k; state = Open }
+    else when ltb k 132 then record { pool = k % 4; state = Allocated ((k - 4) / 4) (get_or allocation (k % 4) 0) }
+    else when ltb k 388 then record { pool = (get_or bids (k - 132) no_bid).pool; state = Sold (k - 132) }
+    else when ltb k 516 then record { pool = k % 4; state = Moved ((k - 388) / 4) }
+    else when ltb k 776 then record { pool = k % 4; state = Torn (get_or noted (k - 516) 0) }
     else record { pool = k % 4; state = Agreed (get_or buyers (k % 4) 0) (get_or noted (k - 516) 0) }
 
 -- ---- sums over all units

@@ -1,6 +1,6 @@
 -- The units after each call that changes them, over the program's struct; MOVE is in `Groups`.
 use Rattle.std.specs.Prelude.{List, [], ◌∷◌, ℕ, zero, suc, ◌+◌, ◌-◌, ◌*◌, ◌%◌, min, ltb, eqb, get_or, set, replicate}
-use Rattle.lists.specs.Lists.{if◌then◌else◌}
+use Rattle.lists.specs.Lists.{when◌then◌else◌}
 use Rattle.lists.specs.Adding.{most16, most32, add_at}
 use Rattle.sets.specs.Set.{members}
 use Rattle.auction.specs.Price.{zero_price}
@@ -28,14 +28,14 @@ with_counts u counts sums = record { counts = counts; sums = sums; allocation = 
 
 -- POOL: n units of the pool put up; unchanged where no case has such a pool
 unfoldable pub put_up_units : Units → ℕ → ℕ → Units
-put_up_units u pool n = if ltb pool 4 then with_counts u (add_at most16 u.counts pool n) u.sums else u
+put_up_units u pool n = when ltb pool 4 then with_counts u (add_at most16 u.counts pool n) u.sums else u
 
 -- ---- CLOSE: the first n bids, of which those of this round get the units that they won from the open ones of their pool
 
 module _ (round : ℕ) (rounds pools won : List ℕ) where
   -- what a bid of this round won, and its pool
   abbrev pub win_of : ℕ → ℕ
-  win_of b = if eqb (get_or rounds b 0) round then get_or won b 0 else 0
+  win_of b = when eqb (get_or rounds b 0) round then get_or won b 0 else 0
 
   abbrev pub pool_of : ℕ → ℕ
   pool_of b = min (get_or pools b 0) 3
@@ -64,7 +64,7 @@ shared_sums pool price shares (m ∷ ms) sums = shared_sums pool price shares ms
 
 unfoldable pub allocate_units : Units → ℕ → ℕ → ℕ → List ℕ → Units
 allocate_units u members' pool price shares =
-    if ltb pool 4 then
+    when ltb pool 4 then
     record {
       counts = shared_counts pool shares (members members') u.counts;
       sums = shared_sums pool price shares (members members') u.sums;
@@ -84,13 +84,13 @@ noted_at u k to old price =
       counts = transferred u.counts k to n;
       sums = repriced u.sums (k % 4) n old price;
       allocation = u.allocation;
-      noted = if eqb n 0 then u.noted else set u.noted (to - 516) price;
+      noted = when eqb n 0 then u.noted else set u.noted (to - 516) price;
       buyers = u.buyers;
     }
 
 -- TEAR: every open unit of the pool
 unfoldable pub tear_units : Units → ℕ → ℕ → Units
-tear_units u pool price = if ltb pool 4 then noted_at u pool (torn_at pool) zero_price price else u
+tear_units u pool price = when ltb pool 4 then noted_at u pool (torn_at pool) zero_price price else u
 
 -- MISS: every unit allocated or moved to the member, in the first n pools
 unfoldable pub missed_to : ℕ → ℕ → ℕ → Units → Units
@@ -100,11 +100,11 @@ missed_to m price (suc pool) u =
     noted_at (noted_at v (allocated_at pool m) (missed_at pool m) (get_or v.allocation pool 0) price) (moved_at pool m) (missed_moved_at pool m) zero_price price
 
 unfoldable pub miss_units : Units → ℕ → ℕ → Units
-miss_units u m price = if ltb m 32 then missed_to m price 4 u else u
+miss_units u m price = when ltb m 32 then missed_to m price 4 u else u
 
 -- SALE: every open unit of the pool sold to the member
 abbrev pub with_buyer : Units → ℕ → ℕ → Units
 with_buyer u pool m = record { counts = u.counts; sums = u.sums; allocation = u.allocation; noted = u.noted; buyers = set u.buyers pool m }
 
 unfoldable pub sale_units : Units → ℕ → ℕ → ℕ → Units
-sale_units u pool m price = if ltb pool 4 then noted_at (with_buyer u pool m) pool (agreed_at pool) zero_price price else u
+sale_units u pool m price = when ltb pool 4 then noted_at (with_buyer u pool m) pool (agreed_at pool) zero_price price else u

@@ -9,7 +9,7 @@ use native.Mathlib.Omega.{arith}
 use lib.Dec.{leb, ltb, eqb}
 use lib.ListN.{get_or}
 use borrow.Author.Tests.{eq-eqb, ne_eqb, eqb-true, lt-ltb, le-ltb, le-leb, lt-leb, leb-true}
-use Rattle.lists.specs.Lists.{if◌then◌else◌, sum, sum_to, one_if, tab, places, keep}
+use Rattle.lists.specs.Lists.{when◌then◌else◌, sum, sum_to, one_if, tab, places, keep}
 use Rattle.lists.proofs.Bools.{lt-or-le, order-of, and_left, and_both}
 use Rattle.lists.proofs.Sums.{sum_to-ext, sum_to-zero, sum_to-term, sum_to-tight}
 use Rattle.lists.proofs.Places.{length-tab, sum-tab, get_or-tab, take-tab, tab-of}
@@ -25,18 +25,18 @@ use Rattle.waterfall.proofs.Layers.{charged-length, charge-at}
 share-whole : (n : ℕ) (who : ℕ → Bool) (q : ℕ) (f : ℕ → ℕ) → q ≡ sum (map f (keep who (places n))) → (i : ℕ) → i < n → who i ≡ true
     → get_or (split_among n who q f) i 0 ≡ f i
 share-whole n who q f e i l on =
-    sym (ap (λ b. if b then share i else 0) on)
-    ∙ sum_to-tight n (λ k. if who k then share k else 0) (λ k. if who k then f k else 0)
+    sym (ap (λ b. when b then share i else 0) on)
+    ∙ sum_to-tight n (λ k. when who k then share k else 0) (λ k. when who k then f k else 0)
     (λ k below. le k (who k))
     (sym (sum_kept n who share (λ k. k)) ∙ shares-kept-sum n who q f (omega arith) ∙ e ∙ sum_kept n who f (λ k. k))
     i
     l
-    ∙ ap (λ b. if b then f i else 0) on
+    ∙ ap (λ b. when b then f i else 0) on
   where
     share : ℕ → ℕ
     share k = get_or (split_among n who q f) k 0
 
-    le : (k : ℕ) (b : Bool) → (if b then share k else 0) ≤ (if b then f k else 0)
+    le : (k : ℕ) (b : Bool) → (when b then share k else 0) ≤ (when b then f k else 0)
     le k true = share-le n who q f (omega arith) k
     le k false = omega arith
 
@@ -62,7 +62,7 @@ module _ (set : ℕ) (rank holds : ℕ → ℕ) where
   unfolding held_by members
   held-places who = ap (λ ms. sum (map holds ms)) (sym (keep-and (member set) (λ m. who (rank m)) (places 32)))
 
-  pub held-adds : (who : ℕ → Bool) → held_by set rank holds who ≡ sum (map (λ m. if who (rank m) then holds m else 0) (members set))
+  pub held-adds : (who : ℕ → Bool) → held_by set rank holds who ≡ sum (map (λ m. when who (rank m) then holds m else 0) (members set))
   unfolding held_by
   held-adds who = sum-keep (λ m. who (rank m)) holds (members set)
 
@@ -92,7 +92,7 @@ module _ (set : ℕ) (rank holds : ℕ → ℕ) where
       ∙ sum_to-ext 32 _ (λ m. 0) (λ m l. go m l (member set m) refl)
       ∙ sum_to-zero 32
     where
-      go : (m : ℕ) → m < 32 → (b : Bool) → member set m ≡ b → (if b && leb n (rank m) then holds m else 0) ≡ 0
+      go : (m : ℕ) → m < 32 → (b : Bool) → member set m ≡ b → (when b && leb n (rank m) then holds m else 0) ≡ 0
       go m l true on = rw (lt-leb n (rank m) (below m l on))
       go m l false on = refl
 
@@ -241,7 +241,7 @@ module _ (set : ℕ) (rank rank' holds holds' : ℕ → ℕ) (amount : ℕ) (sam
   held-ext : (who : ℕ → Bool) → held_by set rank holds who ≡ held_by set rank' holds' who
   held-ext who =
       held-adds set rank holds who
-      ∙ sum-members-ext set (λ m. if who (rank m) then holds m else 0) (λ m. if who (rank' m) then holds' m else 0)
+      ∙ sum-members-ext set (λ m. when who (rank m) then holds m else 0) (λ m. when who (rank' m) then holds' m else 0)
       (λ m l on. rw (same_rank m l on, same-holds m l on))
       ∙ sym (held-adds set rank' holds' who)
 

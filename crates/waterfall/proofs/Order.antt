@@ -9,7 +9,7 @@ use native.Mathlib.Nat.{mul-le-mul_right, mul-lt-mul_of_pos_right, lt_of_mul-lt-
 use native.Mathlib.Omega.{arith}
 use lib.ListN.{length}
 use borrow.Author.Tests.{eq-eqb, ne_eqb, lt-ltb, le-ltb, leb-false}
-use Rattle.lists.specs.Lists.{if◌then◌else◌}
+use Rattle.lists.specs.Lists.{when◌then◌else◌}
 use Rattle.lists.proofs.Bools.{order-of}
 use Rattle.waterfall.specs.Seniority.{Standing, Fraction, over, in_a, keys_a, keys_b, higher, first_higher, senior}
 
@@ -113,7 +113,7 @@ unfolding senior keys first_higher
 senior-keys s t = go (in_a s) (in_a t)
   where
     go : (a b : Bool)
-        → (if a then (if b then first_higher (keys_a s) (keys_a t) else true) else (if b then false else first_higher (keys_b s) (keys_b t)))
+        → (when a then (when b then first_higher (keys_a s) (keys_a t) else true) else (when b then false else first_higher (keys_b s) (keys_b t)))
         ≡ first_higher (keys a s) (keys b t)
     go true true = refl
     go true false = refl

@@ -8,7 +8,7 @@ use native.Mathlib.Numerals.{add-one}
 use native.Mathlib.Omega.{arith}
 use lib.Dec.{leb, eqb}
 use lib.ListN.{length, get_or}
-use Rattle.lists.specs.Lists.{if◌then◌else◌, tab}
+use Rattle.lists.specs.Lists.{when◌then◌else◌, tab}
 use Rattle.lists.proofs.Bools.{lt-or-le, either}
 use Rattle.lists.proofs.Places.{length-tab, get_or-tab, get_or-tab-past, tab-ext}
 use Rattle.sets.specs.Set.{member, of_members}
@@ -27,14 +27,14 @@ module _ (set : ℕ) (ranks holds : List ℕ) (r : ℕ) where
   equals o = member set o && eqb r (rank_at ranks o)
 
   abbrev weight : ℕ → ℕ
-  weight o = if equals o then held_at holds o else 0
+  weight o = when equals o then held_at holds o else 0
 
-  weights-are : of_members set (λ o. if eqb r (rank_at ranks o) then held_at holds o else 0) ≡ tab 32 weight
+  weights-are : of_members set (λ o. when eqb r (rank_at ranks o) then held_at holds o else 0) ≡ tab 32 weight
   unfolding of_members
   weights-are = tab-ext 32 _ weight (λ o l. go o (member set o))
     where
       go : (o : ℕ) (b : Bool)
-          → (if b then (if eqb r (rank_at ranks o) then held_at holds o else 0) else 0) ≡ (if b && eqb r (rank_at ranks o) then held_at holds o else 0)
+          → (when b then (when eqb r (rank_at ranks o) then held_at holds o else 0) else 0) ≡ (when b && eqb r (rank_at ranks o) then held_at holds o else 0)
       go o true = refl
       go o false = refl
 
@@ -65,7 +65,7 @@ pub record Steps (set amount m : ℕ) (ranks holds : List ℕ) (r junior from du
   pub junior-is : junior ≡ held_by set (rank_at ranks) (held_at holds) (leb (r + 1))
   pub from_is : from ≡ held_by set (rank_at ranks) (held_at holds) (leb r)
   pub due-is : due ≡ min (amount - junior) (from - junior)
-  pub weights-is : weights ≡ of_members set (λ o. if eqb r (rank_at ranks o) then held_at holds o else 0)
+  pub weights-is : weights ≡ of_members set (λ o. when eqb r (rank_at ranks o) then held_at holds o else 0)
   pub long : length before ≡ 32
   pub split-is : ◌≡◌ {A = Answer} (answer, shares) (split_into due weights before)
 
@@ -93,6 +93,6 @@ unfolding of_members
 charges-of-members set rank holds amount =
     tab-ext 32 _ (charged_by_rank set rank holds amount) (λ m l. go m (member set m) refl)
   where
-    go : (m : ℕ) (b : Bool) → member set m ≡ b → (if b then charged_by_rank set rank holds amount m else 0) ≡ charged_by_rank set rank holds amount m
+    go : (m : ℕ) (b : Bool) → member set m ≡ b → (when b then charged_by_rank set rank holds amount m else 0) ≡ charged_by_rank set rank holds amount m
     go m true on = refl
     go m false off = sym (charge-off set rank holds amount m off)

@@ -1,6 +1,6 @@
 -- Document 01, "Rank and layers": which of two members is senior, and the rank that follows.
 use Rattle.std.specs.Prelude.{Bool, true, false, ◌&&◌, ◌||◌, List, [], ◌∷◌, ℕ, ◌+◌, ◌-◌, ◌*◌, max, leb, ltb, eqb}
-use Rattle.lists.specs.Lists.{if◌then◌else◌, count}
+use Rattle.lists.specs.Lists.{when◌then◌else◌, count}
 use Rattle.sets.specs.Set.{members}
 
 -- what a member's rank depends on: "D sums units won × (price − worst reserve) .., W is units won", and the units expected of it
@@ -62,8 +62,8 @@ first_higher (x ∷ xs) (y ∷ ys) = higher (x.num * y.den) (y.num * x.den) (fir
 -- whether s is strictly senior to t: "Category A .. stands above B .. Others rank equal."
 unfoldable pub senior : Standing → Standing → Bool
 senior s t =
-    if in_a s then (if in_a t then first_higher (keys_a s) (keys_a t) else true)
-    else (if in_a t then false else first_higher (keys_b s) (keys_b t))
+    when in_a s then (when in_a t then first_higher (keys_a s) (keys_a t) else true)
+    else (when in_a t then false else first_higher (keys_b s) (keys_b t))
 
 -- "Rank = 1 + the number strictly senior", among the members of a set
 unfoldable pub rank_in : ℕ → (ℕ → Standing) → ℕ → ℕ

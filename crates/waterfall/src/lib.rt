@@ -2,7 +2,7 @@
 #![tactic(auto)]
 
 ghost use Rattle.std.specs.Prelude.{◌≡◌, false, ◌<◌, ◌≤◌, max, min, leb, eqb};
-ghost use Rattle.lists.specs.Lists.{if◌then◌else◌};
+ghost use Rattle.lists.specs.Lists.{when◌then◌else◌};
 ghost use Rattle.sets.specs.Set.{with_member, of_members};
 ghost use Rattle.splitting.specs.Limits.{amount_limit, weight_limit};
 ghost use Rattle.waterfall.specs.Seniority.{keys_a, keys_b, higher, first_higher, senior, rank_in};
@@ -107,7 +107,7 @@ fn is_senior(a: Performance, b: Performance) -> bool
 // The seniors found so far, with member o where it is senior to `mine`.
 fn with_senior(seniors: u32, o: u8, other: Performance, mine: Performance) -> u32
     requires { Within (standing_of other) × Within (standing_of mine) }
-    ensures { result ≡ (if senior (standing_of other) (standing_of mine) then with_member seniors o else seniors) }
+    ensures { result ≡ (when senior (standing_of other) (standing_of mine) then with_member seniors o else seniors) }
 {
     if is_senior(other, mine) {
         sets::with(seniors, o)
@@ -181,7 +181,7 @@ fn wide(rank: u8) -> u64
 
 // What a member holds, held to its limit, where it counts; 0 where it does not.
 fn holding_if(counts: bool, amount: u64) -> u64
-    ensures { result ≡ (if counts then min amount weight_limit else 0) }
+    ensures { result ≡ (when counts then min amount weight_limit else 0) }
 {
     lists::number_if(counts, lists::smaller(amount, splitting::WEIGHT_LIMIT))
 }
@@ -202,7 +202,7 @@ fn held_from(ranks: &[u8; 32], holds: &[u64; 32], set: u32, r: u64) -> u64
 
 // What each member of rank r holds, and 0 at the other places.
 fn of_rank(ranks: &[u8; 32], holds: &[u64; 32], set: u32, r: u64) -> [u64; 32]
-    ensures { result ≡ of_members set (λ m. if eqb r (rank_at ranks.now m) then held_at holds.now m else 0) }
+    ensures { result ≡ of_members set (λ m. when eqb r (rank_at ranks.now m) then held_at holds.now m else 0) }
 {
     let mut out = [0u64; 32];
     let mut left = set;

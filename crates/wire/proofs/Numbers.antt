@@ -3,7 +3,7 @@ use Rattle.std.proofs.Common.{◌≡◌, ℕ, zero, suc, ◌+◌, ◌-◌, ◌*�
 use mathlib.Core.Option.{Option, none, some}
 use native.Mathlib.Numerals.{add-two, add-three}
 use borrow.Author.Tests.{lt-leb}
-use Rattle.lists.specs.Lists.{if◌then◌else◌, between, sum, tab}
+use Rattle.lists.specs.Lists.{when◌then◌else◌, between, sum, tab}
 use Rattle.lists.proofs.Bools.{and_left, and_right}
 use Rattle.lists.proofs.Sums.{entry-le}
 use Rattle.machine.specs.Wire.{Call, big_endian, number, right_length, call_of, decode}
@@ -123,7 +123,7 @@ decode-short (a ∷ b ∷ c ∷ l) h = absurd (omega arith)
 -- three bytes and more: the tests, in the order of the code
 decode-long : (s : List ℕ) → 3 ≤ length s
     → decode s
-    ≡ (if between 1 15 (get_or s 0 0) && eqb (number 1 2 s) (length (drop 3 s)) && right_length (get_or s 0 0) (length (drop 3 s))
+    ≡ (when between 1 15 (get_or s 0 0) && eqb (number 1 2 s) (length (drop 3 s)) && right_length (get_or s 0 0) (length (drop 3 s))
     then some (call_of (get_or s 0 0) (drop 3 s)) else none)
 unfolding decode
 decode-long [] h = absurd (omega arith)

@@ -1,7 +1,7 @@
 -- What a value of `Call` asks for: a call of document 01, SALE or WITHDRAW, or none where the bytes are no call.
 use Rattle.std.specs.Prelude.{[], ◌∷◌, take}
 use Rattle.std.proofs.Math.Option.{Option, none, some}
-use Rattle.lists.specs.Lists.{if◌then◌else◌, between}
+use Rattle.lists.specs.Lists.{when◌then◌else◌, between}
 use Rattle.machine.specs.Wire as Wire
 use Rattle.wire.specs.declared.Head.{Head}
 use Rattle.wire.specs.declared.Call.{Call}
@@ -26,7 +26,7 @@ unfoldable pub asked : Call → Option Wire.Call
 asked (HeadCall h) = some (Wire.HEAD (head_of h))
 asked (Pool pool units mark) = some (Wire.POOL pool units mark)
 asked (Member m contribution a b c d) = some (Wire.MEMBER m contribution (a ∷ b ∷ c ∷ d ∷ []))
-asked (Round n a b c d) = if between 1 4 n then some (Wire.ROUND (take n (a ∷ b ∷ c ∷ d ∷ []))) else none
+asked (Round n a b c d) = when between 1 4 n then some (Wire.ROUND (take n (a ∷ b ∷ c ∷ d ∷ []))) else none
 asked (Bid pool m units price) = some (Wire.BID pool m units price)
 asked Close = some Wire.CLOSE
 asked (Allocate pool price) = some (Wire.ALLOCATE pool price)

@@ -5,7 +5,7 @@ use Prim.Native.Nat.{◌+◌}
 use native.Mathlib.Omega.{arith}
 use lib.ListN.{get_or}
 use lib.Dec.{eqb}
-use Rattle.lists.specs.Lists.{if◌then◌else◌}
+use Rattle.lists.specs.Lists.{when◌then◌else◌}
 use Rattle.lists.specs.Adding.{most16}
 use Rattle.lists.proofs.Sums.{sum_to-next, sum_to-none}
 use Rattle.units.specs.Shown.{sold_for}
@@ -25,8 +25,8 @@ overflow_add-sum c = let a = c.args in
 pub loop-b-preserved : goal.loop-b-preserved
 loop-b-preserved c = let a = c.args in
     let l = c.loop-b in
-    let next = sum_to-next l.b (λ k. if eqb (get_or a.members.now k 0) a.m && eqb (get_or a.pools.now k 0) a.pool && eqb (get_or a.prices.now k 0) a.price then get_or a.counts.now (132 + k) 0 else 0) in
-    let is : c.number_if-sum.result ≡ (if eqb (get_or a.members.now l.b 0) a.m && eqb (get_or a.pools.now l.b 0) a.pool && eqb (get_or a.prices.now l.b 0) a.price then get_or a.counts.now (132 + l.b) 0 else 0) =
+    let next = sum_to-next l.b (λ k. when eqb (get_or a.members.now k 0) a.m && eqb (get_or a.pools.now k 0) a.pool && eqb (get_or a.prices.now k 0) a.price then get_or a.counts.now (132 + k) 0 else 0) in
+    let is : c.number_if-sum.result ≡ (when eqb (get_or a.members.now l.b 0) a.m && eqb (get_or a.pools.now l.b 0) a.pool && eqb (get_or a.prices.now l.b 0) a.price then get_or a.counts.now (132 + l.b) 0 else 0) =
     c.number_if-sum.ensures ∙ rw (c.wide16.ensures.0, c.both-here.ensures, c.both.ensures) in
     let small = if-le c.both-here.result _ _ most16 c.number_if-sum.ensures c.wide16.ensures.1 in
     (omega arith, omega arith, omega arith)

@@ -5,7 +5,7 @@ use mathlib.Core.List.{List}
 use Prim.Native.Nat.{ℕ, ◌+◌, ◌*◌, ◌≤◌}
 use native.Mathlib.Omega.{arith}
 use lib.Dec.{leb}
-use Rattle.lists.specs.Lists.{if◌then◌else◌}
+use Rattle.lists.specs.Lists.{when◌then◌else◌}
 use Rattle.lists.proofs.Bools.{either}
 use Rattle.sets.proofs.Members.{Taken, taken}
 use Rattle.sets.proofs.Adding.{Adding, start, turn, at_most, end, sum-members-le}
@@ -64,7 +64,7 @@ holding_if-total-requires c = tt
 
 pub overflow_add-total : goal.overflow_add-total
 overflow_add-total c =
-    let added : c.holding_if-total.result ≡ adds c.args.ranks.now c.args.holds.now c.args.r c.next-m.result = c.holding_if-total.ensures ∙ ap (λ x. if leb c.args.r x then held_at c.args.holds.now c.next-m.result else 0) c.wide.ensures.0 in
+    let added : c.holding_if-total.result ≡ adds c.args.ranks.now c.args.holds.now c.args.r c.next-m.result = c.holding_if-total.ensures ∙ ap (λ x. when leb c.args.r x then held_at c.args.holds.now c.next-m.result else 0) c.wide.ensures.0 in
     omega (
       arith,
       small c.args.ranks.now c.args.holds.now c.args.r c.args.set c.loop-left.total c.loop-left.left c.without_least-left.result c.next-m.result c.holding_if-total.result c.loop-left.invariant
@@ -76,7 +76,7 @@ loop-left-smaller c = (next-taken (goal.at.loop-left-smaller c).After-without_le
 
 pub loop-left-preserved : goal.loop-left-preserved
 loop-left-preserved c =
-    let added : c.holding_if-total.result ≡ adds c.args.ranks.now c.args.holds.now c.args.r c.next-m.result = c.holding_if-total.ensures ∙ ap (λ x. if leb c.args.r x then held_at c.args.holds.now c.next-m.result else 0) c.wide.ensures.0 in
+    let added : c.holding_if-total.result ≡ adds c.args.ranks.now c.args.holds.now c.args.r c.next-m.result = c.holding_if-total.ensures ∙ ap (λ x. when leb c.args.r x then held_at c.args.holds.now c.next-m.result else 0) c.wide.ensures.0 in
     rw added (turn _ _ _ _ _ _ c.loop-left.invariant (next-taken (goal.at.loop-left-preserved c).After-without_least-left) (omega arith))
 
 pub returns : goal.returns

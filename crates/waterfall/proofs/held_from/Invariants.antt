@@ -4,7 +4,7 @@ use mathlib.Core.List.{List}
 use Prim.Native.Nat.{ℕ}
 use lib.Dec.{leb}
 use lib.ListN.{length}
-use Rattle.lists.specs.Lists.{if◌then◌else◌}
+use Rattle.lists.specs.Lists.{when◌then◌else◌}
 use Rattle.sets.specs.Set.{members}
 use Rattle.sets.proofs.Adding.{Adding}
 use Rattle.waterfall.specs.Limits.{rank_at, held_at}
@@ -12,7 +12,7 @@ use Rattle.waterfall.proofs.held_from.Given as goal
 
 -- what each member adds
 abbrev pub adds : List ℕ → List ℕ → ℕ → ℕ → ℕ
-adds ranks holds r m = if leb r (rank_at ranks m) then held_at holds m else 0
+adds ranks holds r m = when leb r (rank_at ranks m) then held_at holds m else 0
 
 abbrev pub invariant-loop-left : goal.invariant-loop-left
 invariant-loop-left l = Adding (adds l.ranks l.holds l.r) l.set l.total l.left

@@ -3,11 +3,11 @@ use mathlib.Core.Path.{◌≡◌}
 use mathlib.Core.Bool.{false}
 use Prim.Native.Nat.{ℕ, ◌-◌, ◌%◌, ◌≤◌, ◌<◌}
 use lib.ListN.{length, get_or}
-use Rattle.lists.specs.Lists.{if◌then◌else◌}
+use Rattle.lists.specs.Lists.{when◌then◌else◌}
 use Rattle.accounts.proofs.members.without_pools.Given as goal
 
 abbrev pub invariant-loop-k : goal.invariant-loop-k
-invariant-loop-k l = (l.k ≤ 128) × (length l.table ≡ 128) × ((j : ℕ) → j < l.k → get_or l.table j 0 ≡ (if get_or l.out (j % 4) false then 0 else get_or l.xs j 0))
+invariant-loop-k l = (l.k ≤ 128) × (length l.table ≡ 128) × ((j : ℕ) → j < l.k → get_or l.table j 0 ≡ (when get_or l.out (j % 4) false then 0 else get_or l.xs j 0))
 
 abbrev pub decreases-loop-k : goal.decreases-loop-k
 decreases-loop-k l = 128 - l.k
