@@ -2,7 +2,7 @@
  *
  * Make the library and link it:
  *
- *     rt staticlib exports                                  (writes target/staticlib/libexports.a)
+ *     tools/build exports                                   (writes target/staticlib/libexports.a)
  *     cc -I include main.c target/staticlib/libexports.a
  *
  * Every function is proved against its contract in crates/exports/src/lib.rt: the answers and all that is shown are those of the machine that
@@ -91,13 +91,13 @@ struct ledger_reading ledger_requirement(const uint8_t *bytes, size_t bytes_len,
  * 0 to 3 add up to `prices` of ledger_calls. It is 0 where there is no case, and for a pool that the case lacks. */
 int64_t ledger_pool_prices(const uint8_t *bytes, size_t bytes_len, const size_t *ends, size_t ends_len, uint8_t pool);
 
-/* ---- The program. `rt staticlib stream` writes libstream.a, which has this, and needs the kit's C code of `os` (libos_c.a). */
+/* ---- The program. `tools/build stream` writes libstream.a, which has this, and needs the kit's C code of `os` (libos_c.a). */
 
 /* Runs the program `ledger` from standard input to standard output, and says whether the input ended and all was written; a C program can end with that as
  * its status. */
 bool ledger_stream(void);
 
-/* ---- Splitting and the auction alone. `rt staticlib splitting` and `rt staticlib auction` write libsplitting.a and libauction.a, which have these. */
+/* ---- Splitting and the auction alone. `tools/build splitting auction` writes libsplitting.a and libauction.a, which have these. */
 
 /* Splits q by the weights into the shares and answers 0: what the floors leave goes one each to the largest remainders of q * weight by the sum of the weights, a
  * tie to the larger weight, and only then to the earlier place (document 02, C-15). It answers 1 where the runs differ in length or have more than 512 places, and 5
@@ -129,7 +129,7 @@ uint8_t ledger_auction_records(const struct ledger_bid *bids, size_t bids_len, u
 uint8_t ledger_auction(uint64_t open_units, uint32_t reserve, const uint64_t *units, size_t units_len, const uint32_t *prices, size_t prices_len,
                        uint64_t *counts, size_t counts_len);
 
-/* ---- Expected units from daily positions (document 02, C-11). `rt staticlib positions` writes libpositions.a, which has these.
+/* ---- Expected units from daily positions (document 02, C-11). `tools/build positions` writes libpositions.a, which has these.
  *
  * A day is a record of 4 bytes, big-endian, for each member of the set, in member order; bit i of the set is member i. The shares are 32 numbers by member, 0
  * outside the set. */

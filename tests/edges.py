@@ -1,6 +1,6 @@
 #!/usr/bin/env python3
 """The programs and the scripts of bin/ at the edges of a run: outputs and inputs that fail, short reads, signals, live use, bad lines and bad arguments.
-Run from the repository's root after `rt check`. Each trial prints a line; the exit status is 1 where one failed."""
+Run from the repository's root after `tools/build`. Each trial prints a line; the exit status is 1 where one failed."""
 import collections
 import fcntl
 import os
@@ -426,22 +426,29 @@ quotes(indented('What a member can learn of the reserves'), 9, 'reserves', 'othe
 # ---- the scripts, with an `rt` that says what they are told
 
 SAYS = '''#!/bin/sh
-echo "$*" >> "$PWD/asked"
-mkdir "$PWD/proving" || echo twice >> "$PWD/asked"
+top=$PWD/../..
+echo "$*" >> "$top/asked"
+mkdir "$top/proving" || echo twice >> "$top/asked"
 sleep 0.5
-rmdir "$PWD/proving"
-[ ! -e "$PWD/bad" ] || { echo "rt: fields NOT PROVED (exit 1, 2 s)"; exit 1; }
-echo "rt: lists proved (3 s)"
-echo "rt: fields proved (unchanged since it was last proved)"
-echo "rt: ok, 2 crates proved"
+rmdir "$top/proving"
+[ ! -e "$top/bad" ] || { echo "rt: the library lists did not build, so nothing above it was checked" >&2; exit 1; }
+echo "fn lists::less: proved" >&2
+echo "crate lists: modules loaded=0 checked=425" >&2
+echo "logic=proved functions=16" >&2
+mkdir -p out
+printf '#!/bin/sh\\ncat\\n' > out/fields
+chmod +x out/fields
 '''
 with tempfile.TemporaryDirectory() as folder:
     top = pathlib.Path(folder) / 'top'
     shutil.copytree('bin', top / 'bin')
     (top / 'crates.txt').write_text('# two crates\nlists:\nfields: lists io\nother: lists\n')
+    (top / 'crates/fields/src').mkdir(parents=True)
+    (top / 'crates/fields/src/main.rt').write_text('')
     (top / 'target/bin').mkdir(parents=True)
     (top / 'target/bin/fields').write_text('#!/bin/sh\ncat\n')
     (top / 'tools').mkdir()
+    shutil.copy('tools/build', top / 'tools/build')
     (top / 'tools/rt').write_text(SAYS)
     for script in ('target/bin/fields', 'tools/rt'):
         (top / script).chmod(0o755)
@@ -450,15 +457,15 @@ with tempfile.TemporaryDirectory() as folder:
     asked = top / 'asked'
     r = run([folder + '/link'], b'text', env=env, cwd='/')
     tell('bin/fields through a symbolic link', r.returncode == 0 and r.stdout == b'text', r)
-    tell('bin/fields asks rt, and tells what was proved', r.stderr == b'1 of 2, lists\n' and asked.read_text() == 'check fields\n', (r, asked.read_text()))
+    tell('bin/fields asks rt, and tells what was proved', r.stderr == b'1 of 2, lists\n' and asked.read_text() == 'run\n', (r, asked.read_text()))
     pair = [start([str(top / 'bin/fields')], env=env) for _ in range(3)]
     outs = [p.communicate(b'text') for p in pair]
-    tell('three at once prove one after the other', all(out == b'text' for out, _ in outs) and asked.read_text() == 'check fields\n' * 4, (outs, asked.read_text()))
+    tell('three at once prove one after the other', all(out == b'text' for out, _ in outs) and asked.read_text() == 'run\n' * 4, (outs, asked.read_text()))
     (top / 'bad').touch()
     r = run([str(top / 'bin/fields')], b'text', env=env)
-    tell('bin/fields runs nothing that is not proved', r.returncode == 2 and r.stdout == b'' and b'NOT PROVED' in r.stderr, r)
+    tell('bin/fields runs nothing that is not proved', r.returncode == 2 and r.stdout == b'' and b'did not build' in r.stderr, r)
     r = run([str(top / 'bin/run')], b'text', env=env)
-    tell('bin/run likewise', r.returncode == 2 and r.stdout == b'' and b'NOT PROVED' in r.stderr, r)
+    tell('bin/run likewise', r.returncode == 2 and r.stdout == b'' and b'did not build' in r.stderr, r)
 
 print('%d failed' % failed)
 sys.exit(failed != 0)

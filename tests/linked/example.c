@@ -1,4 +1,4 @@
-/* The example of document 01 through include/ledger.h. From the top of the repository, after `rt staticlib` of exports, auction, positions and splitting:
+/* The example of document 01 through include/ledger.h. From the top of the repository, after `tools/build exports auction positions splitting`:
  *
  *     cc -std=c11 -Wall -Wextra -Werror -I include tests/linked/example.c target/staticlib/lib{exports,auction,positions,splitting}.a -o target/example && target/example
  *
