@@ -1,5 +1,4 @@
 -- `cases::print_all` meets its contract: it ends. Assumes nothing.
-use Prim.Native.Nat.{◌-◌}
 use borrow.Author.Rules.{rules}
 use Rattle.cases.proofs.print_all.Goals as goal
 
