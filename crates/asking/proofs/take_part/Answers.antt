@@ -1,7 +1,6 @@
 -- `asking::take_part` meets its contract. The invariant: the fields that are left lead to what is held after all. The measure is the number of bytes left. Assumes nothing.
 use mathlib.Core.Path.{refl, ◌∙◌}
 use mathlib.Core.Bool.{false}
-use Prim.Native.Nat.{◌-◌}
 use native.Mathlib.Omega.{arith}
 use Rattle.input.specs.Fields.{front_size}
 use Rattle.input.proofs.Fronts.{front-most}

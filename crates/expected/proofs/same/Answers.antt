@@ -1,5 +1,5 @@
 -- `expected::same` meets its contract. The invariant: the texts are the same exactly if what is left of them is. Assumes nothing.
-use Rattle.std.proofs.Common.{◌≡◌, ◌-◌, true, false, eqb, get_or, sym, refl, ◌∙◌, rules, eq-eqb, ne_eqb}
+use Rattle.std.proofs.Common.{◌≡◌, true, false, eqb, get_or, sym, refl, ◌∙◌, rules, eq-eqb, ne_eqb}
 use Rattle.expected.proofs.Texts.{same_turn, same-done, same_length}
 use Rattle.expected.proofs.same.Goals as goal
 

@@ -1,5 +1,5 @@
 -- `expected::set_of` meets its contract. The invariant: the set is that of the numbers passed. Assumes nothing.
-use Rattle.std.proofs.Common.{◌≡◌, ℕ, ◌-◌, ◌≤◌, length, get_or, refl, ap, ◌∙◌, arith, rules}
+use Rattle.std.proofs.Common.{◌≡◌, ℕ, ◌≤◌, length, get_or, refl, ap, ◌∙◌, arith, rules}
 use Rattle.lists.proofs.Each.{each-get}
 use Rattle.sets.specs.Set.{with_member}
 use Rattle.expected.specs.Words.{set_of}

@@ -1,5 +1,5 @@
 -- `expected::total` meets its contract. The invariant: the shares passed are added up. Assumes nothing.
-use Rattle.std.proofs.Common.{◌≡◌, ℕ, ◌-◌, ◌%◌, ◌^◌, length, get_or, sym, ap, ◌∙◌, arith, rules}
+use Rattle.std.proofs.Common.{◌≡◌, ℕ, ◌%◌, ◌^◌, length, get_or, sym, ap, ◌∙◌, arith, rules}
 use Rattle.lists.specs.Lists.{sum_to}
 use Rattle.lists.proofs.Sums.{sum_to-none, sum-places}
 use Rattle.expected.proofs.Texts.{total-turn}

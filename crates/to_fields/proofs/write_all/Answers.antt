@@ -1,5 +1,5 @@
 -- `to_fields::write_all` meets its contract. Assumes nothing.
-use Rattle.std.proofs.Common.{◌-◌, refl, ◌∙◌, arith, rules}
+use Rattle.std.proofs.Common.{refl, ◌∙◌, arith, rules}
 use Rattle.input.proofs.Fronts.{rest_all}
 use Rattle.to_fields.proofs.Turning.{passed_none, passed-within, passed-some, passed-goes, passed-all, passed-not}
 use Rattle.to_fields.proofs.write_all.Goals as goal

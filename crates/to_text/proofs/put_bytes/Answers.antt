@@ -1,6 +1,5 @@
 -- `to_text::put_bytes` meets its contract. Assumes nothing.
 use mathlib.Core.Path.{◌∙◌}
-use Prim.Native.Nat.{◌-◌}
 use native.Mathlib.Omega.{arith}
 use Rattle.to_text.proofs.Texts.{hex-starts, hex-place, hex-goes, hex-ends}
 use borrow.Author.Rules.{rules}

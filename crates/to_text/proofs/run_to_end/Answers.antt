@@ -1,5 +1,4 @@
 -- `to_text::run_to_end` meets its contract. Assumes nothing.
-use mathlib.Core.Path.{◌∙◌}
 use native.Mathlib.Omega.{arith}
 use borrow.Author.Tests.{not-false}
 use Rattle.feed.proofs.Turning.{lent}

@@ -1,7 +1,7 @@
 -- `to_text::take_some` meets its contract. Assumes nothing.
 use mathlib.Core.Path.{refl, ap, ◌∙◌}
 use mathlib.Core.Bool.{false}
-use Prim.Native.Nat.{◌+◌, ◌-◌}
+use Prim.Native.Nat.{◌+◌}
 use native.Mathlib.Omega.{arith}
 use Rattle.input.specs.Fields.{front_size}
 use Rattle.input.proofs.Fronts.{front-most, rest_all}

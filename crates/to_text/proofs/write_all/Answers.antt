@@ -1,6 +1,5 @@
 -- `to_text::write_all` meets its contract. Assumes nothing.
 use mathlib.Core.Path.{refl, ◌∙◌}
-use Prim.Native.Nat.{◌-◌}
 use native.Mathlib.Omega.{arith}
 use Rattle.input.proofs.Fronts.{rest_all}
 use Rattle.to_text.proofs.Turning.{passed_none, passed-within, passed-some, passed-goes, passed-all, passed-not}
