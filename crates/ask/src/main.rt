@@ -3,6 +3,7 @@
 #![tactic(auto)]
 
 use asking::{Question, Told};
+use feed::Streams;
 
 // The question that the arguments ask; the program's own name counts as one of them.
 fn read_words(rt: HostRuntime) -> Question {
@@ -16,18 +17,19 @@ fn read_words(rt: HostRuntime) -> Question {
 }
 
 // The answer on standard output, or why there is none on standard error.
-fn print(rt: HostRuntime, told: Told, out: &[u8]) {
+fn print(streams: Streams, told: Told, out: &[u8]) {
     let n = told.len;
     if told.good {
-        feed::flush(rt, out, n, b"ask: standard output");
+        feed::flush(streams, out, n, b"ask: standard output");
     } else if n <= out.len() {
-        feed::tell(rt, &out[0..n]);
+        feed::tell(streams, &out[0..n]);
     }
 }
 
 fn main(rt: HostRuntime) {
     let mut buf = [0u8; 131072];
     let mut out = [0u8; 4096];
-    let told = asking::run(rt, read_words(rt), &mut buf, &mut out);
-    print(rt, told, &out);
+    let streams = feed::streams_of(rt);
+    let told = asking::run(streams, read_words(rt), &mut buf, &mut out);
+    print(streams, told, &out);
 }

@@ -13,6 +13,7 @@ ghost use Rattle.asking.specs.Questions.{Asks};
 ghost use Rattle.asking.specs.Answers.{sentence, requirement_text, refusal_text, Written, told_into, reading_said, said_at, usage_text, Runs};
 
 use case::{Held, Reading};
+use feed::Streams;
 
 // The questions about a case; `Unknown` is none of them.
 #[derive(Clone, Copy)]
@@ -88,7 +89,7 @@ fn take_turn(held: Held, buf: &mut [u8], end: usize) -> Turn
 
 // Reads a case from standard input, until the input ends or a read fails, which is told on standard error. Nothing is read where the buffer has less than the
 // 65,538 bytes of the longest field.
-pub fn read_case(rt: HostRuntime, buf: &mut [u8]) -> Rest
+pub fn read_case(streams: Streams, buf: &mut [u8]) -> Rest
     ensures { Fed rest (HeldAfter result.held) buf.new result.len }
 {
     let mut held = Held::none();
@@ -103,7 +104,7 @@ pub fn read_case(rt: HostRuntime, buf: &mut [u8]) -> Rest
     let mut turns = u64::MAX;
     while turns > 0 {
         turns -= 1;
-        let got = feed::read(rt, buf, len, b"ask: standard input");
+        let got = feed::read(streams, buf, len, b"ask: standard input");
         let more = got.len;
         if more == 0 {
             return Rest {
@@ -243,11 +244,11 @@ pub fn answer(question: Question, rest: Rest, out: &mut [u8]) -> Told
 }
 
 // The answer to a question about the case on standard input. Nothing is read where there is no question.
-pub fn run(rt: HostRuntime, question: Question, buf: &mut [u8], out: &mut [u8]) -> Told
+pub fn run(streams: Streams, question: Question, buf: &mut [u8], out: &mut [u8]) -> Told
     ensures { Runs question out.old out.new result }
 {
     match question {
         Question::Unknown => tell_usage(out),
-        Question::Requirement => answer(question, read_case(rt, buf), out),
+        Question::Requirement => answer(question, read_case(streams, buf), out),
     }
 }

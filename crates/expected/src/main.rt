@@ -9,6 +9,8 @@ ghost use Rattle.forms.specs.Put.{Put};
 ghost use Rattle.expected.specs.Words.{set_of, members_in, units_in, eq_list};
 ghost use Rattle.expected.specs.Shares.{member_text, place_text, members_text, shares_text};
 
+use feed::Streams;
+
 // A number that a word says, and whether it says one.
 #[derive(Clone, Copy)]
 struct Said {
@@ -236,46 +238,46 @@ fn write_shares(out: &mut [u8], set: u32, shares: [u64; 32]) -> usize
 // ---- the program
 
 // A text on standard error.
-fn tell(rt: HostRuntime, text: &[u8]) {
-    feed::tell(rt, text);
+fn tell(streams: Streams, text: &[u8]) {
+    feed::tell(streams, text);
 }
 
 // Prints the shares.
-fn print(rt: HostRuntime, set: u32, shares: [u64; 32]) {
+fn print(streams: Streams, set: u32, shares: [u64; 32]) {
     let mut out = [0u8; 4096];
     let n = write_shares(&mut out, set, shares);
-    feed::flush(rt, &out, n, b"expected: standard output");
+    feed::flush(streams, &out, n, b"expected: standard output");
 }
 
 // The shares from day records: whether they are given.
-fn take_records(rt: HostRuntime, set: u32, units: u64, shares: &mut [u64; 32]) -> bool {
+fn take_records(streams: Streams, set: u32, units: u64, shares: &mut [u64; 32]) -> bool {
     let mut buf = [0u8; 65536];
-    let run = from_records::run(rt, set, units, &mut buf, shares);
+    let run = from_records::run(streams, set, units, &mut buf, shares);
     lists::both(run.known, run.answer == 0)
 }
 
 // The shares from lines of positions: whether they are given.
-fn take_lines(rt: HostRuntime, set: u32, units: u64, shares: &mut [u64; 32]) -> bool {
+fn take_lines(streams: Streams, set: u32, units: u64, shares: &mut [u64; 32]) -> bool {
     let mut buf = [0u8; 131072];
     let mut out = [0u8; 65536];
-    let run = from_lines::run(rt, set, units, &mut buf, &mut out, shares);
+    let run = from_lines::run(streams, set, units, &mut buf, &mut out, shares);
     run.given
 }
 
 // The shares from the days on standard input: whether they are given.
-fn take_days(rt: HostRuntime, set: u32, units: u64, text: bool, shares: &mut [u64; 32]) -> bool {
+fn take_days(streams: Streams, set: u32, units: u64, text: bool, shares: &mut [u64; 32]) -> bool {
     if text {
-        return take_lines(rt, set, units, shares);
+        return take_lines(streams, set, units, shares);
     }
-    take_records(rt, set, units, shares)
+    take_records(streams, set, units, shares)
 }
 
 // The answer to what is asked for.
-fn answer(rt: HostRuntime, asked: Asked) {
+fn answer(streams: Streams, asked: Asked) {
     let set = asked.set;
     let mut shares = [0u64; 32];
-    if take_days(rt, set, asked.units as u64, asked.text, &mut shares) {
-        print(rt, set, shares);
+    if take_days(streams, set, asked.units as u64, asked.text, &mut shares) {
+        print(streams, set, shares);
     }
 }
 
@@ -285,15 +287,16 @@ fn declined(asked: Asked) -> bool {
 }
 
 fn main(rt: HostRuntime) {
+    let streams = feed::streams_of(rt);
     let asked = read_words(rt);
     if !asked.good {
         tell(
-            rt,
+            streams,
             b"usage: expected members 0,1,2 units 40 [--text] < FILE\n",
         );
     } else if declined(asked) {
-        tell(rt, b"declined by 5, units are 1 to 1000\n");
+        tell(streams, b"declined by 5, units are 1 to 1000\n");
     } else {
-        answer(rt, asked);
+        answer(streams, asked);
     }
 }

@@ -4,6 +4,7 @@ use crate::texts::{Line, fill, minus, one, plain, two};
 use accounts::bids::Bids;
 use book::{Book, Stage};
 use case::Case;
+use feed::Streams;
 use forms::Tagged;
 use units::Units;
 use wire::Call;
@@ -37,10 +38,10 @@ fn unknown_line(bytes: &[u8]) -> Line {
 }
 
 // The line of a call: that of the notation in which cases are written.
-pub fn write_call(rt: HostRuntime, call: Call, bytes: &[u8], out: &mut [u8], at: usize) -> usize {
+pub fn write_call(streams: Streams, call: Call, bytes: &[u8], out: &mut [u8], at: usize) -> usize {
     let to = spelling::write_text(call, out, at);
     if to == at {
-        return fill(rt, out, at, unknown_line(bytes));
+        return fill(streams, out, at, unknown_line(bytes));
     }
     to
 }
@@ -303,7 +304,7 @@ fn requirement_line(answer: u8, book: Book) -> Line {
 
 // The stage, the open units and the requirement after a call with this answer.
 pub fn write_state(
-    rt: HostRuntime,
+    streams: Streams,
     answer: u8,
     present: bool,
     case: Case,
@@ -311,15 +312,15 @@ pub fn write_state(
     at: usize,
 ) -> usize {
     if !present {
-        return fill(rt, out, at, plain(texts::NO_CASE));
+        return fill(streams, out, at, plain(texts::NO_CASE));
     }
     let stage = case.stage;
     let book = case.book;
     let rounds = book.rounds;
-    let named = fill(rt, out, at, plain(texts::THEN));
-    let said = fill(rt, out, named, stage_line(stage, rounds.held));
-    let counted = fill(rt, out, said, units_line(book));
-    fill(rt, out, counted, requirement_line(answer, book))
+    let named = fill(streams, out, at, plain(texts::THEN));
+    let said = fill(streams, out, named, stage_line(stage, rounds.held));
+    let counted = fill(streams, out, said, units_line(book));
+    fill(streams, out, counted, requirement_line(answer, book))
 }
 
 // ---- the answer
@@ -350,7 +351,7 @@ fn given_already(tag: u8, m: u8, given: u32) -> bool {
 
 // A refusal: its number, its reason and the value at fault.
 fn write_refusal(
-    rt: HostRuntime,
+    streams: Streams,
     present: bool,
     case: Case,
     call: Tagged,
@@ -366,15 +367,15 @@ fn write_refusal(
     let first = first_of(call);
     let given = given_already(call.tag, first, members.given);
     let text = reason(call.tag, given, answer);
-    let said = fill(rt, out, at, one(text, answer as u64));
+    let said = fill(streams, out, at, one(text, answer as u64));
     let price = third_of(call);
     let at_fault = fault(present, book, call.tag, first, price, answer);
-    let more = fill(rt, out, said, at_fault);
+    let more = fill(streams, out, said, at_fault);
     if answer == 5 {
-        return crate::ranges::write_ranges(rt, head.pools, call, out, more);
+        return crate::ranges::write_ranges(streams, head.pools, call, out, more);
     }
     if lists::both(present, answer == 2) {
-        return fill(rt, out, more, stage_line(stage, rounds.held));
+        return fill(streams, out, more, stage_line(stage, rounds.held));
     }
     more
 }
@@ -397,7 +398,7 @@ fn answer_line(bids: Bids, round: u8, call: Tagged, answer: u8) -> Line {
 
 // The answer to a call in words; the case is that before the call.
 pub fn write_answer(
-    rt: HostRuntime,
+    streams: Streams,
     present: bool,
     case: Case,
     call: Call,
@@ -410,7 +411,12 @@ pub fn write_answer(
     let book = case.book;
     if lists::either(answer == 0, answer == 18) {
         let round = book::round_of(stage);
-        return fill(rt, out, at, answer_line(book.bids, round, flat, answer));
+        return fill(
+            streams,
+            out,
+            at,
+            answer_line(book.bids, round, flat, answer),
+        );
     }
-    write_refusal(rt, present, case, flat, answer, out, at)
+    write_refusal(streams, present, case, flat, answer, out, at)
 }

@@ -14,6 +14,7 @@ ghost use Rattle.case.specs.Input.{ledger_after, HeldAfter};
 ghost use Rattle.feed.specs.Feeds.{Keeps, Fed};
 
 use case::Held;
+use feed::Streams;
 use texts::Line;
 
 // What is held after a part of an input, the bytes that its whole fields took, and the place behind the text.
@@ -48,14 +49,14 @@ struct Rest {
 }
 
 // One field: the call, its answer in words, and the stage, the open units and the requirement after it.
-fn take_field(rt: HostRuntime, held: Held, bytes: &[u8], out: &mut [u8], at: usize) -> Step
+fn take_field(streams: Streams, held: Held, bytes: &[u8], out: &mut [u8], at: usize) -> Step
     ensures { result.held ≡ (applied held bytes.now).held }
 {
     let call = wire::read_call(bytes);
     let applied = case::take(held, call);
-    let named = answers::write_call(rt, call, bytes, out, at);
+    let named = answers::write_call(streams, call, bytes, out, at);
     let said = answers::write_answer(
-        rt,
+        streams,
         held.present,
         held.case,
         call,
@@ -64,7 +65,7 @@ fn take_field(rt: HostRuntime, held: Held, bytes: &[u8], out: &mut [u8], at: usi
         named,
     );
     let next = applied.held;
-    let shown = answers::write_state(rt, applied.answer, next.present, next.case, out, said);
+    let shown = answers::write_state(streams, applied.answer, next.present, next.case, out, said);
     Step {
         held: next,
         at: shown,
@@ -72,7 +73,7 @@ fn take_field(rt: HostRuntime, held: Held, bytes: &[u8], out: &mut [u8], at: usi
 }
 
 // The whole fields at the front of a part of an input, in turn.
-fn take_part(rt: HostRuntime, held: Held, input: &[u8], out: &mut [u8]) -> Taken
+fn take_part(streams: Streams, held: Held, input: &[u8], out: &mut [u8]) -> Taken
     ensures { (result.held ≡ ledger_after held (whole input.now)) × (result.used ≡ bytes_of (whole input.now)) }
 {
     let mut next = held;
@@ -81,7 +82,7 @@ fn take_part(rt: HostRuntime, held: Held, input: &[u8], out: &mut [u8]) -> Taken
     let mut size = input::front_size(false, input);
     while size != 0 {
         let end = used + size;
-        let step = take_field(rt, next, &input[used..end], out, to);
+        let step = take_field(streams, next, &input[used..end], out, to);
         next = step.held;
         to = step.at;
         used = end;
@@ -95,11 +96,11 @@ fn take_part(rt: HostRuntime, held: Held, input: &[u8], out: &mut [u8]) -> Taken
 }
 
 // The bytes in front of a place taken: their whole fields, and what is left of them moved to the front.
-fn take_turn(rt: HostRuntime, held: Held, buf: &mut [u8], end: usize, out: &mut [u8]) -> Turn
+fn take_turn(streams: Streams, held: Held, buf: &mut [u8], end: usize, out: &mut [u8]) -> Turn
     requires { end ≤ length buf.old }
     ensures { (result.held ≡ ledger_after held (whole (take end buf.old))) × Keeps rest (take end buf.old) buf.old buf.new result.len }
 {
-    let taken = take_part(rt, held, &buf[0..end], out);
+    let taken = take_part(streams, held, &buf[0..end], out);
     let used = taken.used;
     let next = taken.held;
     Turn {
@@ -110,7 +111,7 @@ fn take_turn(rt: HostRuntime, held: Held, buf: &mut [u8], end: usize, out: &mut 
 }
 
 // Reads and takes until the input ends, or a read or a write fails. What a read brought is written before the next. What is held is what the ledger holds.
-fn take_input(rt: HostRuntime, buf: &mut [u8], out: &mut [u8]) -> Rest
+fn take_input(streams: Streams, buf: &mut [u8], out: &mut [u8]) -> Rest
     ensures { Fed rest (HeldAfter result.held) buf.new result.len }
 {
     let mut held = Held::none();
@@ -118,7 +119,7 @@ fn take_input(rt: HostRuntime, buf: &mut [u8], out: &mut [u8]) -> Rest
     let mut turns = u64::MAX;
     while turns > 0 {
         turns -= 1;
-        let got = feed::read(rt, buf, len, b"explain: standard input");
+        let got = feed::read(streams, buf, len, b"explain: standard input");
         let more = got.len;
         if more == 0 {
             return Rest {
@@ -127,10 +128,10 @@ fn take_input(rt: HostRuntime, buf: &mut [u8], out: &mut [u8]) -> Rest
                 ended: got.ended,
             };
         }
-        let turn = take_turn(rt, held, buf, len + more, out);
+        let turn = take_turn(streams, held, buf, len + more, out);
         held = turn.held;
         len = turn.len;
-        turns = feed::turns_left(turns, texts::flush(rt, out, turn.at));
+        turns = feed::turns_left(turns, texts::flush(streams, out, turn.at));
     }
     Rest {
         held,
@@ -156,20 +157,20 @@ fn last_line(left: usize) -> Line {
     texts::plain(texts::INCOMPLETE)
 }
 
-fn run(rt: HostRuntime, buf: &mut [u8], out: &mut [u8]) {
-    let rest = take_input(rt, buf, out);
+fn run(streams: Streams, buf: &mut [u8], out: &mut [u8]) {
+    let rest = take_input(streams, buf, out);
     let len = rest.len;
     let held = rest.held;
     if rest.ended {
-        let cut = texts::fill(rt, out, 0, cut_line(&buf[0..len]));
-        let shown = tables::write_tables(rt, held, out, cut);
-        let end = texts::fill(rt, out, shown, last_line(len));
-        texts::flush(rt, out, end);
+        let cut = texts::fill(streams, out, 0, cut_line(&buf[0..len]));
+        let shown = tables::write_tables(streams, held, out, cut);
+        let end = texts::fill(streams, out, shown, last_line(len));
+        texts::flush(streams, out, end);
     }
 }
 
 fn main(rt: HostRuntime) {
     let mut buf = [0u8; 131072];
     let mut out = [0u8; 131072];
-    run(rt, &mut buf, &mut out);
+    run(feed::streams_of(rt), &mut buf, &mut out);
 }

@@ -1,6 +1,7 @@
 // Which numbers of a call are out of their ranges, and what the ranges are.
 use crate::texts;
 use crate::texts::{Line, plain};
+use feed::Streams;
 use forms::Tagged;
 use wire::{Call, Head};
 
@@ -152,13 +153,13 @@ fn number_at(numbers: [u32; 8], k: usize) -> u32 {
 }
 
 // The numbers of a call that are out of their ranges; the pools are those of the case.
-pub fn write_ranges(rt: HostRuntime, pools: u8, call: Tagged, out: &mut [u8], at: usize) -> usize {
+pub fn write_ranges(streams: Streams, pools: u8, call: Tagged, out: &mut [u8], at: usize) -> usize {
     let numbers = call.numbers;
     let mut to = at;
     let mut k: usize = 0;
     while k < call.count {
         let n = number_at(numbers, k);
-        to = texts::fill(rt, out, to, range_line(pools, call.tag, k, n));
+        to = texts::fill(streams, out, to, range_line(pools, call.tag, k, n));
         k += 1;
     }
     to

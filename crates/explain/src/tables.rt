@@ -8,6 +8,7 @@ use accounts::bids::Bids;
 use accounts::members::{Members, over_pools, widened, without_pools};
 use book::{Book, Result};
 use case::{Case, Held};
+use feed::Streams;
 use units::Units;
 use wire::Call;
 
@@ -90,23 +91,23 @@ fn pools_total(case: Case) -> Line {
 }
 
 // The rows of the pools given.
-fn pool_rows(rt: HostRuntime, case: Case, given: u8, out: &mut [u8], at: usize) -> usize {
+fn pool_rows(streams: Streams, case: Case, given: u8, out: &mut [u8], at: usize) -> usize {
     let mut to = at;
     let mut pool: u8 = 0;
     while pool < given {
-        to = fill(rt, out, to, pool_line(case, pool));
+        to = fill(streams, out, to, pool_line(case, pool));
         pool += 1;
     }
     to
 }
 
 // The table of the pools.
-fn write_pools(rt: HostRuntime, case: Case, out: &mut [u8], at: usize) -> usize {
+fn write_pools(streams: Streams, case: Case, out: &mut [u8], at: usize) -> usize {
     let book = case.book;
     let pools = book.pools;
-    let title = fill(rt, out, at, plain(texts::POOLS_TITLE));
-    let rows = pool_rows(rt, case, pools.given, out, title);
-    fill(rt, out, rows, pools_total(case))
+    let title = fill(streams, out, at, plain(texts::POOLS_TITLE));
+    let rows = pool_rows(streams, case, pools.given, out, title);
+    fill(streams, out, rows, pools_total(case))
 }
 
 // ---- pools sold by agreement
@@ -149,24 +150,24 @@ fn sales_total(units: Units) -> Line {
 }
 
 // The rows of the pools sold by agreement.
-fn sale_rows(rt: HostRuntime, units: Units, out: &mut [u8], at: usize) -> usize {
+fn sale_rows(streams: Streams, units: Units, out: &mut [u8], at: usize) -> usize {
     let mut to = at;
     let mut pool: u8 = 0;
     while pool < 4 {
-        to = fill(rt, out, to, sale_line(units, pool));
+        to = fill(streams, out, to, sale_line(units, pool));
         pool += 1;
     }
     to
 }
 
 // The table of the pools sold by agreement, where there are any.
-fn write_sales(rt: HostRuntime, units: Units, out: &mut [u8], at: usize) -> usize {
+fn write_sales(streams: Streams, units: Units, out: &mut [u8], at: usize) -> usize {
     if all_agreed(units) == 0 {
         return at;
     }
-    let title = fill(rt, out, at, plain(texts::SALES_TITLE));
-    let rows = sale_rows(rt, units, out, title);
-    fill(rt, out, rows, sales_total(units))
+    let title = fill(streams, out, at, plain(texts::SALES_TITLE));
+    let rows = sale_rows(streams, units, out, title);
+    fill(streams, out, rows, sales_total(units))
 }
 
 // ---- the bids of the open round
@@ -199,11 +200,11 @@ fn bid_line(bids: Bids, round: u8, i: usize) -> Line {
 }
 
 // The rows of the bids of a round, by their numbers.
-fn bid_rows(rt: HostRuntime, bids: Bids, round: u8, out: &mut [u8], at: usize) -> usize {
+fn bid_rows(streams: Streams, bids: Bids, round: u8, out: &mut [u8], at: usize) -> usize {
     let mut to = at;
     let mut i: usize = 0;
     while i < bids.kept {
-        to = fill(rt, out, to, bid_line(bids, round, i));
+        to = fill(streams, out, to, bid_line(bids, round, i));
         i += 1;
     }
     to
@@ -211,7 +212,7 @@ fn bid_rows(rt: HostRuntime, bids: Bids, round: u8, out: &mut [u8], at: usize) -
 
 // The table of the bids of the open round, where there is one.
 fn write_bids(
-    rt: HostRuntime,
+    streams: Streams,
     open: bool,
     round: u8,
     bids: Bids,
@@ -221,8 +222,13 @@ fn write_bids(
     if !open {
         return at;
     }
-    let title = fill(rt, out, at, texts::one(texts::BIDS_TITLE, round as u64));
-    bid_rows(rt, bids, round, out, title)
+    let title = fill(
+        streams,
+        out,
+        at,
+        texts::one(texts::BIDS_TITLE, round as u64),
+    );
+    bid_rows(streams, bids, round, out, title)
 }
 
 // ---- the loss
@@ -254,7 +260,7 @@ fn layer_line(most: [u64; 6], charges: [u64; 6], k: usize) -> Line {
 
 // The rows of the six layers.
 fn layer_rows(
-    rt: HostRuntime,
+    streams: Streams,
     most: [u64; 6],
     charges: [u64; 6],
     out: &mut [u8],
@@ -263,7 +269,7 @@ fn layer_rows(
     let mut to = at;
     let mut k: usize = 0;
     while k < 6 {
-        to = fill(rt, out, to, layer_line(most, charges, k));
+        to = fill(streams, out, to, layer_line(most, charges, k));
         k += 1;
     }
     to
@@ -277,16 +283,16 @@ fn sum_of_six(xs: [u64; 6]) -> u64 {
 }
 
 // The six layers, their totals, the uncovered rest and the loss.
-fn write_layers(rt: HostRuntime, most: [u64; 6], res: Result, out: &mut [u8], at: usize) -> usize {
+fn write_layers(streams: Streams, most: [u64; 6], res: Result, out: &mut [u8], at: usize) -> usize {
     let charges = res.charges;
     let uncovered = res.uncovered;
     let all = sum_of_six(charges);
-    let title = fill(rt, out, at, plain(texts::LAYERS_TITLE));
-    let rows = layer_rows(rt, most, charges, out, title);
+    let title = fill(streams, out, at, plain(texts::LAYERS_TITLE));
+    let rows = layer_rows(streams, most, charges, out, title);
     let total = charge_line(texts::LAYERS_TOTAL, sum_of_six(most), all);
-    let added = fill(rt, out, rows, total);
+    let added = fill(streams, out, rows, total);
     fill(
-        rt,
+        streams,
         out,
         added,
         texts::two(texts::UNCOVERED, uncovered, plus(all, uncovered)),
@@ -294,12 +300,12 @@ fn write_layers(rt: HostRuntime, most: [u64; 6], res: Result, out: &mut [u8], at
 }
 
 // The table of the loss; the layers stand in it after FINISH.
-fn write_loss(rt: HostRuntime, finished: bool, book: Book, out: &mut [u8], at: usize) -> usize {
-    let required = fill(rt, out, at, loss_line(book));
+fn write_loss(streams: Streams, finished: bool, book: Book, out: &mut [u8], at: usize) -> usize {
+    let required = fill(streams, out, at, loss_line(book));
     if finished {
-        return write_layers(rt, book.limits(), book.result(), out, required);
+        return write_layers(streams, book.limits(), book.result(), out, required);
     }
-    fill(rt, out, required, plain(texts::NOT_CHARGED))
+    fill(streams, out, required, plain(texts::NOT_CHARGED))
 }
 
 // ---- members
@@ -390,7 +396,7 @@ fn member_line(finished: bool, members: Members, res: Result, m: u8) -> Line {
 
 // The rows of a set's members.
 fn member_rows(
-    rt: HostRuntime,
+    streams: Streams,
     finished: bool,
     members: Members,
     res: Result,
@@ -403,7 +409,12 @@ fn member_rows(
     while left != 0 {
         let m = sets::next(left);
         left = sets::without_least(left);
-        to = fill(rt, out, to, member_line(finished, members, res, m as u8));
+        to = fill(
+            streams,
+            out,
+            to,
+            member_line(finished, members, res, m as u8),
+        );
     }
     to
 }
@@ -472,15 +483,15 @@ fn left_out_line(members: Members, sold: [bool; 4]) -> Line {
 }
 
 // The table of the members.
-fn write_members(rt: HostRuntime, finished: bool, book: Book, out: &mut [u8], at: usize) -> usize {
+fn write_members(streams: Streams, finished: bool, book: Book, out: &mut [u8], at: usize) -> usize {
     let head = book.head;
     let sold = book.sold_pools();
     let members = counted(book.members, sold);
     let result = book.result();
-    let title = fill(rt, out, at, members_title(finished, head.set));
-    let rows = member_rows(rt, finished, members, result, head.set, out, title);
-    let added = fill(rt, out, rows, members_total(finished, members, result));
-    fill(rt, out, added, left_out_line(book.members, sold))
+    let title = fill(streams, out, at, members_title(finished, head.set));
+    let rows = member_rows(streams, finished, members, result, head.set, out, title);
+    let added = fill(streams, out, rows, members_total(finished, members, result));
+    fill(streams, out, added, left_out_line(book.members, sold))
 }
 
 // ---- units held
@@ -575,7 +586,7 @@ fn held_line(m: u8, pool: u8, price: u32, units: u64) -> Line {
 }
 
 // The rows of a member's units in a pool, by price.
-fn price_rows(rt: HostRuntime, case: Case, m: u8, pool: u8, rows: Rows, out: &mut [u8]) -> Rows {
+fn price_rows(streams: Streams, case: Case, m: u8, pool: u8, rows: Rows, out: &mut [u8]) -> Rows {
     let book = case.book;
     let mut at = rows.at;
     let mut units = rows.units;
@@ -587,7 +598,7 @@ fn price_rows(rt: HostRuntime, case: Case, m: u8, pool: u8, rows: Rows, out: &mu
             return Rows { at, units, prices };
         }
         let n = case.holding(m, pool, price);
-        at = fill(rt, out, at, held_line(m, pool, price, n));
+        at = fill(streams, out, at, held_line(m, pool, price, n));
         units = plus(units, n);
         prices = plus(prices, worth(n, price));
         first = after(price, first);
@@ -611,21 +622,21 @@ fn after(price: u32, first: u32) -> u32
 }
 
 // The rows of a member's units.
-fn holding_rows(rt: HostRuntime, case: Case, m: u8, rows: Rows, out: &mut [u8]) -> Rows {
-    let first = price_rows(rt, case, m, 0, rows, out);
-    let second = price_rows(rt, case, m, 1, first, out);
-    let third = price_rows(rt, case, m, 2, second, out);
-    price_rows(rt, case, m, 3, third, out)
+fn holding_rows(streams: Streams, case: Case, m: u8, rows: Rows, out: &mut [u8]) -> Rows {
+    let first = price_rows(streams, case, m, 0, rows, out);
+    let second = price_rows(streams, case, m, 1, first, out);
+    let third = price_rows(streams, case, m, 2, second, out);
+    price_rows(streams, case, m, 3, third, out)
 }
 
 // The rows of the units of a set's members.
-fn held_rows(rt: HostRuntime, case: Case, set: u32, rows: Rows, out: &mut [u8]) -> Rows {
+fn held_rows(streams: Streams, case: Case, set: u32, rows: Rows, out: &mut [u8]) -> Rows {
     let mut next = rows;
     let mut left = set;
     while left != 0 {
         let m = sets::next(left);
         left = sets::without_least(left);
-        next = holding_rows(rt, case, m as u8, next, out);
+        next = holding_rows(streams, case, m as u8, next, out);
     }
     next
 }
@@ -643,52 +654,52 @@ fn prices_of(book: Book, units: u64) -> u64 {
 }
 
 // The units held, the torn ones, and all units that are not open, with their prices.
-fn write_sums(rt: HostRuntime, rows: Rows, units: u64, prices: u64, out: &mut [u8]) -> usize {
+fn write_sums(streams: Streams, rows: Rows, units: u64, prices: u64, out: &mut [u8]) -> usize {
     let torn = lists::less(units, rows.units);
     let lost = lists::less(prices, rows.prices);
     let first = sum_line(texts::HELD_SUM, rows.units, rows.prices);
-    let at = fill(rt, out, rows.at, first);
-    let to = fill(rt, out, at, sum_line(texts::TORN_SUM, torn, lost));
-    fill(rt, out, to, sum_line(texts::PRICED_SUM, units, prices))
+    let at = fill(streams, out, rows.at, first);
+    let to = fill(streams, out, at, sum_line(texts::TORN_SUM, torn, lost));
+    fill(streams, out, to, sum_line(texts::PRICED_SUM, units, prices))
 }
 
 // The table of the units held, with the torn ones and all units that are not open below.
-fn write_held(rt: HostRuntime, case: Case, out: &mut [u8], at: usize) -> usize {
+fn write_held(streams: Streams, case: Case, out: &mut [u8], at: usize) -> usize {
     let book = case.book;
     let head = book.head;
     let none = Rows {
-        at: fill(rt, out, at, plain(texts::HELD_TITLE)),
+        at: fill(streams, out, at, plain(texts::HELD_TITLE)),
         units: 0,
         prices: 0,
     };
-    let rows = held_rows(rt, case, head.set, none, out);
+    let rows = held_rows(streams, case, head.set, none, out);
     let units = not_open(case);
-    write_sums(rt, rows, units, prices_of(book, units), out)
+    write_sums(streams, rows, units, prices_of(book, units), out)
 }
 
 // ---- all tables
 
 // The tables of what is held at the end.
-pub fn write_tables(rt: HostRuntime, held: Held, out: &mut [u8], at: usize) -> usize {
+pub fn write_tables(streams: Streams, held: Held, out: &mut [u8], at: usize) -> usize {
     if !held.present {
-        return fill(rt, out, at, plain(texts::NO_TABLES));
+        return fill(streams, out, at, plain(texts::NO_TABLES));
     }
     let case = held.case;
     let stage = case.stage;
     let book = case.book;
     let letter = book::letter(stage);
     let finished = letter == 5;
-    let pools = write_pools(rt, case, out, at);
-    let sales = write_sales(rt, book.units, out, pools);
+    let pools = write_pools(streams, case, out, at);
+    let sales = write_sales(streams, book.units, out, pools);
     let bids = write_bids(
-        rt,
+        streams,
         letter == 2,
         book::round_of(stage),
         book.bids,
         out,
         sales,
     );
-    let loss = write_loss(rt, finished, book, out, bids);
-    let members = write_members(rt, finished, book, out, loss);
-    write_held(rt, case, out, members)
+    let loss = write_loss(streams, finished, book, out, bids);
+    let members = write_members(streams, finished, book, out, loss);
+    write_held(streams, case, out, members)
 }

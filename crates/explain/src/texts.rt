@@ -2,6 +2,7 @@
 // order of the numbers; dots behind # or $ make a column of them, with the number at its right; | is a line's end.
 ghost use Rattle.std.specs.Prelude.{◌+◌, ◌≤◌, length};
 
+use feed::Streams;
 use wire::Call;
 use words::Amount;
 
@@ -437,20 +438,20 @@ const NEARLY_FULL: usize = 98_304;
 
 // Writes what stands before the place, and begins anew. Once a write has failed, which is told on standard error, the place is behind the buffer, where nothing is
 // put any more.
-pub fn flush(rt: HostRuntime, out: &mut [u8], at: usize) -> usize {
-    feed::flush(rt, out, at, b"explain: standard output")
+pub fn flush(streams: Streams, out: &mut [u8], at: usize) -> usize {
+    feed::flush(streams, out, at, b"explain: standard output")
 }
 
 // Writes the buffer when it is nearly full.
-fn flush_if_full(rt: HostRuntime, out: &mut [u8], at: usize) -> usize {
+fn flush_if_full(streams: Streams, out: &mut [u8], at: usize) -> usize {
     if at < NEARLY_FULL {
         return at;
     }
-    flush(rt, out, at)
+    flush(streams, out, at)
 }
 
 // A text with its numbers at a place of the buffer, and the place behind it.
-pub fn fill(rt: HostRuntime, out: &mut [u8], at: usize, line: Line) -> usize {
+pub fn fill(streams: Streams, out: &mut [u8], at: usize, line: Line) -> usize {
     let texts = b"\n\
         \x20   accepted\n\
         \x20   accepted as bid #\n\
@@ -571,5 +572,5 @@ pub fn fill(rt: HostRuntime, out: &mut [u8], at: usize, line: Line) -> usize {
     let numbers = line.numbers;
     let start = start_of(texts, line.text);
     let to = fill_from(out, at, texts, start, numbers);
-    flush_if_full(rt, out, to)
+    flush_if_full(streams, out, to)
 }

@@ -8,7 +8,24 @@ ghost use Rattle.feed.specs.Feeds.{Reads, Slides};
 
 use std::env::{Env, FillError};
 use std::io;
-use std::io::{ErrorKind, Print, Read};
+use std::io::{ErrorKind, Print, Read, Stderr, Stdin, Stdout};
+
+// The handles that let a program read and write its standard streams. They take no bytes.
+#[derive(Clone, Copy)]
+pub struct Streams {
+    pub input: Stdin,
+    pub output: Stdout,
+    pub error: Stderr,
+}
+
+// The streams of a program.
+pub fn streams_of(rt: HostRuntime) -> Streams {
+    Streams {
+        input: rt.stdin(),
+        output: rt.stdout(),
+        error: rt.stderr(),
+    }
+}
 
 // How many bytes came; where none did, whether the input has ended, or else the read failed.
 #[derive(Clone, Copy)]
@@ -23,30 +40,30 @@ fn again(error: io::Error) -> bool {
 }
 
 // Bytes on standard error. Where they can't be written, they are let go.
-pub fn tell(rt: HostRuntime, text: &[u8]) {
-    let _told = rt.stderr().write_all(text);
+pub fn tell(streams: Streams, text: &[u8]) {
+    let _told = streams.error.write_all(text);
 }
 
 // Why a read or a write failed, as a line on standard error behind the name.
-fn fail(rt: HostRuntime, name: &[u8], error: io::Error) {
-    tell(rt, name);
-    tell(rt, b": ");
-    let _told = rt.stderr().println(error);
+fn fail(streams: Streams, name: &[u8], error: io::Error) {
+    tell(streams, name);
+    tell(streams, b": ");
+    let _told = streams.error.println(error);
 }
 
 // One call, into the buffer from a place on.
-fn read_once(rt: HostRuntime, buf: &mut [u8], at: usize) -> io::Result<usize>
+fn read_once(streams: Streams, buf: &mut [u8], at: usize) -> io::Result<usize>
     requires { at ≤ length buf.old }
     ensures front { take at buf.new ≡ take at buf.old }
     ensures room { IfOk result (λ n. n ≤ length buf.old - at) }
 {
     let part = &mut buf[at..];
-    let mut input = rt.stdin();
+    let mut input = streams.input;
     input.read(part)
 }
 
 // The same, made again where a signal interrupts it.
-fn read_again(rt: HostRuntime, buf: &mut [u8], at: usize) -> io::Result<usize>
+fn read_again(streams: Streams, buf: &mut [u8], at: usize) -> io::Result<usize>
     ensures front { take at buf.new ≡ take at buf.old }
     ensures room { IfOk result (λ n. n ≤ length buf.old - at) }
 {
@@ -56,7 +73,7 @@ fn read_again(rt: HostRuntime, buf: &mut [u8], at: usize) -> io::Result<usize>
     let mut turns = u64::MAX;
     while turns > 0 {
         turns -= 1;
-        match read_once(rt, buf, at) {
+        match read_once(streams, buf, at) {
             Ok(n) => return Ok(n),
             Err(error) => {
                 if !again(error) {
@@ -69,13 +86,13 @@ fn read_again(rt: HostRuntime, buf: &mut [u8], at: usize) -> io::Result<usize>
 }
 
 // Reads from standard input into the buffer from a place on. A read that fails is told.
-pub fn read(rt: HostRuntime, buf: &mut [u8], at: usize, name: &[u8]) -> Got
+pub fn read(streams: Streams, buf: &mut [u8], at: usize, name: &[u8]) -> Got
     ensures { Reads at buf.old buf.new result }
 {
-    match read_again(rt, buf, at) {
+    match read_again(streams, buf, at) {
         Ok(len) => Got { len, ended: true },
         Err(error) => {
-            fail(rt, name, error);
+            fail(streams, name, error);
             Got {
                 len: 0,
                 ended: false,
@@ -86,7 +103,7 @@ pub fn read(rt: HostRuntime, buf: &mut [u8], at: usize, name: &[u8]) -> Got
 
 // Writes all of a text to standard output, or gives the error of the first call that fails, and what stands there is then a front of the text. A call
 // that a signal interrupts is made again.
-fn write_whole(rt: HostRuntime, text: &[u8]) -> io::Result<()> {
+fn write_whole(streams: Streams, text: &[u8]) -> io::Result<()> {
     let mut done: usize = 0;
     let mut turns = u64::MAX;
     while done < text.len() {
@@ -94,7 +111,7 @@ fn write_whole(rt: HostRuntime, text: &[u8]) -> io::Result<()> {
             return Err(io::Error::from(ErrorKind::Interrupted));
         }
         turns -= 1;
-        match rt.stdout().write_some(&text[done..]) {
+        match streams.output.write_some(&text[done..]) {
             Ok(0) => return Err(io::Error::from(ErrorKind::WriteZero)),
             Ok(n) => done += n,
             Err(error) => {
@@ -109,8 +126,8 @@ fn write_whole(rt: HostRuntime, text: &[u8]) -> io::Result<()> {
 
 // Writes all of a text to standard output and answers true, or answers false at the first call that fails; then what stands there is a front of the text.
 // A call that a signal interrupts is made again.
-pub fn write(rt: HostRuntime, text: &[u8]) -> bool {
-    write_whole(rt, text).is_ok()
+pub fn write(streams: Streams, text: &[u8]) -> bool {
+    write_whole(streams, text).is_ok()
 }
 
 // The place of an output that has failed: it is behind every buffer.
@@ -118,16 +135,16 @@ const STOPPED: usize = 18446744073709551615;
 
 // Writes what stands in front of the place to standard output, and gives the front as the place to go on from. Where the write fails, that is told on
 // standard error behind the name that is handed over, and the place given is behind every buffer; it stays there.
-pub fn flush(rt: HostRuntime, out: &[u8], at: usize, name: &[u8]) -> usize
+pub fn flush(streams: Streams, out: &[u8], at: usize, name: &[u8]) -> usize
     ensures { length out.now < at → result ≡ at }
 {
     if out.len() < at {
         return at;
     }
-    match write_whole(rt, &out[0..at]) {
+    match write_whole(streams, &out[0..at]) {
         Ok(()) => 0,
         Err(error) => {
-            fail(rt, name, error);
+            fail(streams, name, error);
             STOPPED
         }
     }

@@ -2,6 +2,8 @@
 // fields to lines, and what is no call as a comment.
 #![tactic(auto)]
 
+use feed::Streams;
+
 // What the program is asked for.
 #[derive(Clone, Copy)]
 enum Task {
@@ -44,29 +46,30 @@ fn asked(rt: HostRuntime) -> Task {
 }
 
 // Text to fields.
-fn write_fields(rt: HostRuntime) {
+fn write_fields(streams: Streams) {
     let mut buf = [0u8; 131072];
     let mut out = [0u8; 65536];
-    to_fields::run(rt, &mut buf, &mut out);
+    to_fields::run(streams, &mut buf, &mut out);
 }
 
 // Fields to text.
-fn write_text(rt: HostRuntime) {
+fn write_text(streams: Streams) {
     let mut buf = [0u8; 131072];
     let mut out = [0u8; 335882];
-    to_text::run(rt, &mut buf, &mut out);
+    to_text::run(streams, &mut buf, &mut out);
 }
 
 // How the program is called, on standard error.
-fn tell_usage(rt: HostRuntime) {
-    feed::tell(rt, b"usage: fields [--text] < FILE\n");
+fn tell_usage(streams: Streams) {
+    feed::tell(streams, b"usage: fields [--text] < FILE\n");
 }
 
 fn main(rt: HostRuntime) {
+    let streams = feed::streams_of(rt);
     let task = asked(rt);
     match task {
-        Task::ToFields => write_fields(rt),
-        Task::ToText => write_text(rt),
-        Task::Unknown => tell_usage(rt),
+        Task::ToFields => write_fields(streams),
+        Task::ToText => write_text(streams),
+        Task::Unknown => tell_usage(streams),
     }
 }

@@ -12,7 +12,7 @@ ghost use Rattle.positions.specs.Days.{why_before};
 ghost use Rattle.positions.specs.Keeping.{no_days, keeping};
 ghost use Rattle.from_lines.specs.Turns.{count, TakesAll, TakesTurn, TakesInput, Finishes, Gives};
 
-use feed::Got;
+use feed::{Got, Streams};
 use rows::Part;
 
 // What became of a run: whether it is known what its text gives, since the input was read to its end, a line is refused, or the set or the units are declined; and
@@ -65,10 +65,10 @@ fn take_some(last: bool, set: u32, input: &[u8], out: &mut [u8]) -> Part
 // ---- the loop
 
 // Reads from standard input into the buffer from a place on.
-fn read_more(rt: HostRuntime, buf: &mut [u8], at: usize) -> Got
+fn read_more(streams: Streams, buf: &mut [u8], at: usize) -> Got
     ensures { Reads at buf.old buf.new result }
 {
-    feed::read(rt, buf, at, b"expected: standard input")
+    feed::read(streams, buf, at, b"expected: standard input")
 }
 
 // The number of lines, and some more.
@@ -140,7 +140,7 @@ fn take_turn(
 
 // Reads and takes until the input ends, a line is refused, or a read fails. What a read brought is taken before the next.
 fn take_input(
-    rt: HostRuntime,
+    streams: Streams,
     set: u32,
     buf: &mut [u8],
     out: &mut [u8],
@@ -156,7 +156,7 @@ fn take_input(
     let mut turns = u64::MAX;
     while turns > 0 {
         turns -= 1;
-        let got = read_more(rt, buf, len);
+        let got = read_more(streams, buf, len);
         let more = got.len;
         if more == 0 {
             return Rest {
@@ -193,18 +193,18 @@ fn take_input(
 // ---- the end
 
 // Tells why the first line of some bytes is refused, where it is all there and refused.
-fn tell_refused(rt: HostRuntime, last: bool, set: u32, lines: u64, text: &[u8]) {
+fn tell_refused(streams: Streams, last: bool, set: u32, lines: u64, text: &[u8]) {
     let size = text_lines::line_size(last, text);
     let n = positions::count_of(set);
     let row = rows::read_day(n, &text[0..size]);
     if row.reason != 0 {
-        messages::tell_line(rt, counted(lines, 1), row.at, row.reason, n);
+        messages::tell_line(streams, counted(lines, 1), row.at, row.reason, n);
     }
 }
 
 // The last line taken, where there is one, and the shares given: whether that was done.
 fn finish(
-    rt: HostRuntime,
+    streams: Streams,
     set: u32,
     units: u64,
     lines: u64,
@@ -220,7 +220,7 @@ fn finish(
 {
     let part = take_some(true, set, rest, out);
     if part.used != rest.len() {
-        tell_refused(rt, true, set, lines, rest);
+        tell_refused(streams, true, set, lines, rest);
         return false;
     }
     let end = part.written;
@@ -230,7 +230,7 @@ fn finish(
 
 // The run for a set with members and units within their limits.
 fn run_to_end(
-    rt: HostRuntime,
+    streams: Streams,
     set: u32,
     units: u64,
     buf: &mut [u8],
@@ -242,7 +242,7 @@ fn run_to_end(
 {
     let mut ring = [0u32; 2112];
     let mut sums = [0u64; 32];
-    let rest = take_input(rt, set, buf, out, &mut ring, &mut sums);
+    let rest = take_input(streams, set, buf, out, &mut ring, &mut sums);
     let len = rest.len;
     if !rest.known {
         return Outcome {
@@ -251,14 +251,14 @@ fn run_to_end(
         };
     }
     if rest.refused {
-        tell_refused(rt, false, set, rest.lines, &buf[0..len]);
+        tell_refused(streams, false, set, rest.lines, &buf[0..len]);
         return Outcome {
             known: true,
             given: false,
         };
     }
     let given = finish(
-        rt,
+        streams,
         set,
         units,
         rest.lines,
@@ -276,7 +276,7 @@ fn run_to_end(
 // the shares are untouched; so they are where a read failed, which is told too. Nothing is read where the set or the units are declined, where the first buffer has
 // less than the 65,537 bytes that tell a line that is too long, or the second less than the 128 bytes that a record can have; none of these is told.
 pub fn run(
-    rt: HostRuntime,
+    streams: Streams,
     set: u32,
     units: u64,
     buf: &mut [u8],
@@ -304,5 +304,5 @@ pub fn run(
             given: false,
         };
     }
-    run_to_end(rt, set, units, buf, out, shares)
+    run_to_end(streams, set, units, buf, out, shares)
 }

@@ -2,6 +2,7 @@
 ghost use Rattle.std.specs.Prelude.{◌≤◌};
 
 use crate::counted;
+use feed::Streams;
 use text_lines::put_line;
 use words::number;
 
@@ -85,16 +86,16 @@ fn capped(n: usize) -> usize
 }
 
 // The first bytes of a message as a line on standard error.
-fn tell(rt: HostRuntime, note: [u8; 256], n: usize) {
+fn tell(streams: Streams, note: [u8; 256], n: usize) {
     let end = capped(n);
-    feed::tell(rt, &note[0..end]);
-    feed::tell(rt, b"\n");
+    feed::tell(streams, &note[0..end]);
+    feed::tell(streams, b"\n");
 }
 
 // A line that is refused, of n members.
-pub fn tell_line(rt: HostRuntime, line: u64, place: usize, reason: u8, n: usize) {
+pub fn tell_line(streams: Streams, line: u64, place: usize, reason: u8, n: usize) {
     let mut note = [0u8; 256];
     let at = put_place(&mut note, line, place);
     let end = put_reason(&mut note, at, reason, n);
-    tell(rt, note, end);
+    tell(streams, note, end);
 }

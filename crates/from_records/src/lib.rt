@@ -8,7 +8,7 @@ ghost use Rattle.feed.specs.Feeds.{Reads};
 ghost use Rattle.positions.specs.Keeping.{keeping};
 ghost use Rattle.from_records.specs.Turns.{TakesTurn, TakesInput, Finishes, Gives};
 
-use feed::Got;
+use feed::{Got, Streams};
 
 // After a turn: the row that the next day takes, how many bytes are kept at the buffer's front, how many days came, and why the next one is declined, or 0.
 #[derive(Clone, Copy)]
@@ -39,10 +39,10 @@ pub struct Outcome {
 // ---- the loop
 
 // Reads from standard input into the buffer from a place on.
-fn read_more(rt: HostRuntime, buf: &mut [u8], at: usize) -> Got
+fn read_more(streams: Streams, buf: &mut [u8], at: usize) -> Got
     ensures { Reads at buf.old buf.new result }
 {
-    feed::read(rt, buf, at, b"expected: standard input")
+    feed::read(streams, buf, at, b"expected: standard input")
 }
 
 // How many days so many bytes are.
@@ -82,7 +82,7 @@ fn take_turn(
 }
 
 // Reads and takes until the input ends, a read fails, or a position is out of range.
-fn take_input(rt: HostRuntime, set: u32, buf: &mut [u8]) -> Rest
+fn take_input(streams: Streams, set: u32, buf: &mut [u8]) -> Rest
     requires { 1 ≤ length (members set) }
     ensures { TakesInput (length (members set)) buf.new result }
 {
@@ -94,7 +94,7 @@ fn take_input(rt: HostRuntime, set: u32, buf: &mut [u8]) -> Rest
     let mut turns = u64::MAX;
     while turns > 0 {
         turns -= 1;
-        let got = read_more(rt, buf, len);
+        let got = read_more(streams, buf, len);
         let more = got.len;
         if more == 0 {
             return Rest {
@@ -131,36 +131,40 @@ fn take_input(rt: HostRuntime, set: u32, buf: &mut [u8]) -> Rest
 // ---- messages
 
 // "day D: " and a reason as a line on standard error, where the day is the one behind those that came.
-fn tell(rt: HostRuntime, days: u64, reason: &[u8]) {
+fn tell(streams: Streams, days: u64, reason: &[u8]) {
     let mut note = [0u8; 128];
     let a = words::put(&mut note, 0, b"day ");
     let b = words::number(&mut note, a, plus(days, 1));
     let c = words::put(&mut note, b, b": ");
     let d = words::put(&mut note, c, reason);
     if d <= 128 {
-        feed::tell(rt, &note[0..d]);
+        feed::tell(streams, &note[0..d]);
     }
 }
 
-fn tell_range(rt: HostRuntime, days: u64) {
-    tell(rt, days, b"declined by 5, a position is above 10000000\n");
+fn tell_range(streams: Streams, days: u64) {
+    tell(
+        streams,
+        days,
+        b"declined by 5, a position is above 10000000\n",
+    );
 }
 
 // Where the end of the run is declined, its record is cut short.
-fn tell_cut(rt: HostRuntime, answer: u8, days: u64) {
+fn tell_cut(streams: Streams, answer: u8, days: u64) {
     if answer != 0 {
-        tell(rt, days, b"declined by 1, the record is cut short\n");
+        tell(streams, days, b"declined by 1, the record is cut short\n");
     }
 }
 
 // ---- the run
 
 // The end of the run: a record has declined it, or the shares are given where no byte of a record is left.
-fn finish(rt: HostRuntime, set: u32, units: u64, rest: Rest, shares: &mut [u64; 32]) -> Outcome
+fn finish(streams: Streams, set: u32, units: u64, rest: Rest, shares: &mut [u64; 32]) -> Outcome
     ensures { Finishes set units rest shares.old shares.new result }
 {
     if rest.answer != 0 {
-        tell_range(rt, rest.days);
+        tell_range(streams, rest.days);
         return Outcome {
             known: true,
             answer: rest.answer,
@@ -174,7 +178,7 @@ fn finish(rt: HostRuntime, set: u32, units: u64, rest: Rest, shares: &mut [u64; 
     }
     let sums = rest.sums;
     let answer = positions::end(&sums, set, units, rest.len, shares);
-    tell_cut(rt, answer, rest.days);
+    tell_cut(streams, answer, rest.days);
     Outcome {
         known: true,
         answer,
@@ -184,7 +188,13 @@ fn finish(rt: HostRuntime, set: u32, units: u64, rest: Rest, shares: &mut [u64; 
 // Reads day records from standard input to its end, or to the first that is declined, and answers as document 02 says of the whole run; where the answer is 0 each
 // member is given its share of the units. A record that is declined and a read that fails are told on standard error. Nothing is read where the set or the
 // units are declined, or the buffer has less than the 128 bytes of the longest record.
-pub fn run(rt: HostRuntime, set: u32, units: u64, buf: &mut [u8], shares: &mut [u64; 32]) -> Outcome
+pub fn run(
+    streams: Streams,
+    set: u32,
+    units: u64,
+    buf: &mut [u8],
+    shares: &mut [u64; 32],
+) -> Outcome
     ensures { Gives set units shares.old shares.new result }
 {
     let why = positions::why_before(positions::count_of(set), units);
@@ -200,6 +210,6 @@ pub fn run(rt: HostRuntime, set: u32, units: u64, buf: &mut [u8], shares: &mut [
             answer: 0,
         };
     }
-    let rest = take_input(rt, set, buf);
-    finish(rt, set, units, rest, shares)
+    let rest = take_input(streams, set, buf);
+    finish(streams, set, units, rest, shares)
 }

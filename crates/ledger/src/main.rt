@@ -3,5 +3,5 @@
 #![tactic(auto)]
 
 fn main(rt: HostRuntime) {
-    stream::ledger_stream(rt);
+    stream::ledger_stream(feed::streams_of(rt));
 }

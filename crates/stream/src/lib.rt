@@ -8,6 +8,7 @@ ghost use Rattle.std.specs.Prelude.{◌*◌, ◌≤◌, length, take};
 ghost use Rattle.stream.specs.Turns.{TakesTurn, FedTo, Last, Ends};
 
 use case::Held;
+use feed::Streams;
 
 // What is held after a turn, how many bytes are kept at the buffer's front, and how many bytes of text are to be written.
 #[derive(Clone, Copy)]
@@ -48,7 +49,7 @@ fn take_turn(held: Held, buf: &mut [u8], end: usize, out: &mut [u8]) -> Turn
 }
 
 // Reads and takes until the input ends, or a read or a write fails.
-fn take_input(rt: HostRuntime, buf: &mut [u8], out: &mut [u8]) -> Rest
+fn take_input(streams: Streams, buf: &mut [u8], out: &mut [u8]) -> Rest
     requires { 4 * length buf.old ≤ length out.old }
     ensures { FedTo buf.new result.held result.len }
 {
@@ -57,7 +58,7 @@ fn take_input(rt: HostRuntime, buf: &mut [u8], out: &mut [u8]) -> Rest
     let mut turns = u64::MAX;
     while turns > 0 {
         turns -= 1;
-        let got = feed::read(rt, buf, len, b"ledger: standard input");
+        let got = feed::read(streams, buf, len, b"ledger: standard input");
         let more = got.len;
         if more == 0 {
             return Rest {
@@ -71,7 +72,7 @@ fn take_input(rt: HostRuntime, buf: &mut [u8], out: &mut [u8]) -> Rest
         len = turn.len;
         turns = feed::turns_left(
             turns,
-            feed::flush(rt, out, turn.written, b"ledger: standard output"),
+            feed::flush(streams, out, turn.written, b"ledger: standard output"),
         );
     }
     Rest {
@@ -90,11 +91,11 @@ fn last_text(held: Held, rest: &[u8], out: &mut [u8]) -> usize
 }
 
 // The run up to its last write.
-fn run_to_end(rt: HostRuntime, buf: &mut [u8], out: &mut [u8]) -> Ending
+fn run_to_end(streams: Streams, buf: &mut [u8], out: &mut [u8]) -> Ending
     requires { (4 * length buf.old ≤ length out.old) × (4096 ≤ length out.old) }
     ensures { Ends out.new result }
 {
-    let rest = take_input(rt, buf, out);
+    let rest = take_input(streams, buf, out);
     let len = rest.len;
     if !rest.ended {
         return Ending {
@@ -110,24 +111,24 @@ fn run_to_end(rt: HostRuntime, buf: &mut [u8], out: &mut [u8]) -> Ending
 
 // The whole run over two lent buffers: whether the input ended and all was written. Nothing is read where the first has less than the 65,538 bytes of the
 // longest field, or the second less than four times those of the first.
-pub fn run(rt: HostRuntime, buf: &mut [u8], out: &mut [u8]) -> bool {
+pub fn run(streams: Streams, buf: &mut [u8], out: &mut [u8]) -> bool {
     if out.len() / 4 < buf.len() {
         return false;
     }
     if buf.len() < 65538 {
         return false;
     }
-    let end = run_to_end(rt, buf, out);
+    let end = run_to_end(streams, buf, out);
     let n = end.len;
     if !end.ended {
         return false;
     }
-    feed::flush(rt, out, n, b"ledger: standard output") == 0
+    feed::flush(streams, out, n, b"ledger: standard output") == 0
 }
 
 // The same with buffers of its own: the body of the program `ledger`, and what the library for C exports, whose `main` can give a status.
-pub fn ledger_stream(rt: HostRuntime) -> bool {
+pub fn ledger_stream(streams: Streams) -> bool {
     let mut buf = [0u8; 131072];
     let mut out = [0u8; 524288];
-    run(rt, &mut buf, &mut out)
+    run(streams, &mut buf, &mut out)
 }

@@ -10,7 +10,7 @@ ghost use Rattle.feed.specs.Feeds.{Reads};
 ghost use Rattle.to_fields.specs.Lines.{line_read};
 ghost use Rattle.to_fields.specs.Turns.{NoCall, IsLine, NextLine, WritesLines, WritesAllLines, TakesTurn, TakesInput, CutOff, Finishes, Ends};
 
-use feed::Got;
+use feed::{Got, Streams};
 use notation::Read;
 use text_lines::LONGEST;
 use wire::Call;
@@ -149,15 +149,15 @@ pub fn take_some(last: bool, input: &[u8], out: &mut [u8]) -> Part
 // ---- the loop
 
 // Reads from standard input into the buffer from a place on.
-fn read_more(rt: HostRuntime, buf: &mut [u8], at: usize) -> Got
+fn read_more(streams: Streams, buf: &mut [u8], at: usize) -> Got
     ensures { Reads at buf.old buf.new result }
 {
-    feed::read(rt, buf, at, b"fields: standard input")
+    feed::read(streams, buf, at, b"fields: standard input")
 }
 
 // Writes the first bytes of the buffer to standard output: whether that was done.
-fn write_front(rt: HostRuntime, out: &[u8], n: usize) -> bool {
-    feed::flush(rt, out, n, b"fields: standard output") == 0
+fn write_front(streams: Streams, out: &[u8], n: usize) -> bool {
+    feed::flush(streams, out, n, b"fields: standard output") == 0
 }
 
 // The number of lines, and some more.
@@ -168,7 +168,7 @@ fn counted(lines: u64, count: usize) -> u64
 }
 
 // Every line at the front of some bytes written to standard output, a part at a time, up to the first that is refused or not all there, unless a write fails.
-fn write_all(rt: HostRuntime, first: u64, input: &[u8], out: &mut [u8]) -> Wrote
+fn write_all(streams: Streams, first: u64, input: &[u8], out: &mut [u8]) -> Wrote
     requires { 64 ≤ length out.old }
     ensures { WritesAllLines first input.now result }
 {
@@ -189,7 +189,7 @@ fn write_all(rt: HostRuntime, first: u64, input: &[u8], out: &mut [u8]) -> Wrote
         used += part.used;
         lines = counted(lines, count);
         let n = part.written;
-        if !write_front(rt, out, n) {
+        if !write_front(streams, out, n) {
             return Wrote {
                 used,
                 lines,
@@ -201,11 +201,11 @@ fn write_all(rt: HostRuntime, first: u64, input: &[u8], out: &mut [u8]) -> Wrote
 }
 
 // The bytes in front of a place taken: their lines written, and what is left of them moved to the front.
-fn take_turn(rt: HostRuntime, lines: u64, buf: &mut [u8], end: usize, out: &mut [u8]) -> Turn
+fn take_turn(streams: Streams, lines: u64, buf: &mut [u8], end: usize, out: &mut [u8]) -> Turn
     requires { (end ≤ length buf.old) × (64 ≤ length out.old) }
     ensures { TakesTurn lines (take end buf.old) buf.old buf.new result }
 {
-    let wrote = write_all(rt, lines, &buf[0..end], out);
+    let wrote = write_all(streams, lines, &buf[0..end], out);
     let used = wrote.used;
     Turn {
         len: feed::slide(buf, used, end),
@@ -216,7 +216,7 @@ fn take_turn(rt: HostRuntime, lines: u64, buf: &mut [u8], end: usize, out: &mut 
 }
 
 // Reads and takes until the input ends, a line is refused, or a read or a write fails. What a read brought is written before the next.
-fn take_input(rt: HostRuntime, buf: &mut [u8], out: &mut [u8]) -> Rest
+fn take_input(streams: Streams, buf: &mut [u8], out: &mut [u8]) -> Rest
     requires { 64 ≤ length out.old }
     ensures { TakesInput buf.new result }
 {
@@ -225,7 +225,7 @@ fn take_input(rt: HostRuntime, buf: &mut [u8], out: &mut [u8]) -> Rest
     let mut turns = u64::MAX;
     while turns > 0 {
         turns -= 1;
-        let got = read_more(rt, buf, len);
+        let got = read_more(streams, buf, len);
         let more = got.len;
         if more == 0 {
             return Rest {
@@ -235,7 +235,7 @@ fn take_input(rt: HostRuntime, buf: &mut [u8], out: &mut [u8]) -> Rest
                 failed: false,
             };
         }
-        let turn = take_turn(rt, lines, buf, len + more, out);
+        let turn = take_turn(streams, lines, buf, len + more, out);
         len = turn.len;
         lines = turn.lines;
         let stops = lists::either(turn.failed, turn.refused);
@@ -268,9 +268,9 @@ fn put_end(message: &[u8], out: &mut [u8]) -> usize
 }
 
 // A message as a line on standard error.
-fn tell(rt: HostRuntime, message: &[u8]) {
-    feed::tell(rt, message);
-    feed::tell(rt, b"\n");
+fn tell(streams: Streams, message: &[u8]) {
+    feed::tell(streams, message);
+    feed::tell(streams, b"\n");
 }
 
 // One more.
@@ -287,7 +287,7 @@ fn capped(n: usize) -> usize
 
 // A line that is refused: told on standard error, and the fields end.
 fn refuse_line(
-    rt: HostRuntime,
+    streams: Streams,
     number: u64,
     at: usize,
     reason: u8,
@@ -301,7 +301,7 @@ fn refuse_line(
 {
     let mut note = [0u8; 512];
     let n = capped(messages::write_message(&mut note, number, at, reason, tag, item, line));
-    tell(rt, &note[0..n]);
+    tell(streams, &note[0..n]);
     put_end(&note[0..n], out)
 }
 
@@ -314,7 +314,7 @@ fn refuse_text(out: &mut [u8]) -> usize
 }
 
 // The fields end where the first line that is left is refused, or where the text could not be read to its end.
-fn refuse(rt: HostRuntime, last: bool, lines: u64, text: &[u8], out: &mut [u8]) -> usize
+fn refuse(streams: Streams, last: bool, lines: u64, text: &[u8], out: &mut [u8]) -> usize
     requires { 515 ≤ length out.old }
     ensures { CutOff out.new result }
 {
@@ -326,13 +326,13 @@ fn refuse(rt: HostRuntime, last: bool, lines: u64, text: &[u8], out: &mut [u8]) 
             reason,
             tag,
             item,
-        } => refuse_line(rt, more(lines), at, reason, tag, item, text, out),
+        } => refuse_line(streams, more(lines), at, reason, tag, item, text, out),
         _ => refuse_text(out),
     }
 }
 
 // What is still to be written of the lines that are left: the field of a last line, or a field that is cut off.
-fn finish(rt: HostRuntime, ended: bool, lines: u64, rest: &[u8], out: &mut [u8]) -> Ending
+fn finish(streams: Streams, ended: bool, lines: u64, rest: &[u8], out: &mut [u8]) -> Ending
     requires { 515 ≤ length out.old }
     ensures { Finishes rest.now out.new result }
 {
@@ -340,7 +340,7 @@ fn finish(rt: HostRuntime, ended: bool, lines: u64, rest: &[u8], out: &mut [u8])
         return Ending {
             good: false,
             failed: false,
-            len: refuse(rt, false, lines, rest, out),
+            len: refuse(streams, false, lines, rest, out),
         };
     }
     let part = take_some(true, rest, out);
@@ -354,16 +354,16 @@ fn finish(rt: HostRuntime, ended: bool, lines: u64, rest: &[u8], out: &mut [u8])
     Ending {
         good: false,
         failed: false,
-        len: refuse(rt, true, lines, rest, out),
+        len: refuse(streams, true, lines, rest, out),
     }
 }
 
 // The run up to its last write.
-fn run_to_end(rt: HostRuntime, buf: &mut [u8], out: &mut [u8]) -> Ending
+fn run_to_end(streams: Streams, buf: &mut [u8], out: &mut [u8]) -> Ending
     requires { 515 ≤ length out.old }
     ensures { Ends out.new result }
 {
-    let rest = take_input(rt, buf, out);
+    let rest = take_input(streams, buf, out);
     let len = rest.len;
     if rest.failed {
         return Ending {
@@ -372,21 +372,21 @@ fn run_to_end(rt: HostRuntime, buf: &mut [u8], out: &mut [u8]) -> Ending
             len: 0,
         };
     }
-    finish(rt, rest.ended, rest.lines, &buf[0..len], out)
+    finish(streams, rest.ended, rest.lines, &buf[0..len], out)
 }
 
 // The whole run over two lent buffers: whether every line was read and written. Nothing is read where the first has less than the 65,537 bytes that tell a line that
 // is too long, or the second less than the 515 bytes that a field and the message at the end can have.
-pub fn run(rt: HostRuntime, buf: &mut [u8], out: &mut [u8]) -> bool {
+pub fn run(streams: Streams, buf: &mut [u8], out: &mut [u8]) -> bool {
     if buf.len() < 65537 {
         return false;
     }
     if out.len() < 515 {
         return false;
     }
-    let end = run_to_end(rt, buf, out);
+    let end = run_to_end(streams, buf, out);
     let n = end.len;
-    if !write_front(rt, out, n) {
+    if !write_front(streams, out, n) {
         return false;
     }
     end.good

@@ -10,7 +10,7 @@ ghost use Rattle.translation.specs.Writes.{WritesAll};
 ghost use Rattle.to_text.specs.Texts.{hex_digit, hex_text, break_text, hex_from, comment, field_text};
 ghost use Rattle.to_text.specs.Turns.{size_within, WritesFields, FedTo, cut_text, Ends};
 
-use feed::Got;
+use feed::{Got, Streams};
 
 // How many fields were written, the bytes that they took, and the bytes of their text.
 #[derive(Clone, Copy)]
@@ -168,19 +168,19 @@ pub fn take_some(input: &[u8], out: &mut [u8]) -> Part
 // ---- the loop
 
 // Reads from standard input into the buffer from a place on.
-fn read_more(rt: HostRuntime, buf: &mut [u8], at: usize) -> Got
+fn read_more(streams: Streams, buf: &mut [u8], at: usize) -> Got
     ensures { Reads at buf.old buf.new result }
 {
-    feed::read(rt, buf, at, b"fields: standard input")
+    feed::read(streams, buf, at, b"fields: standard input")
 }
 
 // Writes the first bytes of the buffer to standard output: whether that was done.
-fn write_front(rt: HostRuntime, out: &[u8], n: usize) -> bool {
-    feed::flush(rt, out, n, b"fields: standard output") == 0
+fn write_front(streams: Streams, out: &[u8], n: usize) -> bool {
+    feed::flush(streams, out, n, b"fields: standard output") == 0
 }
 
 // Every whole field at the front of some bytes written to standard output, a part at a time, unless a write fails.
-fn write_all(rt: HostRuntime, input: &[u8], out: &mut [u8]) -> Wrote
+fn write_all(streams: Streams, input: &[u8], out: &mut [u8]) -> Wrote
     requires { 335882 ≤ length out.old }
     ensures { WritesAll (front_size false) input.now result.used result.failed }
 {
@@ -195,18 +195,18 @@ fn write_all(rt: HostRuntime, input: &[u8], out: &mut [u8]) -> Wrote
         }
         used += part.used;
         let n = part.written;
-        if !write_front(rt, out, n) {
+        if !write_front(streams, out, n) {
             return Wrote { used, failed: true };
         }
     }
 }
 
 // The bytes in front of a place taken: their whole fields written, and what is left of them moved to the front.
-fn take_turn(rt: HostRuntime, buf: &mut [u8], end: usize, out: &mut [u8]) -> Turn
+fn take_turn(streams: Streams, buf: &mut [u8], end: usize, out: &mut [u8]) -> Turn
     requires { (end ≤ length buf.old) × (335882 ≤ length out.old) }
     ensures { result.failed ≡ false → Keeps rest (take end buf.old) buf.old buf.new result.len }
 {
-    let wrote = write_all(rt, &buf[0..end], out);
+    let wrote = write_all(streams, &buf[0..end], out);
     let used = wrote.used;
     Turn {
         len: feed::slide(buf, used, end),
@@ -215,7 +215,7 @@ fn take_turn(rt: HostRuntime, buf: &mut [u8], end: usize, out: &mut [u8]) -> Tur
 }
 
 // Reads and takes until the input ends, or a read or a write fails. What a read brought is written before the next.
-fn take_input(rt: HostRuntime, buf: &mut [u8], out: &mut [u8]) -> Rest
+fn take_input(streams: Streams, buf: &mut [u8], out: &mut [u8]) -> Rest
     requires { 335882 ≤ length out.old }
     ensures { result.ended ≡ true → FedTo buf.new result.len }
 {
@@ -223,7 +223,7 @@ fn take_input(rt: HostRuntime, buf: &mut [u8], out: &mut [u8]) -> Rest
     let mut turns = u64::MAX;
     while turns > 0 {
         turns -= 1;
-        let got = read_more(rt, buf, len);
+        let got = read_more(streams, buf, len);
         let more = got.len;
         if more == 0 {
             return Rest {
@@ -231,7 +231,7 @@ fn take_input(rt: HostRuntime, buf: &mut [u8], out: &mut [u8]) -> Rest
                 ended: got.ended,
             };
         }
-        let turn = take_turn(rt, buf, len + more, out);
+        let turn = take_turn(streams, buf, len + more, out);
         len = turn.len;
         if turn.failed {
             return Rest { len, ended: false };
@@ -252,11 +252,11 @@ fn last_text(rest: &[u8], out: &mut [u8]) -> usize
 }
 
 // The run up to its last write.
-fn run_to_end(rt: HostRuntime, buf: &mut [u8], out: &mut [u8]) -> Ending
+fn run_to_end(streams: Streams, buf: &mut [u8], out: &mut [u8]) -> Ending
     requires { 335882 ≤ length out.old }
     ensures { Ends out.new result }
 {
-    let rest = take_input(rt, buf, out);
+    let rest = take_input(streams, buf, out);
     let len = rest.len;
     if !rest.ended {
         return Ending {
@@ -272,17 +272,17 @@ fn run_to_end(rt: HostRuntime, buf: &mut [u8], out: &mut [u8]) -> Ending
 
 // The whole run over two lent buffers: whether the input ended and all was written. Nothing is read where the first has less than the 65,538 bytes of the longest
 // field, or the second less than the 335,882 bytes that its text can have.
-pub fn run(rt: HostRuntime, buf: &mut [u8], out: &mut [u8]) -> bool {
+pub fn run(streams: Streams, buf: &mut [u8], out: &mut [u8]) -> bool {
     if buf.len() < 65538 {
         return false;
     }
     if out.len() < 335882 {
         return false;
     }
-    let end = run_to_end(rt, buf, out);
+    let end = run_to_end(streams, buf, out);
     let n = end.len;
     if !end.ended {
         return false;
     }
-    write_front(rt, out, n)
+    write_front(streams, out, n)
 }

@@ -5,8 +5,8 @@ use lib.ListN.{length}
 use Rattle.to_text.proofs.Turning.{Passed}
 use Rattle.to_text.proofs.write_all.Given as goal
 
-abbrev pub invariant-loop-rt : goal.invariant-loop-rt
-invariant-loop-rt l = Passed l.input l.used × (length l.out ≡ length l.initial.out)
+abbrev pub invariant-loop-streams : goal.invariant-loop-streams
+invariant-loop-streams l = Passed l.input l.used × (length l.out ≡ length l.initial.out)
 
-abbrev pub decreases-loop-rt : goal.decreases-loop-rt
-decreases-loop-rt l = length l.input - l.used
+abbrev pub decreases-loop-streams : goal.decreases-loop-streams
+decreases-loop-streams l = length l.input - l.used
