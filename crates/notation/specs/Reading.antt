@@ -246,5 +246,5 @@ asked_by (Refused at reason tag item) = none
 
 unfoldable pub is_refused : Read → Bool
 is_refused Nothing = false
-is_refused (Called call) = false
+is_refused (Called _) = false
 is_refused (Refused at reason tag item) = true
