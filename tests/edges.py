@@ -119,22 +119,21 @@ def outputs_that_fail(title, of):
 
 def outputs_that_wait(title, of):
     message, data = of.name + b': standard output: ', b''.join(of.calls)
-    # nobody reads for a second: what is written is a front of the text, with nothing behind the hole
+    # nobody reads until the program has ended: what is written is a front of the text, with nothing behind the hole
     read_end, write_end = pipe_that_does_not_wait(1)
     p = start(of.cmd, stdout=write_end)
     os.close(write_end)
     give(p, of.large + data)
-    time.sleep(1)
+    said = p.stderr.read()
     got = drain(read_end)
     os.close(read_end)
-    said = p.stderr.read()
     whole = run(of.cmd, of.large + data).stdout
     tell(title + ', output that does not wait', p.wait() == 1 and said.startswith(message + b'Resource temporarily unavailable') and whole.startswith(got) and len(got) < len(whole), (p.returncode, said, len(got), len(whole)))
     p = start(of.cmd)
     p.stdout.close()
     give(p, of.large)
     said = p.stderr.read()
-    tell(title + ', reader gone', p.wait() == 128 + signal.SIGPIPE and said == b'', (p.returncode, said))
+    tell(title + ', reader gone', p.wait() == 1 and said == message + b'Broken pipe (os error 32)\n', (p.returncode, said))
 
 
 def inputs_that_fail(title, of):
