@@ -8,7 +8,7 @@ ghost use Rattle.auction.specs.Lent.{alone_lent};
 
 use auction::BidRecord;
 
-// The same for C.
+// The auction run alone, over flat runs of units and prices.
 #[unsafe(no_mangle)]
 pub extern "C" fn ledger_auction(
     open_units: u64,

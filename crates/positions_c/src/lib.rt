@@ -1,7 +1,7 @@
 // Expected units from daily positions for C and Rust (include/ledger.h): each export calls the library's function of its name.
 #![tactic(auto)]
 
-ghost use Rattle.std.specs.Prelude.{◌≡◌, length, set};
+ghost use Rattle.std.specs.Prelude.{◌≡◌, length};
 ghost use Rattle.sets.specs.Set.{members};
 ghost use Rattle.splitting.specs.Limits.{Answer};
 ghost use Rattle.positions.specs.Days.{expected_units};
