@@ -10,18 +10,34 @@ import os
 import shutil
 import subprocess
 import sys
+import tempfile
 import time
 
 os.chdir(os.path.join(os.path.dirname(os.path.abspath(__file__)), ".."))
 name = sys.argv[1]
 rows = int(sys.argv[2]) if len(sys.argv) > 2 else 20
-folder = "crates/" + name
+kit = os.path.dirname(os.path.dirname(os.path.realpath(shutil.which("rt"))))
+deps = {}
+for line in open("crates.txt"):
+    if ":" in line.split("#")[0]:
+        crate, used = line.split("#")[0].split(":")
+        deps[crate.split()[0]] = used.split()
 # what the crate leans on is proved first, so that it is not counted
-subprocess.run(["rt", "check"], cwd=folder, capture_output=True)
-shutil.rmtree(folder + "/out/incremental", ignore_errors=True)
-began = time.time()
-said = subprocess.run(["rt", "check"], cwd=folder, stdout=subprocess.PIPE, stderr=subprocess.STDOUT, text=True).stdout
-saved = sorted((os.stat(f).st_mtime_ns / 1e9, os.path.basename(f)[: -len(".oantt")]) for f in glob.glob(folder + "/out/incremental/*/*.oantt"))
+subprocess.run(["rt", "check"], cwd="crates/" + name, capture_output=True)
+folder = os.path.abspath("crates")
+root = "main" if os.path.exists("%s/%s/src/main.rt" % (folder, name)) else "lib"
+words = [kit + "/bin/rattle", "check", "--crate-name", name, "src/%s.rt" % root, "--extern", "std=%s/rlibs/std.rlib" % kit, "-L", "dependency=%s/rlibs" % kit]
+for dep in deps[name]:
+    words += ["--extern", "%s=%s" % (dep, "%s/%s/out/rlib/%s.rlib" % (folder, dep, dep) if dep in deps else "%s/rlibs/%s.rlib" % (kit, dep))]
+for dep in deps:
+    words += ["-L", "dependency=%s/%s/out/rlib" % (folder, dep)] if os.path.isdir("%s/%s/out/rlib" % (folder, dep)) else []
+words += ["--antt-project", kit + "/rattle/logic/antt-project.json", "--logic-built", kit + "/logic_built"]
+# a folder of its own, since rt begins with what checks in other copies kept
+with tempfile.TemporaryDirectory() as kept:
+    began = time.time()
+    said = subprocess.run(words + ["--incremental", kept], cwd="crates/" + name, stdout=subprocess.PIPE, stderr=subprocess.STDOUT, text=True).stdout
+    took = time.time() - began
+    saved = sorted((os.stat(f).st_mtime_ns / 1e9, os.path.basename(f)[: -len(".oantt")]) for f in glob.glob(kept + "/*/*.oantt"))
 before = began
 modules = []
 kinds = collections.Counter()
@@ -31,7 +47,7 @@ for at, module in saved:
     kinds[last if last in ("Lts", "Tie", "Proof") else "all else"] += at - before
     before = at
 last = [line for line in said.splitlines() if line.startswith("logic=")]
-print("%s: %.1f s, %d modules, %s" % (name, time.time() - began, len(modules), last[-1].split()[0] if last else "no verdict"))
+print("%s: %.1f s, %d modules, %s" % (name, took, len(modules), last[-1].split()[0] if last else "no verdict"))
 print("  " + ", ".join("%s %.1f" % kind for kind in kinds.most_common()))
 for took, module in sorted(modules, reverse=True)[:rows]:
     print("  %5.2f %s" % (took, module))
