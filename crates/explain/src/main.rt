@@ -15,20 +15,13 @@ ghost use Rattle.feed.specs.Feeds.{Keeps, Fed};
 
 use case::Held;
 use feed::Streams;
-use texts::Line;
+use texts::Text;
 
 // What is held after a part of an input, the bytes that its whole fields took, and the place behind the text.
 #[derive(Clone, Copy)]
 struct Taken {
     held: Held,
     used: usize,
-    at: usize,
-}
-
-// What is held after a field, and the place behind its text.
-#[derive(Clone, Copy)]
-struct Step {
-    held: Held,
     at: usize,
 }
 
@@ -49,49 +42,35 @@ struct Rest {
 }
 
 // One field: the call, its answer in words, and the stage, the open units and the requirement after it.
-fn take_field(streams: Streams, held: Held, bytes: &[u8], out: &mut [u8], at: usize) -> Step
-    ensures { result.held ≡ (applied held bytes.now).held }
+fn take_field(text: &mut Text, held: Held, bytes: &[u8]) -> Held
+    ensures { result ≡ (applied held bytes.now).held }
 {
     let call = wire::read_call(bytes);
     let applied = case::take(held, call);
-    let named = answers::write_call(streams, call, bytes, out, at);
-    let said = answers::write_answer(
-        streams,
-        held.present,
-        held.case,
-        call,
-        applied.answer,
-        out,
-        named,
-    );
-    let next = applied.held;
-    let shown = answers::write_state(streams, applied.answer, next.present, next.case, out, said);
-    Step {
-        held: next,
-        at: shown,
-    }
+    answers::put_call(text, call, bytes);
+    answers::put_answer(text, held, call, applied.answer);
+    answers::put_state(text, applied.answer, applied.held);
+    applied.held
 }
 
 // The whole fields at the front of a part of an input, in turn.
 fn take_part(streams: Streams, held: Held, input: &[u8], out: &mut [u8]) -> Taken
     ensures { (result.held ≡ ledger_after held (whole input.now)) × (result.used ≡ bytes_of (whole input.now)) }
 {
+    let mut text = Text::new(streams, out, 0);
     let mut next = held;
     let mut used: usize = 0;
-    let mut to: usize = 0;
     let mut size = input::front_size(false, input);
     while size != 0 {
         let end = used + size;
-        let step = take_field(streams, next, &input[used..end], out, to);
-        next = step.held;
-        to = step.at;
+        next = take_field(&mut text, next, &input[used..end]);
         used = end;
         size = input::front_size(false, &input[used..]);
     }
     Taken {
         held: next,
         used,
-        at: to,
+        at: text.end(),
     }
 }
 
@@ -141,31 +120,31 @@ fn take_input(streams: Streams, buf: &mut [u8], out: &mut [u8]) -> Rest
 }
 
 // A field that is cut off by the input's end, of which these bytes are left.
-fn cut_line(rest: &[u8]) -> Line {
-    if rest.len() == 0 {
-        return texts::plain(texts::NOTHING);
+fn put_cut(text: &mut Text, rest: &[u8]) {
+    if let [tag, ..] = rest {
+        text.put(format_args!(
+            "cut off, tag {tag}, bytes {}\n    refused 1: the input ends within the field\n",
+            rest.len()
+        ));
     }
-    let tag = answers::wide(rest[0]);
-    texts::two(texts::CUT_OFF, tag, rest.len() as u64)
 }
 
 // The last line, where bytes of a field that is cut off are left: what stands above is not the whole case.
-fn last_line(left: usize) -> Line {
-    if left == 0 {
-        return texts::plain(texts::NOTHING);
+fn put_last(text: &mut Text, rest: &[u8]) {
+    if !rest.is_empty() {
+        text.put("\nNot the whole case: the input ends within a field.\n");
     }
-    texts::plain(texts::INCOMPLETE)
 }
 
 fn run(streams: Streams, buf: &mut [u8], out: &mut [u8]) {
     let rest = take_input(streams, buf, out);
-    let len = rest.len;
-    let held = rest.held;
     if rest.ended {
-        let cut = texts::fill(streams, out, 0, cut_line(&buf[0..len]));
-        let shown = tables::write_tables(streams, held, out, cut);
-        let end = texts::fill(streams, out, shown, last_line(len));
-        texts::flush(streams, out, end);
+        let mut text = Text::new(streams, out, 0);
+        let cut = &buf[..rest.len];
+        put_cut(&mut text, cut);
+        tables::put_tables(&mut text, rest.held);
+        put_last(&mut text, cut);
+        text.flush();
     }
 }
 

@@ -1,705 +1,483 @@
 // The tables at the end: pools, those sold by agreement, the bids of the open round, the loss and its six layers, members, and the units held by member, pool and price.
 // Each has a row of totals, but for the bids, and the members before FINISH.
-ghost use Rattle.std.specs.Prelude.{◌<◌, ◌≤◌};
+ghost use Rattle.std.specs.Prelude.{◌≤◌, ◌<◌, IfSome};
 
-use crate::texts;
-use crate::texts::{Line, amount_of, fill, minus, plain, worth};
+use crate::texts::{Cents, Money, Price, Set, Text, ZERO_PRICE, minus, sum_of, worth};
 use accounts::bids::Bids;
 use accounts::members::{Members, over_pools, widened, without_pools};
-use book::{Book, Result};
+use book::{Book, Result, Stage};
 use case::{Case, Held};
-use feed::Streams;
+use std::fmt::Display;
 use units::Units;
 use wire::Call;
 
-// The sum of two numbers, held to the largest number.
-fn plus(a: u64, b: u64) -> u64 {
-    if a <= 18446744073709551615 - b {
-        a + b
-    } else {
-        18446744073709551615
-    }
-}
-
-// The sum of 32 numbers.
-fn sum_of(xs: [u64; 32]) -> u64 {
-    let mut total: u64 = 0;
-    let mut m: usize = 0;
-    while m < 32 {
-        total = plus(total, xs[m]);
-        m += 1;
-    }
-    total
-}
-
-// The number at one of 32 places, and 0 behind them.
-fn number_at(xs: [u64; 32], m: u8) -> u64 {
-    if m < 32 { xs[m as usize] } else { 0 }
-}
-
-// The rank at one of 32 places, and 0 behind them.
-fn rank_at(xs: [u8; 32], m: u8) -> u64 {
-    if m < 32 { xs[m as usize] as u64 } else { 0 }
-}
-
 // ---- pools
 
-// The units of a pool: all, and by their kinds.
-fn pool_line(case: Case, pool: u8) -> Line {
-    let free = case.count(pool, 0);
-    let sold = case.count(pool, 1);
-    let allocated = case.count(pool, 2);
-    let moved = case.count(pool, 3);
-    let torn = case.count(pool, 4);
-    let all = plus(plus(plus(free, sold), plus(allocated, moved)), torn);
-    Line {
-        text: texts::POOLS_ROW,
-        numbers: [pool as u64, all, free, sold, allocated, moved, torn, 0, 0],
-    }
+// The units of a pool: open, sold, allocated, moved and torn.
+fn counts(case: Case, pool: u8) -> [u64; 5] {
+    [0, 1, 2, 3, 4].map(|kind| case.count(pool, kind))
 }
 
-// The units of a kind in all pools.
-fn all_of(case: Case, kind: u8) -> u64 {
-    let first = plus(case.count(0, kind), case.count(1, kind));
-    let last = plus(case.count(2, kind), case.count(3, kind));
-    plus(first, last)
+// The units of all pools: open, sold, allocated, moved and torn.
+fn all_counts(case: Case) -> [u64; 5] {
+    [0, 1, 2, 3, 4].map(|kind| sum_of([0, 1, 2, 3].map(|pool| case.count(pool, kind))))
 }
 
 // The units that are not open.
 fn not_open(case: Case) -> u64 {
-    let first = plus(all_of(case, 1), all_of(case, 2));
-    plus(first, plus(all_of(case, 3), all_of(case, 4)))
+    let [_, sold, allocated, moved, torn] = all_counts(case);
+    sum_of([sold, allocated, moved, torn])
 }
 
-// The units of all pools.
-fn pools_total(case: Case) -> Line {
-    let free = all_of(case, 0);
-    Line {
-        text: texts::POOLS_TOTAL,
-        numbers: [
-            plus(free, not_open(case)),
-            free,
-            all_of(case, 1),
-            all_of(case, 2),
-            all_of(case, 3),
-            all_of(case, 4),
-            0,
-            0,
-            0,
-        ],
-    }
-}
-
-// The rows of the pools given.
-fn pool_rows(streams: Streams, case: Case, given: u8, out: &mut [u8], at: usize) -> usize {
-    let mut to = at;
-    let mut pool: u8 = 0;
-    while pool < given {
-        to = fill(streams, out, to, pool_line(case, pool));
-        pool += 1;
-    }
-    to
+// A row: all units, and by their kinds.
+fn put_counts<D: Display + Drop>(text: &mut Text, name: D, counts: [u64; 5]) {
+    let all = sum_of(counts);
+    let [open, sold, allocated, moved, torn] = counts;
+    text.put(format_args!(
+        "{name:>7}{all:>10}{open:>10}{sold:>10}{allocated:>11}{moved:>10}{torn:>10}\n"
+    ));
 }
 
 // The table of the pools.
-fn write_pools(streams: Streams, case: Case, out: &mut [u8], at: usize) -> usize {
-    let book = case.book;
-    let pools = book.pools;
-    let title = fill(streams, out, at, plain(texts::POOLS_TITLE));
-    let rows = pool_rows(streams, case, pools.given, out, title);
-    fill(streams, out, rows, pools_total(case))
+fn put_pools(text: &mut Text, case: Case) {
+    text.put(
+        "\nPools, in units\n   pool     units      open      sold  allocated     moved      torn\n",
+    );
+    for pool in 0..case.book.pools.given {
+        put_counts(text, pool, counts(case, pool));
+    }
+    put_counts(text, "total", all_counts(case));
 }
 
 // ---- pools sold by agreement
 
+// The units of the four pools that were sold by agreement.
+fn agreed_units(units: Units) -> [u64; 4] {
+    [0, 1, 2, 3].map(|pool| u64::from(units.agreed_units(pool)))
+}
+
+// The prices of all units sold by agreement.
+fn agreed_worth(units: Units) -> u64 {
+    sum_of([0, 1, 2, 3].map(|pool| {
+        worth(u64::from(units.agreed_units(pool)), units.sale_price(pool))
+    }))
+}
+
 // The row of a pool sold by agreement; no other pool has one.
-fn sale_line(units: Units, pool: u8) -> Line {
-    let n = units.agreed_units(pool) as u64;
-    if n == 0 {
-        return plain(texts::NOTHING);
+fn put_sale(text: &mut Text, units: Units, pool: u8) {
+    let n = u64::from(units.agreed_units(pool));
+    if n != 0 {
+        let member = units.buyer(pool);
+        let price = units.sale_price(pool);
+        text.put(format_args!(
+            "{pool:>7}{n:>10}{member:>8}{:>15}{:>15}\n",
+            Price(price),
+            Money::of_units(n, price)
+        ));
     }
-    let price = units.sale_price(pool);
-    texts::five(
-        texts::SALES_ROW,
-        pool as u64,
-        n,
-        units.buyer(pool) as u64,
-        texts::price(price),
-        amount_of(n, price),
-    )
-}
-
-// The units of all pools sold by agreement.
-fn all_agreed(units: Units) -> u64 {
-    let first = units.agreed_units(0) as u64 + units.agreed_units(1) as u64;
-    let last = units.agreed_units(2) as u64 + units.agreed_units(3) as u64;
-    first + last
-}
-
-// What the units of a pool sold by agreement amount to, in two's complement.
-fn sale_amount(units: Units, pool: u8) -> u64 {
-    amount_of(units.agreed_units(pool) as u64, units.sale_price(pool))
-}
-
-// The units of all pools sold by agreement, and what they amount to.
-fn sales_total(units: Units) -> Line {
-    let first = std::num::wrapping_add_u64(sale_amount(units, 0), sale_amount(units, 1));
-    let last = std::num::wrapping_add_u64(sale_amount(units, 2), sale_amount(units, 3));
-    let all = std::num::wrapping_add_u64(first, last);
-    texts::two(texts::SALES_TOTAL, all_agreed(units), all)
-}
-
-// The rows of the pools sold by agreement.
-fn sale_rows(streams: Streams, units: Units, out: &mut [u8], at: usize) -> usize {
-    let mut to = at;
-    let mut pool: u8 = 0;
-    while pool < 4 {
-        to = fill(streams, out, to, sale_line(units, pool));
-        pool += 1;
-    }
-    to
 }
 
 // The table of the pools sold by agreement, where there are any.
-fn write_sales(streams: Streams, units: Units, out: &mut [u8], at: usize) -> usize {
-    if all_agreed(units) == 0 {
-        return at;
+fn put_sales(text: &mut Text, units: Units) {
+    let all = sum_of(agreed_units(units));
+    if all != 0 {
+        text.put(
+            "\nSold by agreement, counted as sold above\n   pool     units  member          price         amount\n",
+        );
+        for pool in 0..4 {
+            put_sale(text, units, pool);
+        }
+        let amount = Money::difference(agreed_worth(units), worth(all, ZERO_PRICE));
+        text.put(format_args!("  total{all:>10}{amount:>38}\n"));
     }
-    let title = fill(streams, out, at, plain(texts::SALES_TITLE));
-    let rows = sale_rows(streams, units, out, title);
-    fill(streams, out, rows, sales_total(units))
 }
 
 // ---- the bids of the open round
 
-// The text of a bid's row.
-fn bid_text(stands: bool) -> usize {
-    if stands {
-        texts::STANDING_ROW
-    } else {
-        texts::WITHDRAWN_ROW
-    }
-}
-
 // The row of a bid of a round; no other bid has one.
-fn bid_line(bids: Bids, round: u8, i: usize) -> Line {
-    if Bids::MOST <= i {
-        return plain(texts::NOTHING);
+fn put_bid(text: &mut Text, bids: Bids, round: u8, i: usize)
+    requires { i < 256 }
+{
+    let member = bids.member[i];
+    let pool = bids.pool[i];
+    let units = bids.units[i];
+    let price = Price(bids.price[i]);
+    let stands = if bids.stands[i] { "yes" } else { "withdrawn" };
+    if bids.round[i] == round {
+        text.put(format_args!("{i:>7}{member:>8}{pool:>8}{units:>10}{price:>15}  {stands}\n"));
     }
-    if bids.round[i] != round {
-        return plain(texts::NOTHING);
-    }
-    texts::five(
-        bid_text(bids.stands[i]),
-        i as u64,
-        bids.member[i] as u64,
-        bids.pool[i] as u64,
-        bids.units[i] as u64,
-        texts::price(bids.price[i]),
-    )
-}
-
-// The rows of the bids of a round, by their numbers.
-fn bid_rows(streams: Streams, bids: Bids, round: u8, out: &mut [u8], at: usize) -> usize {
-    let mut to = at;
-    let mut i: usize = 0;
-    while i < bids.kept {
-        to = fill(streams, out, to, bid_line(bids, round, i));
-        i += 1;
-    }
-    to
 }
 
 // The table of the bids of the open round, where there is one.
-fn write_bids(
-    streams: Streams,
-    open: bool,
-    round: u8,
-    bids: Bids,
-    out: &mut [u8],
-    at: usize,
-) -> usize {
-    if !open {
-        return at;
+fn put_bids(text: &mut Text, stage: Stage, bids: Bids) {
+    if let Stage::Bidding(round) = stage {
+        text.put(format_args!(
+            "\nBids of round {round}\n    bid  member    pool     units          price  stands\n"
+        ));
+        for i in 0..bids.kept.min(Bids::MOST) {
+            put_bid(text, bids, round, i);
+        }
     }
-    let title = fill(
-        streams,
-        out,
-        at,
-        texts::one(texts::BIDS_TITLE, round as u64),
-    );
-    bid_rows(streams, bids, round, out, title)
 }
 
 // ---- the loss
 
-// How the requirement comes about.
-fn loss_line(book: Book) -> Line {
-    let head = book.head;
-    texts::four(
-        texts::LOSS,
-        head.hedge as u64,
-        head.other as u64,
-        minus(book.prices(), Units::ZERO_PRICES),
-        book.requirement(),
-    )
-}
+// The six layers.
+const LAYERS: [&str; 6] = [
+    "1 defaulter's margin",
+    "2 defaulter's fund",
+    "3 house money, first tranche",
+    "4 members' contributions",
+    "5 house money, second tranche",
+    "6 members' payments",
+];
 
 // A limit, what is charged to it and what is left.
-fn charge_line(text: usize, limit: u64, charged: u64) -> Line {
-    texts::three(text, limit, charged, minus(limit, charged))
-}
-
-// Layer k of six.
-fn layer_line(most: [u64; 6], charges: [u64; 6], k: usize) -> Line {
-    if k < 6 {
-        return charge_line(texts::LAYER + k, most[k], charges[k]);
-    }
-    plain(texts::NOTHING)
-}
-
-// The rows of the six layers.
-fn layer_rows(
-    streams: Streams,
-    most: [u64; 6],
-    charges: [u64; 6],
-    out: &mut [u8],
-    at: usize,
-) -> usize {
-    let mut to = at;
-    let mut k: usize = 0;
-    while k < 6 {
-        to = fill(streams, out, to, layer_line(most, charges, k));
-        k += 1;
-    }
-    to
-}
-
-// The sum of six numbers.
-fn sum_of_six(xs: [u64; 6]) -> u64 {
-    let first = plus(xs[0], plus(xs[1], xs[2]));
-    let last = plus(xs[3], plus(xs[4], xs[5]));
-    plus(first, last)
+fn put_charge(text: &mut Text, name: &str, limit: u64, charged: u64) {
+    text.put(format_args!(
+        "  {name:<32}{:>15}{:>15}{:>15}\n",
+        Cents(limit),
+        Cents(charged),
+        Money::difference(limit, charged)
+    ));
 }
 
 // The six layers, their totals, the uncovered rest and the loss.
-fn write_layers(streams: Streams, most: [u64; 6], res: Result, out: &mut [u8], at: usize) -> usize {
-    let charges = res.charges;
-    let uncovered = res.uncovered;
-    let all = sum_of_six(charges);
-    let title = fill(streams, out, at, plain(texts::LAYERS_TITLE));
-    let rows = layer_rows(streams, most, charges, out, title);
-    let total = charge_line(texts::LAYERS_TOTAL, sum_of_six(most), all);
-    let added = fill(streams, out, rows, total);
-    fill(
-        streams,
-        out,
-        added,
-        texts::two(texts::UNCOVERED, uncovered, plus(all, uncovered)),
-    )
+fn put_layers(text: &mut Text, limits: [u64; 6], res: Result) {
+    text.put("\nLayers                                      limit        charged           left\n");
+    for k in 0..6 {
+        put_charge(text, LAYERS[k], limits[k], res.charges[k]);
+    }
+    let charged = sum_of(res.charges);
+    put_charge(text, "total", sum_of(limits), charged);
+    text.put(format_args!(
+        "  uncovered                                      {:>15}\n  loss                                           {:>15}\n",
+        Cents(res.uncovered),
+        Cents(sum_of([charged, res.uncovered]))
+    ));
 }
 
 // The table of the loss; the layers stand in it after FINISH.
-fn write_loss(streams: Streams, finished: bool, book: Book, out: &mut [u8], at: usize) -> usize {
-    let required = fill(streams, out, at, loss_line(book));
+fn put_loss(text: &mut Text, finished: bool, book: Book) {
+    text.put(format_args!(
+        "\nLoss\n  hedge loss                      {:>15}\n  other loss                      {:>15}\n  less prices of units not open   {:>15}\n  requirement, at least 0         {:>15}\n",
+        Cents(u64::from(book.head.hedge)),
+        Cents(u64::from(book.head.other)),
+        Money::difference(book.prices(), Units::ZERO_PRICES),
+        Cents(book.requirement())
+    ));
     if finished {
-        return write_layers(streams, book.limits(), book.result(), out, required);
+        put_layers(text, book.limits(), book.result());
+    } else {
+        text.put("  nothing is charged before FINISH\n");
     }
-    fill(streams, out, required, plain(texts::NOT_CHARGED))
 }
 
 // ---- members
 
-// The units that each member won, over all pools.
-fn units_won(members: Members) -> [u64; 32] {
-    let won = members.won;
-    over_pools(won)
-}
-
-// The units that each member is expected to take, over all pools that count.
-fn units_expected(members: Members) -> [u64; 32] {
-    let expected = members.expected;
-    over_pools(expected)
-}
-
-// The members' contributions.
-fn contributions(members: Members) -> [u64; 32] {
-    let given = members.contribution;
-    widened(given)
-}
-
-// What is called from the members.
-fn amounts_called(members: Members) -> [u64; 32] {
-    let called = members.called;
-    widened(called)
-}
-
-// What the members have paid.
-fn amounts_paid(members: Members) -> [u64; 32] {
-    let paid = members.paid;
-    widened(paid)
-}
-
-// The row of a member after FINISH.
-fn ranked_line(members: Members, res: Result, m: u8) -> Line {
-    let ranks = res.ranks;
-    let charged = res.contributions;
-    let taken = res.payments;
-    let won = number_at(units_won(members), m);
-    let expected = number_at(units_expected(members), m);
-    let numbers = [
-        m as u64,
-        won,
-        expected,
-        minus(won, expected),
-        rank_at(ranks, m),
-        number_at(contributions(members), m),
-        number_at(charged, m),
-        number_at(amounts_paid(members), m),
-        number_at(taken, m),
-    ];
-    Line {
-        text: texts::MEMBERS_ROW,
-        numbers,
-    }
-}
-
-// The row of a member before FINISH, when nothing is charged and nobody is ranked.
-fn early_line(members: Members, m: u8) -> Line {
-    let won = number_at(units_won(members), m);
-    let expected = number_at(units_expected(members), m);
-    let numbers = [
-        m as u64,
-        won,
-        expected,
-        minus(won, expected),
-        number_at(contributions(members), m),
-        number_at(amounts_called(members), m),
-        number_at(amounts_paid(members), m),
-        members.owes(m),
-        0,
-    ];
-    Line {
-        text: texts::EARLY_ROW,
-        numbers,
-    }
-}
-
-// The row of a member.
-fn member_line(finished: bool, members: Members, res: Result, m: u8) -> Line {
-    if finished {
-        ranked_line(members, res, m)
-    } else {
-        early_line(members, m)
-    }
-}
-
-// The rows of a set's members.
-fn member_rows(
-    streams: Streams,
-    finished: bool,
-    members: Members,
-    res: Result,
-    set: u32,
-    out: &mut [u8],
-    at: usize,
-) -> usize {
-    let mut to = at;
-    let mut left = set;
-    while left != 0 {
-        let m = sets::next(left);
-        left = sets::without_least(left);
-        to = fill(
-            streams,
-            out,
-            to,
-            member_line(finished, members, res, m as u8),
-        );
-    }
-    to
-}
-
-// The row of totals of the members; before FINISH there is none.
-fn members_total(finished: bool, members: Members, res: Result) -> Line {
-    if !finished {
-        return plain(texts::NOTHING);
-    }
-    let charged = res.contributions;
-    let taken = res.payments;
-    let won = sum_of(units_won(members));
-    let expected = sum_of(units_expected(members));
-    let numbers = [
-        won,
-        expected,
-        minus(won, expected),
-        sum_of(contributions(members)),
-        sum_of(charged),
-        sum_of(amounts_paid(members)),
-        sum_of(taken),
-        0,
-        0,
-    ];
-    Line {
-        text: texts::MEMBERS_TOTAL,
-        numbers,
-    }
-}
-
-// The title of the members' table.
-fn members_title(finished: bool, set: u32) -> Line {
-    let count = sets::count(set) as u64;
-    if finished {
-        texts::one(texts::MEMBERS_TITLE, count)
-    } else {
-        texts::one(texts::EARLY_TITLE, count)
-    }
-}
-
 // The members with the expected units that count for rank: "the units expected in a pool so sold, don't count".
 fn counted(members: Members, sold: [bool; 4]) -> Members {
     let expected = members.expected;
-    let counting = without_pools(expected, sold);
     let mut out = members;
-    out.expected = counting;
+    out.expected = without_pools(expected, sold);
     out
 }
 
+// What stands in a member's row, or in that of the totals, after FINISH.
+#[derive(Clone, Copy)]
+struct Ranked {
+    won: u64,
+    expected: u64,
+    contribution: u64,
+    charged: u64,
+    paid: u64,
+    taken: u64,
+}
+
+// A row after FINISH.
+fn put_ranked<D: Display + Drop, E: Display + Drop>(
+    text: &mut Text,
+    name: D,
+    rank: E,
+    row: Ranked,
+) {
+    let excess = minus(row.won, row.expected);
+    text.put(format_args!(
+        "{name:>8}{:>8}{:>10}{excess:>9}{rank:>7}{:>15}{:>15}{:>15}{:>15}\n",
+        row.won,
+        row.expected,
+        Cents(row.contribution),
+        Cents(row.charged),
+        Cents(row.paid),
+        Cents(row.taken)
+    ));
+}
+
+// The table after FINISH, with a row of totals.
+fn put_ranking(text: &mut Text, set: u32, members: Members, res: Result) {
+    text.put(format_args!(
+        "\nMembers, {}\n  member     won  expected   excess   rank   contribution        charged           paid        charged\n",
+        sets::count(set)
+    ));
+    let won = over_pools(members.won);
+    let expected = over_pools(members.expected);
+    let contribution = widened(members.contribution);
+    let paid = widened(members.paid);
+    for m in 0..32u8 {
+        if sets::has(set, m) {
+            let i = usize::from(m);
+            let row = Ranked {
+                won: won[i],
+                expected: expected[i],
+                contribution: contribution[i],
+                charged: res.contributions[i],
+                paid: paid[i],
+                taken: res.payments[i],
+            };
+            put_ranked(text, m, res.ranks[i], row);
+        }
+    }
+    let total = Ranked {
+        won: sum_of(won),
+        expected: sum_of(expected),
+        contribution: sum_of(contribution),
+        charged: sum_of(res.contributions),
+        paid: sum_of(paid),
+        taken: sum_of(res.payments),
+    };
+    put_ranked(text, "total", "", total);
+}
+
+// The table before FINISH, when nothing is charged and nobody is ranked.
+fn put_unranked(text: &mut Text, set: u32, members: Members) {
+    text.put(format_args!(
+        "\nMembers, {}\n  member     won  expected   excess   contribution         called           paid           owes\n",
+        sets::count(set)
+    ));
+    let won = over_pools(members.won);
+    let expected = over_pools(members.expected);
+    for m in 0..32u8 {
+        if sets::has(set, m) {
+            let i = usize::from(m);
+            text.put(format_args!(
+                "{m:>8}{:>8}{:>10}{:>9}{:>15}{:>15}{:>15}{:>15}\n",
+                won[i],
+                expected[i],
+                minus(won[i], expected[i]),
+                Cents(u64::from(members.contribution[i])),
+                Cents(u64::from(members.called[i])),
+                Cents(u64::from(members.paid[i])),
+                Cents(members.owes(m))
+            ));
+        }
+    }
+}
+
 // The pools sold by agreement, as a set.
-fn set_of(sold: [bool; 4]) -> u64 {
-    let first = plus(lists::number_if(sold[0], 1), lists::number_if(sold[1], 2));
-    let last = plus(lists::number_if(sold[2], 4), lists::number_if(sold[3], 8));
-    plus(first, last)
+fn set_of(sold: [bool; 4]) -> u32 {
+    let mut set = 0;
+    for (sold, pool) in sold.iter().zip(0..4u8) {
+        if *sold {
+            set = sets::with(set, pool);
+        }
+    }
+    set
 }
 
 // The pools whose expected units are left out, and how many these are over all members.
-fn left_out_line(members: Members, sold: [bool; 4]) -> Line {
+fn put_left_out(text: &mut Text, members: Members, sold: [bool; 4]) {
     let set = set_of(sold);
-    if set == 0 {
-        return plain(texts::NOTHING);
+    if set != 0 {
+        let all = sum_of(over_pools(members.expected));
+        let counting = sum_of(over_pools(counted(members, sold).expected));
+        text.put(format_args!(
+            "  expected leaves out pools sold by agreement (pools {}; units {})\n",
+            Set(set),
+            minus(all, counting)
+        ));
     }
-    let all = sum_of(units_expected(members));
-    let left = sum_of(units_expected(counted(members, sold)));
-    texts::two(texts::LEFT_OUT, set, minus(all, left))
 }
 
 // The table of the members.
-fn write_members(streams: Streams, finished: bool, book: Book, out: &mut [u8], at: usize) -> usize {
-    let head = book.head;
+fn put_members(text: &mut Text, finished: bool, book: Book) {
     let sold = book.sold_pools();
     let members = counted(book.members, sold);
-    let result = book.result();
-    let title = fill(streams, out, at, members_title(finished, head.set));
-    let rows = member_rows(streams, finished, members, result, head.set, out, title);
-    let added = fill(streams, out, rows, members_total(finished, members, result));
-    fill(streams, out, added, left_out_line(book.members, sold))
+    if finished {
+        put_ranking(text, book.head.set, members, book.result());
+    } else {
+        put_unranked(text, book.head.set, members);
+    }
+    put_left_out(text, book.members, sold);
 }
 
 // ---- units held
 
-// The place behind rows, with their units and the prices of these together.
+// Units, and their prices together as they are held.
 #[derive(Clone, Copy)]
-struct Rows {
-    at: usize,
+struct Sum {
     units: u64,
     prices: u64,
 }
 
-// Above every price.
-const NO_PRICE: u32 = 2_000_001;
-
-// The price of a bid of a member for a pool, and one above every price where it is another's.
-fn price_of(bidder: u8, put_up: u8, price: u32, m: u8, pool: u8) -> u32 {
-    if lists::both(bidder == m, put_up == pool) {
-        price
-    } else {
-        NO_PRICE
+impl Sum {
+    // The sum with the units of another.
+    fn and(self, more: Sum) -> Sum {
+        Sum {
+            units: self.units.saturating_add(more.units),
+            prices: self.prices.saturating_add(more.prices),
+        }
     }
-}
 
-// The lesser of a price and the best so far, where it is not below the first.
-fn lesser(price: u32, first: u32, best: u32) -> u32 {
-    if price < first {
-        return best;
+    // What is left of the sum without the units of another.
+    fn less(self, part: Sum) -> Sum {
+        Sum {
+            units: self.units.saturating_sub(part.units),
+            prices: self.prices.saturating_sub(part.prices),
+        }
     }
-    if price < best { price } else { best }
+
+    // What the units amount to.
+    fn amount(self) -> Money {
+        Money::difference(self.prices, worth(self.units, ZERO_PRICE))
+    }
 }
 
 // The least price of a member's bids for a pool, from a first one on.
-fn bid_price(book: Book, m: u8, pool: u8, first: u32) -> u32 {
-    let bids = book.bids;
-    let members = bids.member;
-    let pools = bids.pool;
+fn bid_price(bids: Bids, m: u8, pool: u8, first: u32) -> Option<u32> {
+    let member = bids.member;
+    let put_up = bids.pool;
     let prices = bids.price;
-    let mut best: u32 = NO_PRICE;
-    let mut i: usize = 0;
-    while i < 256 {
-        best = lesser(
-            price_of(members[i], pools[i], prices[i], m, pool),
-            first,
-            best,
-        );
-        i += 1;
-    }
-    best
+    member
+        .iter()
+        .zip(put_up.iter())
+        .zip(prices.iter())
+        .filter(|((bidder, put_up), price)| **bidder == m && **put_up == pool && first <= **price)
+        .map(|(_, price)| *price)
+        .min()
 }
 
-// The price of a pool's ALLOCATE.
-fn allocation_price(book: Book, pool: u8) -> u32 {
-    let units = book.units;
-    if pool < 4 {
-        units.allocation[pool as usize]
+// The price at which a pool was sold by agreement to a member.
+fn agreed_price(units: Units, m: u8, pool: u8) -> Option<u32> {
+    if 0 < units.agreed_units(pool) && units.buyer(pool) == m {
+        Some(units.sale_price(pool))
     } else {
-        NO_PRICE
-    }
-}
-
-// The price at which a pool was sold by agreement to a member, and one above every price where it was not.
-fn agreed_price(units: Units, m: u8, pool: u8) -> u32 {
-    if lists::both(0 < units.agreed_units(pool), units.buyer(pool) == m) {
-        units.sale_price(pool)
-    } else {
-        NO_PRICE
+        None
     }
 }
 
 // The least price, from a first one on, at which a member may hold units of a pool: that of a bid, of SALE, of ALLOCATE, or 0 cents for units moved to it.
-fn next_price(book: Book, m: u8, pool: u8, first: u32) -> u32 {
-    let bid = bid_price(book, m, pool, first);
-    let sold = lesser(agreed_price(book.units, m, pool), first, bid);
-    let allocated = lesser(allocation_price(book, pool), first, sold);
-    lesser(1_000_000, first, allocated)
-}
-
-// The units held at a price, where there are any.
-fn held_line(m: u8, pool: u8, price: u32, units: u64) -> Line {
-    if units == 0 {
-        return plain(texts::NOTHING);
-    }
-    texts::five(
-        texts::HELD_ROW,
-        m as u64,
-        pool as u64,
-        texts::price(price),
-        units,
-        amount_of(units, price),
-    )
-}
-
-// The rows of a member's units in a pool, by price.
-fn price_rows(streams: Streams, case: Case, m: u8, pool: u8, rows: Rows, out: &mut [u8]) -> Rows {
-    let book = case.book;
-    let mut at = rows.at;
-    let mut units = rows.units;
-    let mut prices = rows.prices;
-    let mut first: u32 = 0;
-    while first <= Call::MAX_PRICE {
-        let price = next_price(book, m, pool, first);
-        if Call::MAX_PRICE < price {
-            return Rows { at, units, prices };
-        }
-        let n = case.holding(m, pool, price);
-        at = fill(streams, out, at, held_line(m, pool, price, n));
-        units = plus(units, n);
-        prices = plus(prices, worth(n, price));
-        first = after(price, first);
-    }
-    Rows { at, units, prices }
-}
-
-// The price behind a price, and above the first in any case.
-fn after(price: u32, first: u32) -> u32
-    requires { first ≤ 2000000 }
-    ensures { (first < result) × (result ≤ 2000001) }
+fn next_price(book: Book, m: u8, pool: u8, first: u32) -> Option<u32>
+    ensures { IfSome result (λ price. (first ≤ price) × (price ≤ 2000000)) }
 {
-    if price < first {
-        return NO_PRICE;
+    let prices = [
+        bid_price(book.bids, m, pool, first),
+        agreed_price(book.units, m, pool),
+        book.units.allocation.get(usize::from(pool)).copied(),
+        Some(ZERO_PRICE),
+    ];
+    prices
+        .iter()
+        .filter_map(|price| *price)
+        .filter(|price| first <= *price && *price <= Call::MAX_PRICE)
+        .min()
+}
+
+// The row of the units held at a price, where there are any.
+fn put_holding(text: &mut Text, m: u8, pool: u8, price: u32, units: u64) {
+    if units != 0 {
+        text.put(format_args!(
+            "{m:>8}{pool:>8}{:>15}{units:>10}{:>15}\n",
+            Price(price),
+            Money::of_units(units, price)
+        ));
     }
-    if price < Call::MAX_PRICE {
-        price + 1
-    } else {
-        NO_PRICE
-    }
 }
 
-// The rows of a member's units.
-fn holding_rows(streams: Streams, case: Case, m: u8, rows: Rows, out: &mut [u8]) -> Rows {
-    let first = price_rows(streams, case, m, 0, rows, out);
-    let second = price_rows(streams, case, m, 1, first, out);
-    let third = price_rows(streams, case, m, 2, second, out);
-    price_rows(streams, case, m, 3, third, out)
-}
-
-// The rows of the units of a set's members.
-fn held_rows(streams: Streams, case: Case, set: u32, rows: Rows, out: &mut [u8]) -> Rows {
-    let mut next = rows;
-    let mut left = set;
-    while left != 0 {
-        let m = sets::next(left);
-        left = sets::without_least(left);
-        next = holding_rows(streams, case, m as u8, next, out);
-    }
-    next
-}
-
-// A row of units and their prices together.
-fn sum_line(text: usize, units: u64, prices: u64) -> Line {
-    let few = lists::smaller(units, 16_000);
-    texts::two(text, units, minus(prices, 1_000_000 * few))
-}
-
-// The sum of the prices of units that are not open, each as cents + 1,000,000.
-fn prices_of(book: Book, units: u64) -> u64 {
-    let above = plus(book.prices(), 1_000_000 * lists::smaller(units, 16_000));
-    lists::less(above, Units::ZERO_PRICES)
-}
-
-// The units held, the torn ones, and all units that are not open, with their prices.
-fn write_sums(streams: Streams, rows: Rows, units: u64, prices: u64, out: &mut [u8]) -> usize {
-    let torn = lists::less(units, rows.units);
-    let lost = lists::less(prices, rows.prices);
-    let first = sum_line(texts::HELD_SUM, rows.units, rows.prices);
-    let at = fill(streams, out, rows.at, first);
-    let to = fill(streams, out, at, sum_line(texts::TORN_SUM, torn, lost));
-    fill(streams, out, to, sum_line(texts::PRICED_SUM, units, prices))
-}
-
-// The table of the units held, with the torn ones and all units that are not open below.
-fn write_held(streams: Streams, case: Case, out: &mut [u8], at: usize) -> usize {
-    let book = case.book;
-    let head = book.head;
-    let none = Rows {
-        at: fill(streams, out, at, plain(texts::HELD_TITLE)),
+// The rows of a member's units in a pool, by price, and their sum.
+fn put_prices(text: &mut Text, case: Case, m: u8, pool: u8) -> Sum {
+    let mut sum = Sum {
         units: 0,
         prices: 0,
     };
-    let rows = held_rows(streams, case, head.set, none, out);
+    let mut first = 0;
+    while let Some(price) = next_price(case.book, m, pool, first) {
+        let units = case.holding(m, pool, price);
+        put_holding(text, m, pool, price, units);
+        sum = sum.and(Sum {
+            units,
+            prices: worth(units, price),
+        });
+        first = price + 1;
+    }
+    sum
+}
+
+// The rows of a member's units, and their sum.
+fn put_holdings(text: &mut Text, case: Case, m: u8) -> Sum {
+    let mut sum = Sum {
+        units: 0,
+        prices: 0,
+    };
+    for pool in 0..4 {
+        sum = sum.and(put_prices(text, case, m, pool));
+    }
+    sum
+}
+
+// The rows of the units of all members, and their sum.
+fn put_rows(text: &mut Text, case: Case) -> Sum {
+    let mut sum = Sum {
+        units: 0,
+        prices: 0,
+    };
+    for m in sets::members_of(case.book.head.set) {
+        sum = sum.and(put_holdings(text, case, m));
+    }
+    sum
+}
+
+// The units that are not open, with their prices; the book has these as cents, behind `ZERO_PRICES`.
+fn all_held(case: Case) -> Sum {
     let units = not_open(case);
-    write_sums(streams, rows, units, prices_of(book, units), out)
+    let prices = case.book.prices().saturating_add(worth(units, ZERO_PRICE));
+    Sum {
+        units,
+        prices: prices.saturating_sub(Units::ZERO_PRICES),
+    }
+}
+
+// A row of units and what they amount to.
+fn put_sum(text: &mut Text, name: &str, sum: Sum) {
+    text.put(format_args!("  {name:<29}{:>10}{:>15}\n", sum.units, sum.amount()));
+}
+
+// The table of the units held, with the torn ones and all units that are not open below.
+fn put_held(text: &mut Text, case: Case) {
+    text.put(
+        "\nUnits held, by pool and price\n  member    pool          price     units         amount\n",
+    );
+    let held = put_rows(text, case);
+    let all = all_held(case);
+    put_sum(text, "held", held);
+    put_sum(text, "torn", all.less(held));
+    put_sum(text, "total, units not open", all);
 }
 
 // ---- all tables
 
-// The tables of what is held at the end.
-pub fn write_tables(streams: Streams, held: Held, out: &mut [u8], at: usize) -> usize {
-    if !held.present {
-        return fill(streams, out, at, plain(texts::NO_TABLES));
+// Puts the tables of what is held at the end.
+pub fn put_tables(text: &mut Text, held: Held) {
+    if held.present {
+        let case = held.case;
+        let book = case.book;
+        let finished = matches!(case.stage, Stage::Finished);
+        put_pools(text, case);
+        put_sales(text, book.units);
+        put_bids(text, case.stage, book.bids);
+        put_loss(text, finished, book);
+        put_members(text, finished, book);
+        put_held(text, case);
+    } else {
+        text.put("no case\n");
     }
-    let case = held.case;
-    let stage = case.stage;
-    let book = case.book;
-    let letter = book::letter(stage);
-    let finished = letter == 5;
-    let pools = write_pools(streams, case, out, at);
-    let sales = write_sales(streams, book.units, out, pools);
-    let bids = write_bids(
-        streams,
-        letter == 2,
-        book::round_of(stage),
-        book.bids,
-        out,
-        sales,
-    );
-    let loss = write_loss(streams, finished, book, out, bids);
-    let members = write_members(streams, finished, book, out, loss);
-    write_held(streams, case, out, members)
 }

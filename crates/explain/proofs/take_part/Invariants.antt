@@ -8,7 +8,7 @@ use Rattle.explain.proofs.take_part.Given as goal
 
 abbrev pub invariant-loop-size : goal.invariant-loop-size
 invariant-loop-size l =
-    Passing (front_size false) (front-most false) ledger_after l.initial.next l.input l.next l.used × (l.size ≡ front_size false (drop l.used l.input)) × (length l.out ≡ length l.initial.out)
+    Passing (front_size false) (front-most false) ledger_after l.initial.next l.input l.next l.used × (l.size ≡ front_size false (drop l.used l.input))
 
 abbrev pub decreases-loop-size : goal.decreases-loop-size
 decreases-loop-size l = length l.input - l.used
