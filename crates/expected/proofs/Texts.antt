@@ -1,9 +1,8 @@
--- Texts: whether two are the same, the members that a word names, and the text of the shares. Assumes nothing.
-use Rattle.std.proofs.Common.{◌≡◌, ℕ, suc, ◌+◌, ◌%◌, ◌^◌, ◌<◌, ◌≤◌, Bool, true, false, ◌&&◌, eqb, List, [], ◌∷◌, ◌++◌, length, get_or, take, drop, sym, refl, ap, ◌∙◌, add-one, arith, drop_of_length-le, drop-cons, take-suc}
-use Rattle.lists.specs.Lists.{sum, sum_to, tab, joined, Each}
+-- The members that a word names, and the text of the shares. Assumes nothing.
+use Rattle.std.proofs.Common.{◌≡◌, ℕ, ◌+◌, ◌%◌, ◌^◌, ◌<◌, ◌≤◌, List, [], ◌∷◌, ◌++◌, length, get_or, take, fold, sym, ap, ◌∙◌, add-one, add_assoc, arith, take-suc}
+use Rattle.lists.specs.Lists.{sum, tab, joined, Each}
 use Rattle.lists.proofs.Joined.{joined-more, foldl-more}
 use Rattle.lists.proofs.Places.{tab-last}
-use Rattle.lists.proofs.Sums.{sum_to-next}
 use Rattle.machine.specs.Printed.{decimal}
 use Rattle.sets.specs.Set.{with_member}
 use Rattle.rows.specs.declared.Row.{Row}
@@ -11,31 +10,8 @@ use Rattle.rows.specs.Reading.{row_of}
 use Rattle.rows.proofs.Limits.{row_within}
 use Rattle.forms.specs.Put.{Put}
 use Rattle.forms.proofs.Puts.{put_then, put_as}
-use Rattle.expected.specs.Words.{set_of, eq_list}
+use Rattle.expected.specs.Words.{set_of}
 use Rattle.expected.specs.Shares.{member_word, expected_word, total_word, line_end, member_text, place_text, members_text, shares_text}
-
--- ---- whether two texts are the same
-
-module _ (a b : List ℕ) where
-  pub same_turn : (i : ℕ) → i < length a → length a ≡ length b
-      → eq_list (drop i a) (drop i b) ≡ (eqb (get_or a i 0) (get_or b i 0) && eq_list (drop (i + 1) a) (drop (i + 1) b))
-  unfolding eq_list
-  same_turn i l e = rw (add-one i, drop-cons a i 0 l, drop-cons b i 0 (omega arith))
-
-  pub same-done : (i : ℕ) → length a ≤ i → length a ≡ length b → eq_list (drop i a) (drop i b) ≡ true
-  unfolding eq_list
-  same-done i h e = rw (drop_of_length-le a {i = i} h, drop_of_length-le b {i = i} (omega arith))
-
-pub same_length : (a b : List ℕ) → (length a ≡ length b → ⊥) → eq_list a b ≡ false
-unfolding eq_list
-same_length [] [] h = absurd (h refl)
-same_length [] (y ∷ b) h = refl
-same_length (x ∷ a) [] h = refl
-same_length (x ∷ a) (y ∷ b) h = go (eqb x y) (same_length a b (λ e. h (ap suc e)))
-  where
-    go : (t : Bool) → eq_list a b ≡ false → (t && eq_list a b) ≡ false
-    go true e = e
-    go false e = refl
 
 -- ---- the set of some numbers
 
@@ -51,8 +27,10 @@ members-within word r e =
 
 -- ---- a sum in 64 bits
 
-pub total-turn : (xs : List ℕ) (m t r : ℕ) → t ≡ sum_to m (λ k. get_or xs k 0) % 2 ^ 64 → r ≡ (t + get_or xs m 0) % 2 ^ 64 → r ≡ sum_to (m + 1) (λ k. get_or xs k 0) % 2 ^ 64
-total-turn xs m t r h e = omega (arith, sum_to-next m (λ k. get_or xs k 0))
+pub total-fold : (xs : List ℕ) (t a : ℕ) → t ≡ a % 2 ^ 64 → fold (λ (t x : ℕ). (t + x) % 2 ^ 64) t xs ≡ (a + sum xs) % 2 ^ 64
+unfolding sum
+total-fold [] t a h = omega (arith, h)
+total-fold (x ∷ xs) t a h = total-fold xs ((t + x) % 2 ^ 64) (a + x) (omega (arith, h)) ∙ ap (λ (n : ℕ). n % 2 ^ 64) (add_assoc a x (sum xs))
 
 -- ---- the lines of the members
 

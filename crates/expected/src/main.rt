@@ -2,26 +2,18 @@
 // standard input, and with `--text` lines of positions; it prints a line for each member, with the units that its MEMBER call expects in the pool, and a total.
 #![tactic(auto)]
 
-ghost use Rattle.std.specs.Prelude.{◌≡◌, ◌+◌, ◌%◌, ◌^◌, ◌<◌, ◌≤◌, false, length, take};
+ghost use Rattle.std.specs.Prelude.{◌≡◌, ◌+◌, ◌%◌, ◌^◌, ◌≤◌, length};
 ghost use Rattle.lists.specs.Lists.{sum, Each};
 ghost use Rattle.machine.specs.Printed.{decimal};
 ghost use Rattle.forms.specs.Put.{Put};
-ghost use Rattle.expected.specs.Words.{set_of, members_in, units_in, eq_list};
+ghost use Rattle.expected.specs.Words.{set_of, members_in, units_in};
 ghost use Rattle.expected.specs.Shares.{member_text, place_text, members_text, shares_text};
 
 use feed::Streams;
 
-// A number that a word says, and whether it says one.
-#[derive(Clone, Copy)]
-struct Said {
-    good: bool,
-    number: u32,
-}
-
-// What the program is asked for, and whether it is asked for anything: the members, the units of the pool, and whether the days are text.
+// What the program is asked for: the members, the units of the pool, and whether the days are text.
 #[derive(Clone, Copy)]
 struct Asked {
-    good: bool,
     set: u32,
     units: u32,
     text: bool,
@@ -29,130 +21,80 @@ struct Asked {
 
 // ---- the words
 
-// The set of the first numbers.
-fn set_of(count: usize, numbers: [u32; 32]) -> u32
-    requires { (count ≤ 32) × Each (λ n. n ≤ 31) numbers }
-    ensures { result ≡ set_of (take count numbers) }
+// The set of some numbers.
+fn set_of(numbers: &[u32]) -> u32
+    requires { Each (λ n. n ≤ 31) numbers.now }
+    ensures { result ≡ set_of numbers.now }
 {
-    let mut set: u32 = 0;
-    let mut i: usize = 0;
-    while i < count {
-        set = sets::with(set, numbers[i] as u8);
-        i += 1;
+    let mut set = 0;
+    for n in numbers {
+        set = sets::with(set, *n as u8);
     }
     set
 }
 
-// No number is said.
-fn nothing() -> Said
-    ensures { result ≡ record { good = false; number = 0 } }
-{
-    Said {
-        good: false,
-        number: 0,
-    }
-}
-
 // The set of the members in a word, as in 0,1,2.
-fn members_in(word: &[u8]) -> Said
+fn members_in(word: &[u8]) -> Option<u32>
     ensures { result ≡ members_in word.now }
 {
     let row = rows::read_row(word, 1, 32, 31);
     if row.count == 0 {
-        return nothing();
+        return None;
     }
-    let numbers = row.numbers;
-    Said {
-        good: true,
-        number: set_of(row.count, numbers),
-    }
+    Some(set_of(&row.numbers[..row.count]))
 }
 
 // The number in a word.
-fn units_in(word: &[u8]) -> Said
+fn units_in(word: &[u8]) -> Option<u32>
     ensures { result ≡ units_in word.now }
 {
-    let row = rows::read_row(word, 1, 1, 4294967295);
+    let row = rows::read_row(word, 1, 1, u32::MAX);
     if row.count == 0 {
-        return nothing();
+        return None;
     }
-    let numbers = row.numbers;
-    Said {
-        good: true,
-        number: numbers[0],
-    }
-}
-
-// Whether two texts are the same.
-fn same(a: &[u8], b: &[u8]) -> bool
-    ensures { result ≡ eq_list a.now b.now }
-{
-    if a.len() != b.len() {
-        return false;
-    }
-    let mut i: usize = 0;
-    while i < a.len() {
-        if a[i] != b[i] {
-            return false;
-        }
-        i += 1;
-    }
-    true
+    Some(row.numbers[0])
 }
 
 // Whether the argument with a number is a word.
 fn is_word(rt: HostRuntime, i: usize, word: &[u8]) -> bool {
     let mut arg = [0u8; 16];
     let n = feed::read_word(rt, i, &mut arg);
-    same(&arg[..n], word)
+    &arg[..n] == word
 }
 
 // The members that the argument with a number names.
-fn members_at(rt: HostRuntime, i: usize) -> Said {
+fn members_at(rt: HostRuntime, i: usize) -> Option<u32> {
     let mut arg = [0u8; 256];
     let n = feed::read_word(rt, i, &mut arg);
     members_in(&arg[..n])
 }
 
 // The units that the argument with a number names.
-fn units_at(rt: HostRuntime, i: usize) -> Said {
+fn units_at(rt: HostRuntime, i: usize) -> Option<u32> {
     let mut arg = [0u8; 256];
     let n = feed::read_word(rt, i, &mut arg);
     units_in(&arg[..n])
 }
 
 // What four arguments ask for, of which the first has a number: `members`, a list, `units`, a number.
-fn asked_from(rt: HostRuntime, i: usize, text: bool) -> Asked
+fn asked_from(rt: HostRuntime, i: usize, text: bool) -> Option<Asked>
     requires { i ≤ 8 }
 {
-    let keys = lists::both(is_word(rt, i, b"members"), is_word(rt, i + 2, b"units"));
-    let members = members_at(rt, i + 1);
-    let units = units_at(rt, i + 3);
-    Asked {
-        good: lists::both(keys, lists::both(members.good, units.good)),
-        set: members.number,
-        units: units.number,
-        text,
+    if !is_word(rt, i, b"members") || !is_word(rt, i + 2, b"units") {
+        return None;
     }
+    let set = members_at(rt, i + 1)?;
+    let units = units_at(rt, i + 3)?;
+    Some(Asked { set, units, text })
 }
 
 // What the arguments ask for; the program's own name counts as one. `--text` stands before or behind the others.
-fn read_words(rt: HostRuntime) -> Asked {
-    let count = feed::word_count(rt);
-    if count == 5 {
-        return asked_from(rt, 1, false);
-    }
-    if lists::both(count == 6, is_word(rt, 1, b"--text")) {
-        return asked_from(rt, 2, true);
-    }
-    if lists::both(count == 6, is_word(rt, 5, b"--text")) {
-        return asked_from(rt, 1, true);
-    }
-    Asked {
-        good: false,
-        set: 0,
-        units: 0,
-        text: false,
+fn read_words(rt: HostRuntime) -> Option<Asked> {
+    match feed::word_count(rt) {
+        5 => asked_from(rt, 1, false),
+        6 if is_word(rt, 1, b"--text") => asked_from(rt, 2, true),
+        6 if is_word(rt, 5, b"--text") => asked_from(rt, 1, true),
+        _ => None,
     }
 }
 
@@ -192,7 +134,7 @@ fn put_place(out: &mut [u8], at: usize, set: u32, m: u8, units: u64) -> usize
     ensures { Put out.old at (place_text set m units) 88 result out.new }
 {
     if sets::has(set, m) {
-        return put_member(out, at, m as u64, units);
+        return put_member(out, at, u64::from(m), units);
     }
     at
 }
@@ -202,11 +144,9 @@ fn put_members(out: &mut [u8], set: u32, shares: [u64; 32]) -> usize
     requires { 2816 ≤ length out.old }
     ensures { Put out.old 0 (members_text set shares) 2816 result out.new }
 {
-    let mut to: usize = 0;
-    let mut m: u8 = 0;
-    while m < 32 {
-        to = put_place(out, to, set, m, shares[m as usize]);
-        m += 1;
+    let mut to = 0;
+    for m in 0..32u8 {
+        to = put_place(out, to, set, m, shares[usize::from(m)]);
     }
     to
 }
@@ -215,13 +155,7 @@ fn put_members(out: &mut [u8], set: u32, shares: [u64; 32]) -> usize
 fn total(shares: [u64; 32]) -> u64
     ensures { result ≡ sum shares % 2 ^ 64 }
 {
-    let mut t: u64 = 0;
-    let mut m: usize = 0;
-    while m < 32 {
-        t = std::num::wrapping_add_u64(t, shares[m]);
-        m += 1;
-    }
-    t
+    shares.iter().fold(0u64, |t, share| t.wrapping_add(*share))
 }
 
 // The text of the shares at the front of a buffer, and its length.
@@ -236,11 +170,6 @@ fn write_shares(out: &mut [u8], set: u32, shares: [u64; 32]) -> usize
 }
 
 // ---- the program
-
-// A text on standard error.
-fn tell(streams: Streams, text: &[u8]) {
-    feed::tell(streams, text);
-}
 
 // Prints the shares.
 fn print(streams: Streams, set: u32, shares: [u64; 32]) {
@@ -276,27 +205,32 @@ fn take_days(streams: Streams, set: u32, units: u64, text: bool, shares: &mut [u
 fn answer(streams: Streams, asked: Asked) {
     let set = asked.set;
     let mut shares = [0u64; 32];
-    if take_days(streams, set, asked.units as u64, asked.text, &mut shares) {
+    if take_days(
+        streams,
+        set,
+        u64::from(asked.units),
+        asked.text,
+        &mut shares,
+    ) {
         print(streams, set, shares);
     }
 }
 
 // Why nothing can be read, before a run.
 fn declined(asked: Asked) -> bool {
-    positions::why_before(positions::count_of(asked.set), asked.units as u64) != 0
+    positions::why_before(positions::count_of(asked.set), u64::from(asked.units)) != 0
 }
 
 fn main(rt: HostRuntime) {
     let streams = feed::streams_of(rt);
-    let asked = read_words(rt);
-    if !asked.good {
-        tell(
+    match read_words(rt) {
+        None => feed::tell(
             streams,
             b"usage: expected members 0,1,2 units 40 [--text] < FILE\n",
-        );
-    } else if declined(asked) {
-        tell(streams, b"declined by 5, units are 1 to 1000\n");
-    } else {
-        answer(streams, asked);
+        ),
+        Some(asked) if declined(asked) => {
+            feed::tell(streams, b"declined by 5, units are 1 to 1000\n");
+        }
+        Some(asked) => answer(streams, asked),
     }
 }

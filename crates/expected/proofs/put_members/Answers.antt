@@ -1,5 +1,5 @@
 -- `expected::put_members` meets its contract. The invariant: the lines of the places passed are written. Assumes nothing.
-use Rattle.std.proofs.Common.{◌≡◌, ◌+◌, ◌*◌, refl, ◌∙◌, arith, rules}
+use Rattle.std.proofs.Common.{◌≡◌, ◌+◌, ◌*◌, refl, arith}
 use Rattle.lists.specs.Lists.{tab, joined}
 use Rattle.forms.proofs.Puts.{put-none, put_as}
 use Rattle.expected.specs.Shares.{members_text}
@@ -8,22 +8,17 @@ use Rattle.expected.proofs.put_members.Goals as goal
 
 pub loop-m-init : goal.loop-m-init
 unfolding tab joined
-loop-m-init c = (search rules, refl, put_as 0 (omega arith) refl (put-none _ 0))
-
-pub put_place-to-requires : goal.put_place-to-requires
-put_place-to-requires c =
-    let at = c.loop-m in
-    omega (arith, at.invariant.2.behind, at.invariant.2.short, at.invariant.1)
+loop-m-init c = put_as 0 (omega arith) refl (put-none _ 0)
 
 pub loop-m-preserved : goal.loop-m-preserved
 loop-m-preserved c =
     let a = c.args in
     let at = c.loop-m in
-    (search rules, c.put_place-to.auto.out ∙ at.invariant.1, put_as ((at.m + 1) * 88) (omega arith) refl (lines-turn a.set a.shares _ at.out _ at.m at.to _ (at.m * 88) at.invariant.2 c.put_place-to.ensures))
+    put_as ((at.m + 1) * 88) (omega arith) refl (lines-turn a.set a.shares _ at.out _ at.m at.to _ (at.m * 88) at.invariant (rw c.from.ensures at c.put_place-to.ensures))
 
 pub returns : goal.returns
 unfolding members_text
 returns c =
     let at = c.loop-m in
     let all : at.m ≡ 32 = omega arith in
-    put_as 2816 (omega arith) (rw all) at.invariant.2
+    put_as 2816 (omega arith) (rw all) at.invariant

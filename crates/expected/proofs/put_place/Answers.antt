@@ -6,7 +6,7 @@ use Rattle.expected.proofs.put_place.Goals as goal
 
 pub returns-then-has : goal.returns-then-has
 unfolding place_text
-returns-then-has c = rw (sym c.has.ensures ∙ c.if-has.true) c.put_member.ensures
+returns-then-has c = rw (sym c.has.ensures ∙ c.if-has.true, ← c.from.ensures) c.put_member.ensures
 
 pub returns : goal.returns
 unfolding place_text
