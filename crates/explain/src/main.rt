@@ -6,7 +6,7 @@ mod ranges;
 mod tables;
 mod texts;
 
-ghost use Rattle.std.specs.Prelude.{◌≡◌, ◌≤◌, length, take};
+ghost use Rattle.std.specs.Prelude.{◌≡◌, ◌≤◌, IfOk, length, take};
 ghost use Rattle.input.specs.Strings.{bytes_of};
 ghost use Rattle.input.specs.Fields.{whole, rest};
 ghost use Rattle.case.specs.Cases.{applied};
@@ -14,7 +14,7 @@ ghost use Rattle.case.specs.Input.{ledger_after, HeldAfter};
 ghost use Rattle.feed.specs.Feeds.{Keeps, Fed};
 
 use case::Held;
-use feed::Streams;
+use feed::{Failed, Streams};
 use texts::Line;
 
 // What is held after a part of an input, the bytes that its whole fields took, and the place behind the text.
@@ -40,12 +40,11 @@ struct Turn {
     at: usize,
 }
 
-// What is held when the reading stops, how many bytes of a field that is cut off are kept at the buffer's front, and whether the input ended.
+// What is held when the input has ended, and how many bytes of a field that is cut off are kept at the buffer's front.
 #[derive(Clone, Copy)]
 struct Rest {
     held: Held,
     len: usize,
-    ended: bool,
 }
 
 // One field: the call, its answer in words, and the stage, the open units and the requirement after it.
@@ -111,33 +110,24 @@ fn take_turn(streams: Streams, held: Held, buf: &mut [u8], end: usize, out: &mut
 }
 
 // Reads and takes until the input ends, or a read or a write fails. What a read brought is written before the next. What is held is what the ledger holds.
-fn take_input(streams: Streams, buf: &mut [u8], out: &mut [u8]) -> Rest
-    ensures { Fed rest (HeldAfter result.held) buf.new result.len }
+fn take_input(streams: Streams, buf: &mut [u8], out: &mut [u8]) -> Result<Rest, Failed>
+    ensures { IfOk result (λ r. Fed rest (HeldAfter r.held) buf.new r.len) }
 {
     let mut held = Held::none();
     let mut len: usize = 0;
-    let mut turns = u64::MAX;
-    while turns > 0 {
-        turns -= 1;
-        let got = feed::read(streams, buf, len, b"explain: standard input");
-        let more = got.len;
+    for _ in 0..u64::MAX {
+        let more = feed::read(streams, buf, len, b"explain: standard input")?;
         if more == 0 {
-            return Rest {
-                held,
-                len,
-                ended: got.ended,
-            };
+            return Ok(Rest { held, len });
         }
         let turn = take_turn(streams, held, buf, len + more, out);
         held = turn.held;
         len = turn.len;
-        turns = feed::turns_left(turns, texts::flush(streams, out, turn.at));
+        if texts::flush(streams, out, turn.at) != 0 {
+            return Err(Failed);
+        }
     }
-    Rest {
-        held,
-        len,
-        ended: false,
-    }
+    Err(Failed)
 }
 
 // A field that is cut off by the input's end, of which these bytes are left.
@@ -158,11 +148,8 @@ fn last_line(left: usize) -> Line {
 }
 
 fn run(streams: Streams, buf: &mut [u8], out: &mut [u8]) {
-    let rest = take_input(streams, buf, out);
-    let len = rest.len;
-    let held = rest.held;
-    if rest.ended {
-        let cut = texts::fill(streams, out, 0, cut_line(&buf[0..len]));
+    if let Ok(Rest { held, len }) = take_input(streams, buf, out) {
+        let cut = texts::fill(streams, out, 0, cut_line(&buf[..len]));
         let shown = tables::write_tables(streams, held, out, cut);
         let end = texts::fill(streams, out, shown, last_line(len));
         texts::flush(streams, out, end);

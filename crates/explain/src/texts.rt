@@ -436,10 +436,16 @@ fn fill_from(out: &mut [u8], at: usize, texts: &[u8], start: usize, numbers: [u6
 // Where the buffer is written: a text is shorter than what is left behind this place.
 const NEARLY_FULL: usize = 98_304;
 
+// The place of an output that has failed: it is behind the buffer, so that every function that puts a text goes on and puts nothing.
+const STOPPED: usize = usize::MAX;
+
 // Writes what stands before the place, and begins anew. Once a write has failed, which is told on standard error, the place is behind the buffer, where nothing is
 // put any more.
 pub fn flush(streams: Streams, out: &mut [u8], at: usize) -> usize {
-    feed::flush(streams, out, at, b"explain: standard output")
+    match feed::flush(streams, out, at, b"explain: standard output") {
+        Ok(()) => 0,
+        Err(_) => STOPPED,
+    }
 }
 
 // Writes the buffer when it is nearly full.
