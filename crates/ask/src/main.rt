@@ -20,9 +20,9 @@ fn read_words(rt: HostRuntime) -> Question {
 fn print(streams: Streams, told: Told, out: &[u8]) {
     let n = told.len;
     if told.good {
-        feed::flush(streams, out, n, b"ask: standard output");
+        let _wrote = feed::flush(streams, out, n, b"ask: standard output");
     } else if n <= out.len() {
-        feed::tell(streams, &out[0..n]);
+        feed::tell(streams, &out[..n]);
     }
 }
 

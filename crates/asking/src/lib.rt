@@ -23,7 +23,7 @@ pub enum Question {
 }
 
 // What is held when the reading stops, how many bytes of a field that is cut off are left at the buffer's front, and whether the input ended: where it did not, a
-// read failed, or the buffer is too short.
+// read failed, or the buffer is too short. What is held and left is told in both cases, since `read_case` promises `Fed` of it where a read failed too.
 #[derive(Clone, Copy)]
 pub struct Rest {
     pub held: Held,
@@ -31,7 +31,7 @@ pub struct Rest {
     pub ended: bool,
 }
 
-// Whether the question is answered, and the length of the text at the buffer's front: the answer, or why there is none.
+// Whether the question is answered, and the length of the text at the buffer's front: the answer, or why there is none. There is a text in both cases.
 #[derive(Clone, Copy)]
 pub struct Told {
     pub good: bool,
@@ -78,7 +78,7 @@ fn take_turn(held: Held, buf: &mut [u8], end: usize) -> Turn
     requires { end ≤ length buf.old }
     ensures { (result.held ≡ ledger_after held (whole (take end buf.old))) × Keeps rest (take end buf.old) buf.old buf.new result.len }
 {
-    let taken = take_part(held, &buf[0..end]);
+    let taken = take_part(held, &buf[..end]);
     let used = taken.used;
     let next = taken.held;
     Turn {
@@ -101,16 +101,15 @@ pub fn read_case(streams: Streams, buf: &mut [u8]) -> Rest
             ended: false,
         };
     }
-    let mut turns = u64::MAX;
-    while turns > 0 {
-        turns -= 1;
-        let got = feed::read(streams, buf, len, b"ask: standard input");
-        let more = got.len;
+    for _ in 0..u64::MAX {
+        let Ok(more) = feed::read(streams, buf, len, b"ask: standard input") else {
+            break;
+        };
         if more == 0 {
             return Rest {
                 held,
                 len,
-                ended: got.ended,
+                ended: true,
             };
         }
         let turn = take_turn(held, buf, len + more);
@@ -168,7 +167,7 @@ fn put_refusal(out: &mut [u8], number: u8) -> usize
     ensures { Put out.old 0 (refusal_text number) 128 result out.new }
 {
     let a = words::put(out, 0, b"ask: refused ");
-    let b = words::number(out, a, number as u64);
+    let b = words::number(out, a, u64::from(number));
     let c = words::put(out, b, b": ");
     let d = put_sentence(out, c, number);
     words::put(out, d, b"\n")

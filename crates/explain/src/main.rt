@@ -6,7 +6,7 @@ mod ranges;
 mod tables;
 mod texts;
 
-ghost use Rattle.std.specs.Prelude.{◌≡◌, ◌≤◌, length, take};
+ghost use Rattle.std.specs.Prelude.{◌≡◌, ◌≤◌, IfOk, length, take};
 ghost use Rattle.input.specs.Strings.{bytes_of};
 ghost use Rattle.input.specs.Fields.{whole, rest};
 ghost use Rattle.case.specs.Cases.{applied};
@@ -14,31 +14,21 @@ ghost use Rattle.case.specs.Input.{ledger_after, HeldAfter};
 ghost use Rattle.feed.specs.Feeds.{Keeps, Fed};
 
 use case::Held;
-use feed::Streams;
+use feed::{Failed, Streams};
 use texts::Text;
 
-// What is held after a part of an input, the bytes that its whole fields took, and the place behind the text.
+// What is held after a part of an input, and the bytes that its whole fields took.
 #[derive(Clone, Copy)]
 struct Taken {
     held: Held,
     used: usize,
-    at: usize,
 }
 
-// What is held after a turn, how many bytes are kept at the buffer's front, and the place behind the text.
+// What is held after a turn, or when the input has ended, and how many bytes of a field that is cut off are kept at the buffer's front.
 #[derive(Clone, Copy)]
-struct Turn {
+struct Kept {
     held: Held,
     len: usize,
-    at: usize,
-}
-
-// What is held when the reading stops, how many bytes of a field that is cut off are kept at the buffer's front, and whether the input ended.
-#[derive(Clone, Copy)]
-struct Rest {
-    held: Held,
-    len: usize,
-    ended: bool,
 }
 
 // One field: the call, its answer in words, and the stage, the open units and the requirement after it.
@@ -54,69 +44,51 @@ fn take_field(text: &mut Text, held: Held, bytes: &[u8]) -> Held
 }
 
 // The whole fields at the front of a part of an input, in turn.
-fn take_part(streams: Streams, held: Held, input: &[u8], out: &mut [u8]) -> Taken
+fn take_part(text: &mut Text, held: Held, input: &[u8]) -> Taken
     ensures { (result.held ≡ ledger_after held (whole input.now)) × (result.used ≡ bytes_of (whole input.now)) }
 {
-    let mut text = Text::new(streams, out, 0);
     let mut next = held;
     let mut used: usize = 0;
     let mut size = input::front_size(false, input);
     while size != 0 {
         let end = used + size;
-        next = take_field(&mut text, next, &input[used..end]);
+        next = take_field(text, next, &input[used..end]);
         used = end;
         size = input::front_size(false, &input[used..]);
     }
-    Taken {
-        held: next,
-        used,
-        at: text.end(),
-    }
+    Taken { held: next, used }
 }
 
 // The bytes in front of a place taken: their whole fields, and what is left of them moved to the front.
-fn take_turn(streams: Streams, held: Held, buf: &mut [u8], end: usize, out: &mut [u8]) -> Turn
+fn take_turn(text: &mut Text, held: Held, buf: &mut [u8], end: usize) -> Kept
     requires { end ≤ length buf.old }
     ensures { (result.held ≡ ledger_after held (whole (take end buf.old))) × Keeps rest (take end buf.old) buf.old buf.new result.len }
 {
-    let taken = take_part(streams, held, &buf[0..end], out);
+    let taken = take_part(text, held, &buf[0..end]);
     let used = taken.used;
-    let next = taken.held;
-    Turn {
-        held: next,
+    Kept {
+        held: taken.held,
         len: feed::slide(buf, used, end),
-        at: taken.at,
     }
 }
 
 // Reads and takes until the input ends, or a read or a write fails. What a read brought is written before the next. What is held is what the ledger holds.
-fn take_input(streams: Streams, buf: &mut [u8], out: &mut [u8]) -> Rest
-    ensures { Fed rest (HeldAfter result.held) buf.new result.len }
+fn take_input(streams: Streams, text: &mut Text, buf: &mut [u8]) -> Result<Kept, Failed>
+    ensures { IfOk result (λ r. Fed rest (HeldAfter r.held) buf.new r.len) }
 {
     let mut held = Held::none();
     let mut len: usize = 0;
-    let mut turns = u64::MAX;
-    while turns > 0 {
-        turns -= 1;
-        let got = feed::read(streams, buf, len, b"explain: standard input");
-        let more = got.len;
+    for _ in 0..u64::MAX {
+        let more = feed::read(streams, buf, len, b"explain: standard input")?;
         if more == 0 {
-            return Rest {
-                held,
-                len,
-                ended: got.ended,
-            };
+            return Ok(Kept { held, len });
         }
-        let turn = take_turn(streams, held, buf, len + more, out);
+        let turn = take_turn(text, held, buf, len + more);
         held = turn.held;
         len = turn.len;
-        turns = feed::turns_left(turns, texts::flush(streams, out, turn.at));
+        text.flush()?;
     }
-    Rest {
-        held,
-        len,
-        ended: false,
-    }
+    Err(Failed)
 }
 
 // A field that is cut off by the input's end, of which these bytes are left.
@@ -136,20 +108,18 @@ fn put_last(text: &mut Text, rest: &[u8]) {
     }
 }
 
-fn run(streams: Streams, buf: &mut [u8], out: &mut [u8]) {
-    let rest = take_input(streams, buf, out);
-    if rest.ended {
-        let mut text = Text::new(streams, out, 0);
-        let cut = &buf[..rest.len];
-        put_cut(&mut text, cut);
-        tables::put_tables(&mut text, rest.held);
-        put_last(&mut text, cut);
-        text.flush();
-    }
+// The whole input, and the tables at its end. A read or a write that failed was told.
+fn run(streams: Streams, text: &mut Text, buf: &mut [u8]) -> Result<(), Failed> {
+    let Kept { held, len } = take_input(streams, text, buf)?;
+    put_cut(text, &buf[..len]);
+    tables::put_tables(text, held);
+    put_last(text, &buf[..len]);
+    text.flush()
 }
 
 fn main(rt: HostRuntime) {
+    let streams = feed::streams_of(rt);
     let mut buf = [0u8; 131072];
     let mut out = [0u8; 131072];
-    run(feed::streams_of(rt), &mut buf, &mut out);
+    let _done = run(streams, &mut Text::new(streams, &mut out), &mut buf);
 }

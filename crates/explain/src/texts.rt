@@ -1,5 +1,5 @@
 // What a run prints: text in a lent buffer, which goes to standard output when it is nearly full; and amounts of money and sets of members as text.
-use feed::Streams;
+use feed::{Failed, Streams};
 use std::fmt;
 use std::fmt::{Display, Formatter, InlineText, Write};
 use wire::Call;
@@ -10,15 +10,16 @@ use words::Amount;
 // Where the buffer is written: what is put at a time is shorter than what is left behind this place.
 const NEARLY_FULL: usize = 98_304;
 
-// A lent buffer, and the place behind its text.
+// A lent buffer, the place behind its text, and whether all that was to be written before is written.
 #[derive(Drop)]
 pub struct Text<'a> {
     streams: Streams,
     out: &'a mut [u8],
     at: usize,
+    written: Result<(), Failed>,
 }
 
-// Bytes that don't fit are left out, so no write fails.
+// Bytes that don't fit are left out, so no write to the buffer fails.
 impl Write for Text<'_> {
     fn write_str(&mut self, s: &str) -> fmt::Result {
         let at = self.at;
@@ -28,19 +29,21 @@ impl Write for Text<'_> {
 }
 
 impl<'a> Text<'a> {
-    pub fn new(streams: Streams, out: &'a mut [u8], at: usize) -> Text<'a> {
-        Text { streams, out, at }
+    pub fn new(streams: Streams, out: &'a mut [u8]) -> Text<'a> {
+        Text {
+            streams,
+            out,
+            at: 0,
+            written: Ok(()),
+        }
     }
 
-    // The place behind the text.
-    pub fn end(&self) -> usize {
-        self.at
-    }
-
-    // Puts a text, and writes the buffer when it is nearly full.
+    // Puts a text, and writes the buffer when it is nearly full. Where that fails, `flush` says so.
     pub fn put<D: Display + Drop>(&mut self, text: D) {
         let _put = self.write(text);
-        self.flush_if_full();
+        if NEARLY_FULL <= self.at {
+            let _written = self.flush();
+        }
     }
 
     // Puts the line of a call, and says whether it has one: `Unknown` has none.
@@ -50,24 +53,16 @@ impl<'a> Text<'a> {
         self.at != at
     }
 
-    fn flush_if_full(&mut self) {
-        if NEARLY_FULL <= self.at {
-            self.flush();
+    // Writes the text, and begins anew. Once a write has failed, which is told on standard error, nothing is written any more.
+    pub fn flush(&mut self) -> Result<(), Failed> {
+        if self.written.is_ok() {
+            let streams = self.streams;
+            let at = self.at;
+            self.written = feed::flush(streams, self.out, at, b"explain: standard output");
+            self.at = 0;
         }
+        self.written
     }
-
-    // Writes the text, and begins anew.
-    pub fn flush(&mut self) {
-        let streams = self.streams;
-        let at = self.at;
-        self.at = flush(streams, self.out, at);
-    }
-}
-
-// Writes what stands before the place, and begins anew. Once a write has failed, which is told on standard error, the place is behind the buffer, where nothing is
-// put any more.
-pub fn flush(streams: Streams, out: &mut [u8], at: usize) -> usize {
-    feed::flush(streams, out, at, b"explain: standard output")
 }
 
 // ---- amounts

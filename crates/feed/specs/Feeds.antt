@@ -1,13 +1,13 @@
 -- What the shared functions of the programs leave in a lent buffer, and the loop of a program: one turn over the bytes that are in the buffer, and what holds after
 -- all turns. What a program takes of bytes, fields or lines, is cut off by a function `rest`, which says what is left of them.
-use Rattle.std.specs.Prelude.{◌≡◌, List, ◌++◌, ℕ, ◌-◌, ◌≤◌, length, take, drop}
+use Rattle.std.specs.Prelude.{◌≡◌, List, ◌++◌, ℕ, ◌-◌, ◌≤◌, length, take, drop, Result, IfOk}
 use Rattle.lists.specs.Lists.{joined, Bytes}
-use Rattle.feed.specs.declared.Got.{Got}
+use Rattle.feed.specs.declared.Failed.{Failed}
 
 -- a read into a buffer from a place on: the bytes before the place stay, and those that came are behind it, within the buffer
-pub record Reads (at : ℕ) (old new : List ℕ) (r : Got) : Type 0 where
+pub record Reads (at : ℕ) (old new : List ℕ) (r : Result ℕ Failed) : Type 0 where
   pub front : take at new ≡ take at old
-  pub room : r.len ≤ length old - at
+  pub room : IfOk r (λ n. n ≤ length old - at)
 
 -- the bytes from a start to an end, moved to the front of a buffer, with the buffer's own behind them
 abbrev pub slid : ℕ → ℕ → List ℕ → List ℕ

@@ -3,7 +3,7 @@
 // standard error, behind a name that is handed over.
 #![tactic(auto)]
 
-ghost use Rattle.std.specs.Prelude.{◌≡◌, ◌-◌, ◌≤◌, ◌<◌, IfOk, length, take};
+ghost use Rattle.std.specs.Prelude.{◌≡◌, ◌-◌, ◌≤◌, ◌<◌, IfOk, IsErr, is_ok, length, take};
 ghost use Rattle.feed.specs.Feeds.{Reads, Slides};
 
 use std::env::{Env, FillError};
@@ -27,12 +27,9 @@ pub fn streams_of(rt: HostRuntime) -> Streams {
     }
 }
 
-// How many bytes came; where none did, whether the input has ended, or else the read failed.
-#[derive(Clone, Copy)]
-pub struct Got {
-    pub len: usize,
-    pub ended: bool,
-}
+// A read or a write that failed. Why was told on standard error.
+#[derive(Clone, Copy, Debug, PartialEq, Eq)]
+pub struct Failed;
 
 // Whether a call that failed so is to be made again: a signal came before it moved a byte.
 fn again(error: io::Error) -> bool {
@@ -45,10 +42,11 @@ pub fn tell(streams: Streams, text: &[u8]) {
 }
 
 // Why a read or a write failed, as a line on standard error behind the name.
-fn fail(streams: Streams, name: &[u8], error: io::Error) {
+fn fail(streams: Streams, name: &[u8], error: io::Error) -> Failed {
     tell(streams, name);
     tell(streams, b": ");
     let _told = streams.error.println(error);
+    Failed
 }
 
 // One call, into the buffer from a place on.
@@ -70,84 +68,58 @@ fn read_again(streams: Streams, buf: &mut [u8], at: usize) -> io::Result<usize>
     if buf.len() < at {
         return Err(io::Error::from(ErrorKind::InvalidInput));
     }
-    let mut turns = u64::MAX;
-    while turns > 0 {
-        turns -= 1;
+    for _ in 0..u64::MAX {
         match read_once(streams, buf, at) {
             Ok(n) => return Ok(n),
-            Err(error) => {
-                if !again(error) {
-                    return Err(error);
-                }
-            }
+            Err(error) if again(error) => {}
+            Err(error) => return Err(error),
         }
     }
     Err(io::Error::from(ErrorKind::Interrupted))
 }
 
-// Reads from standard input into the buffer from a place on. A read that fails is told.
-pub fn read(streams: Streams, buf: &mut [u8], at: usize, name: &[u8]) -> Got
+// Reads from standard input into the buffer from a place on, and gives the number of bytes that came: none at the input's end. A read that fails is told on
+// standard error behind the name that is handed over.
+pub fn read(streams: Streams, buf: &mut [u8], at: usize, name: &[u8]) -> Result<usize, Failed>
     ensures { Reads at buf.old buf.new result }
 {
-    match read_again(streams, buf, at) {
-        Ok(len) => Got { len, ended: true },
-        Err(error) => {
-            fail(streams, name, error);
-            Got {
-                len: 0,
-                ended: false,
-            }
-        }
-    }
+    read_again(streams, buf, at).map_err(|error| fail(streams, name, error))
 }
 
 // Writes all of a text to standard output, or gives the error of the first call that fails, and what stands there is then a front of the text. A call
-// that a signal interrupts is made again.
-fn write_whole(streams: Streams, text: &[u8]) -> io::Result<()> {
-    let mut done: usize = 0;
-    let mut turns = u64::MAX;
-    while done < text.len() {
-        if turns == 0 {
-            return Err(io::Error::from(ErrorKind::Interrupted));
+// that a signal interrupts is made again, however often; the `write_all` of std gives up in the end.
+pub fn write(streams: Streams, text: &[u8]) -> io::Result<()> {
+    let mut left = text;
+    for _ in 0..u64::MAX {
+        if left.is_empty() {
+            return Ok(());
         }
-        turns -= 1;
-        match streams.output.write_some(&text[done..]) {
+        match streams.output.write_some(left) {
             Ok(0) => return Err(io::Error::from(ErrorKind::WriteZero)),
-            Ok(n) => done += n,
-            Err(error) => {
-                if !again(error) {
-                    return Err(error);
-                }
-            }
+            Ok(n) => left = &left[n..],
+            Err(error) if again(error) => {}
+            Err(error) => return Err(error),
         }
     }
-    Ok(())
+    Err(io::Error::from(ErrorKind::Interrupted))
 }
 
-// Writes all of a text to standard output and answers true, or answers false at the first call that fails; then what stands there is a front of the text.
-// A call that a signal interrupts is made again.
-pub fn write(streams: Streams, text: &[u8]) -> bool {
-    write_whole(streams, text).is_ok()
+// What a write gave, where its error is told on standard error behind the name.
+fn told(streams: Streams, wrote: io::Result<()>, name: &[u8]) -> Result<(), Failed>
+    ensures { is_ok result ≡ is_ok wrote }
+{
+    wrote.map_err(|error| fail(streams, name, error))
 }
 
-// The place of an output that has failed: it is behind every buffer.
-const STOPPED: usize = 18446744073709551615;
-
-// Writes what stands in front of the place to standard output, and gives the front as the place to go on from. Where the write fails, that is told on
-// standard error behind the name that is handed over, and the place given is behind every buffer; it stays there.
-pub fn flush(streams: Streams, out: &[u8], at: usize, name: &[u8]) -> usize
-    ensures { length out.now < at → result ≡ at }
+// Writes what stands in front of the place to standard output. A write that fails is told on standard error behind the name that is handed over. Where the place
+// is behind the buffer nothing is written, nothing is told, and the write has failed.
+pub fn flush(streams: Streams, out: &[u8], at: usize, name: &[u8]) -> Result<(), Failed>
+    ensures { length out.now < at → IsErr result }
 {
     if out.len() < at {
-        return at;
+        return Err(Failed);
     }
-    match write_whole(streams, &out[0..at]) {
-        Ok(()) => 0,
-        Err(error) => {
-            fail(streams, name, error);
-            STOPPED
-        }
-    }
+    told(streams, write(streams, &out[..at]), name)
 }
 
 // How many words the program is called with; its own name counts as one.
@@ -169,13 +141,6 @@ pub fn read_word(rt: HostRuntime, i: usize, buf: &mut [u8]) -> usize
     rt.arg(i, buf).unwrap_or(0)
 }
 
-// The turns that are left after a write: none where it failed.
-pub fn turns_left(turns: u64, at: usize) -> u64
-    ensures { (at ≡ 0 → result ≡ turns) × (0 < at → result ≡ 0) × (result ≤ turns) }
-{
-    if at == 0 { turns } else { 0 }
-}
-
 // Moves the bytes between two places to the front, and says how many they are. Where the places are not in order or behind the buffer, nothing moves.
 pub fn slide(buf: &mut [u8], start: usize, end: usize) -> usize
     ensures { Slides start end buf.old buf.new result }
@@ -186,11 +151,6 @@ pub fn slide(buf: &mut [u8], start: usize, end: usize) -> usize
     if end < start {
         return 0;
     }
-    let n = end - start;
-    let mut i: usize = 0;
-    while i < n {
-        buf[i] = buf[start + i];
-        i += 1;
-    }
-    n
+    buf.copy_within(start..end, 0);
+    end - start
 }

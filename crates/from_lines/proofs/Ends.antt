@@ -1,5 +1,5 @@
 -- The end of the run: the last line, and the shares. Assumes nothing.
-use Rattle.std.proofs.Common.{◌≡◌, ℕ, suc, ◌+◌, ◌-◌, ◌≤◌, Bool, true, false, eqb, List, [], ◌++◌, length, take, drop, sym, refl, ap, ◌∙◌, append-nil, arith, length-take, eq-eqb, ne_eqb, eqb-true}
+use Rattle.std.proofs.Common.{Some, None, ◌≡◌, ℕ, suc, ◌+◌, ◌-◌, ◌≤◌, Bool, true, false, eqb, List, [], ◌++◌, length, take, drop, sym, refl, ap, ◌∙◌, append-nil, arith, length-take, eq-eqb, ne_eqb, eqb-true}
 use mathlib.Core.Bool.{false≢true}
 use lib.Seq.{drop-length}
 use borrow.Author.Tests.{eqb-false}
@@ -118,19 +118,18 @@ module _ (set units : ℕ) where
 
   -- one that is
   pub gives-declined : (shares : List ℕ) (k before : ℕ) → k ≡ count set → before ≡ why_before k units → (before ≡ 0 → ⊥)
-      → Gives set units shares shares (record { known = true; given = false })
+      → Gives set units shares shares (Some false)
   unfolding joined lines_give
   gives-declined shares k before ke be not-ready =
       record {
         parts = [];
         bytes = tt;
-        known = λ _. rw (ne_eqb (why_before n units) 0 (λ z. not-ready (be ∙ ap (λ (j : ℕ). why_before j units) ke ∙ z))) refl;
-        unknown = λ e. absurd (false≢true (sym e));
+        is = rw (ne_eqb (why_before n units) 0 (λ z. not-ready (be ∙ ap (λ (j : ℕ). why_before j units) ke ∙ z))) refl;
       }
 
-  pub gives-unknown : (shares : List ℕ) → Gives set units shares shares (record { known = false; given = false })
+  pub gives-unknown : (shares : List ℕ) → Gives set units shares shares None
   unfolding joined
-  gives-unknown shares = record { parts = []; bytes = tt; known = λ e. absurd (false≢true e); unknown = λ _. (refl, refl) }
+  gives-unknown shares = record { parts = []; bytes = tt; is = refl }
 
   module _ (ready : why_before (count set) units ≡ 0) where
     -- what is left behind the lines that were taken decides
@@ -143,7 +142,7 @@ module _ (set units : ℕ) where
         ∙ rw (eq-eqb (why_before n units) 0 ready) refl
 
     pub gives-refused : (buf shares : List ℕ) (x : Kept) (lines len : ℕ) (refused : Bool) → FedTo (count set) buf lines x refused len → refused ≡ true
-        → Gives set units shares shares (record { known = true; given = false })
+        → Gives set units shares shares (Some false)
     gives-refused buf shares x lines len refused f stopped =
         let text = joined f.parts in
         let there : line_size false (rest n text) ≡ 0 → ⊥ = λ z. false≢true (sym (sym stopped ∙ f.is.stops ∙ rw z refl)) in
@@ -152,21 +151,19 @@ module _ (set units : ℕ) where
         record {
           parts = f.parts;
           bytes = f.bytes;
-          known = λ _.
+          is =
               ap (λ (b : Bool). nothing_or b set units (records n (good_lines n text) ++ records n (lines_of (rest n text))) shares) (sym bad) ∙ lines_left text shares;
-          unknown = λ e. absurd (false≢true (sym e));
         }
 
     pub gives-end : (buf kept shares shares' : List ℕ) (x : Kept) (lines len : ℕ) (refused r : Bool) → FedTo (count set) buf lines x refused len → kept ≡ take len buf
-        → Finishes set units kept x shares shares' r → Gives set units shares shares' (record { known = true; given = r })
+        → Finishes set units kept x shares shares' r → Gives set units shares shares' (Some r)
     gives-end buf kept shares shares' x lines len refused r f lends end =
         let text = joined f.parts in
         record {
           parts = f.parts;
           bytes = f.bytes;
-          known = λ _.
+          is =
               end (records n (good_lines n text)) f.is.holds
               ∙ ap (λ (s : List ℕ). nothing_or (any_refused n s) set units (records n (good_lines n text) ++ records n (lines_of s)) shares) (lends ∙ f.kept)
               ∙ lines_left text shares;
-          unknown = λ e. absurd (false≢true (sym e));
         }

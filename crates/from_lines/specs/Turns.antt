@@ -1,7 +1,8 @@
 -- The loop that reads lines of positions: what is kept after the lines that were taken, and what the run gives at its end.
-use Rattle.std.specs.Prelude.{◌≡◌, ℕ, ◌+◌, ◌%◌, ◌^◌, ◌≤◌, Bool, true, false, not, ◌||◌, List, ◌++◌, length, ◌==◌}
+use Rattle.std.specs.Prelude.{◌≡◌, ℕ, ◌+◌, ◌%◌, ◌^◌, ◌≤◌, Bool, true, false, not, ◌||◌, List, ◌++◌, length, ◌==◌, Option, MatchOption, Result, IfOk}
 use Rattle.lists.specs.Lists.{when◌then◌else◌, any, joined, Bytes}
 use Rattle.sets.specs.Set.{members}
+use Rattle.feed.specs.declared.Failed.{Failed}
 use Rattle.feed.specs.Feeds.{Keeps, Fed}
 use Rattle.translation.specs.Writes.{texts, WritesAll}
 use Rattle.text_lines.specs.Lines as Lines
@@ -12,7 +13,6 @@ use Rattle.positions.specs.Keeping.{Kept, keeping, no_days, part_of}
 use Rattle.from_lines.specs.declared.Took.{Took}
 use Rattle.from_lines.specs.declared.Turn.{Turn}
 use Rattle.from_lines.specs.declared.Rest.{Rest}
-use Rattle.from_lines.specs.declared.Outcome.{Outcome}
 
 -- how many members a set has
 abbrev pub count : ℕ → ℕ
@@ -76,11 +76,15 @@ pub record After (n lines : ℕ) (x : Kept) (refused : Bool) (s : List ℕ) : Ty
 abbrev pub FedTo : ℕ → List ℕ → ℕ → Kept → Bool → ℕ → Type 0
 FedTo n buf lines x refused len = Fed (rest n) (After n lines x refused) buf len
 
+-- where the input ended or a line is refused
+pub record StopsAt (n : ℕ) (buf ring sums : List ℕ) (rest : Rest) : Type 0 where
+  pub fed : FedTo n buf rest.lines (keeping rest.row ring sums) rest.refused rest.len
+  pub room : rest.refused ≡ false → rest.len ≤ 65536
+
 -- The contract of `take_input`. Where the input ended, at most 65,536 bytes are kept, so that a buffer of 65,537 bytes has room for a further read, and the read
 -- that brought nothing is the input's end.
-pub record TakesInput (n : ℕ) (buf ring sums : List ℕ) (r : Rest) : Type 0 where
-  pub fed : r.known ≡ true → FedTo n buf r.lines (keeping r.row ring sums) r.refused r.len
-  pub room : r.known ≡ true → r.refused ≡ false → r.len ≤ 65536
+abbrev pub TakesInput : ℕ → List ℕ → List ℕ → List ℕ → Result Rest Failed → Type 0
+TakesInput n buf ring sums r = IfOk r (StopsAt n buf ring sums)
 
 -- ---- what is given
 
@@ -110,10 +114,9 @@ Finishes set units left x shares shares' r =
     (run : List ℕ) → Holds n run x → ◌≡◌ {A = Given} (r, shares') (nothing_or (any_refused n left) set units (run ++ records n (lines_of left)) shares)
 
 -- The contract of `run`. There are parts, those that were read. Where it is known what their text gives, the shares are given or not, and are, as `lines_give` says;
--- else they are not given and untouched. No contract says which bytes a read brings, so that the parts are only known to exist; the contracts of `take_turn` and
--- `finish` speak of bytes that are lent.
-pub record Gives (set units : ℕ) (shares shares' : List ℕ) (r : Outcome) : Type 0 where
+-- else they are untouched. No contract says which bytes a read brings, so that the parts are only known to exist; the contracts of `take_turn` and `finish` speak of
+-- bytes that are lent.
+pub record Gives (set units : ℕ) (shares shares' : List ℕ) (r : Option Bool) : Type 0 where
   pub parts : List (List ℕ)
   pub bytes : Bytes (joined parts)
-  pub known : r.known ≡ true → ◌≡◌ {A = Given} (r.given, shares') (lines_give set units (joined parts) shares)
-  pub unknown : r.known ≡ false → (r.given ≡ false) × (shares' ≡ shares)
+  pub is : MatchOption r (shares' ≡ shares) (λ given. ◌≡◌ {A = Given} (given, shares') (lines_give set units (joined parts) shares))

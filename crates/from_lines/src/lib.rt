@@ -4,24 +4,15 @@
 
 mod messages;
 
-ghost use Rattle.std.specs.Prelude.{◌≡◌, ◌+◌, ◌%◌, ◌^◌, ◌≤◌, false, length, take};
-ghost use Rattle.feed.specs.Feeds.{Reads};
+ghost use Rattle.std.specs.Prelude.{◌≡◌, ◌≤◌, false, length, take};
 ghost use Rattle.text_lines.specs.Lines.{line_size};
 ghost use Rattle.rows.specs.Days.{WritesDays};
 ghost use Rattle.positions.specs.Days.{why_before};
 ghost use Rattle.positions.specs.Keeping.{no_days, keeping};
 ghost use Rattle.from_lines.specs.Turns.{count, TakesAll, TakesTurn, TakesInput, Finishes, Gives};
 
-use feed::{Got, Streams};
+use feed::{Failed, Streams};
 use rows::Part;
-
-// What became of a run: whether it is known what its text gives, since the input was read to its end, a line is refused, or the set or the units are declined; and
-// whether the shares are given. It is not known where a read failed or a buffer is too small.
-#[derive(Clone, Copy)]
-pub struct Outcome {
-    pub known: bool,
-    pub given: bool,
-}
 
 // The bytes of the lines that were taken, the number of lines up to then, the row of the ring that the next day takes, and whether the next line is refused.
 #[derive(Clone, Copy)]
@@ -41,14 +32,13 @@ struct Turn {
     refused: bool,
 }
 
-// How many bytes are kept at the buffer's front when the reading stops, the number of lines, the row that the next day takes, whether the input ended or a line is
-// refused, and whether it is that.
+// How many bytes are kept at the buffer's front when the input has ended or a line is refused, the number of lines, the row that the next day takes, and whether a
+// line is refused.
 #[derive(Clone, Copy)]
 struct Rest {
     len: usize,
     lines: u64,
     row: usize,
-    known: bool,
     refused: bool,
 }
 
@@ -63,20 +53,6 @@ fn take_some(last: bool, set: u32, input: &[u8], out: &mut [u8]) -> Part
 }
 
 // ---- the loop
-
-// Reads from standard input into the buffer from a place on.
-fn read_more(streams: Streams, buf: &mut [u8], at: usize) -> Got
-    ensures { Reads at buf.old buf.new result }
-{
-    feed::read(streams, buf, at, b"expected: standard input")
-}
-
-// The number of lines, and some more.
-fn counted(lines: u64, count: usize) -> u64
-    ensures { result ≡ (lines + count) % 2 ^ 64 }
-{
-    std::num::wrapping_add_u64(lines, count as u64)
-}
 
 // Every line at the front of some bytes taken, a part at a time, up to the first that is refused or not all there.
 fn take_all(
@@ -107,9 +83,9 @@ fn take_all(
             };
         }
         used += part.used;
-        lines = counted(lines, count);
+        lines = lines.wrapping_add(count as u64);
         let n = part.written;
-        let days = positions::take_days(ring, sums, row, set, &out[0..n]);
+        let days = positions::take_days(ring, sums, row, set, &out[..n]);
         row = days.row;
     }
 }
@@ -128,7 +104,7 @@ fn take_turn(
     requires { (end ≤ length buf.old) × (128 ≤ length out.old) }
     ensures { TakesTurn (count set) lines (take end buf.old) (keeping row ring.old sums.old) buf.old buf.new ring.new sums.new result }
 {
-    let took = take_all(set, lines, row, &buf[0..end], out, ring, sums);
+    let took = take_all(set, lines, row, &buf[..end], out, ring, sums);
     let used = took.used;
     Turn {
         len: feed::slide(buf, used, end),
@@ -146,48 +122,37 @@ fn take_input(
     out: &mut [u8],
     ring: &mut [u32; 2112],
     sums: &mut [u64; 32],
-) -> Rest
+) -> Result<Rest, Failed>
     requires { (1 ≤ count set) × (128 ≤ length out.old) × (keeping 0 ring.old sums.old ≡ no_days) }
     ensures { TakesInput (count set) buf.new ring.new sums.new result }
 {
     let mut lines: u64 = 0;
     let mut row: usize = 0;
     let mut len: usize = 0;
-    let mut turns = u64::MAX;
-    while turns > 0 {
-        turns -= 1;
-        let got = read_more(streams, buf, len);
-        let more = got.len;
+    for _ in 0..u64::MAX {
+        let more = feed::read(streams, buf, len, b"expected: standard input")?;
         if more == 0 {
-            return Rest {
+            return Ok(Rest {
                 len,
                 lines,
                 row,
-                known: got.ended,
                 refused: false,
-            };
+            });
         }
         let turn = take_turn(set, lines, row, buf, len + more, out, ring, sums);
         len = turn.len;
         lines = turn.lines;
         row = turn.row;
         if turn.refused {
-            return Rest {
+            return Ok(Rest {
                 len,
                 lines,
                 row,
-                known: true,
                 refused: true,
-            };
+            });
         }
     }
-    Rest {
-        len,
-        lines,
-        row,
-        known: false,
-        refused: false,
-    }
+    Err(Failed)
 }
 
 // ---- the end
@@ -196,9 +161,9 @@ fn take_input(
 fn tell_refused(streams: Streams, last: bool, set: u32, lines: u64, text: &[u8]) {
     let size = text_lines::line_size(last, text);
     let n = positions::count_of(set);
-    let row = rows::read_day(n, &text[0..size]);
+    let row = rows::read_day(n, &text[..size]);
     if row.reason != 0 {
-        messages::tell_line(streams, counted(lines, 1), row.at, row.reason, n);
+        messages::tell_line(streams, lines.wrapping_add(1), row.at, row.reason, n);
     }
 }
 
@@ -224,7 +189,7 @@ fn finish(
         return false;
     }
     let end = part.written;
-    positions::take_days(ring, sums, row, set, &out[0..end]);
+    positions::take_days(ring, sums, row, set, &out[..end]);
     positions::end(sums, set, units, 0, shares) == 0
 }
 
@@ -236,45 +201,30 @@ fn run_to_end(
     buf: &mut [u8],
     out: &mut [u8],
     shares: &mut [u64; 32],
-) -> Outcome
+) -> Option<bool>
     requires { (why_before (count set) units ≡ 0) × (1 ≤ count set) × (128 ≤ length out.old) }
     ensures { Gives set units shares.old shares.new result }
 {
     let mut ring = [0u32; 2112];
     let mut sums = [0u64; 32];
-    let rest = take_input(streams, set, buf, out, &mut ring, &mut sums);
-    let len = rest.len;
-    if !rest.known {
-        return Outcome {
-            known: false,
-            given: false,
-        };
-    }
+    let Ok(rest) = take_input(streams, set, buf, out, &mut ring, &mut sums) else {
+        return None;
+    };
+    let left = &buf[..rest.len];
     if rest.refused {
-        tell_refused(streams, false, set, rest.lines, &buf[0..len]);
-        return Outcome {
-            known: true,
-            given: false,
-        };
+        tell_refused(streams, false, set, rest.lines, left);
+        return Some(false);
     }
-    let given = finish(
-        streams,
-        set,
-        units,
-        rest.lines,
-        rest.row,
-        &buf[0..len],
-        out,
-        &mut ring,
-        &mut sums,
-        shares,
-    );
-    Outcome { known: true, given }
+    Some(finish(
+        streams, set, units, rest.lines, rest.row, left, out, &mut ring, &mut sums, shares,
+    ))
 }
 
-// Reads lines of positions from standard input to its end and gives each member its share of the units. Where a line is refused, that is told on standard error and
-// the shares are untouched; so they are where a read failed, which is told too. Nothing is read where the set or the units are declined, where the first buffer has
-// less than the 65,537 bytes that tell a line that is too long, or the second less than the 128 bytes that a record can have; none of these is told.
+// Reads lines of positions from standard input to its end and gives each member its share of the units: whether that was done, where it is known what the text
+// gives, since it was read to its end, a line is refused, or the set or the units are declined. It is not known where a read failed or a buffer is too small.
+// Where a line is refused, that is told on standard error and the shares are untouched; so they are where a read failed, which is told too. Nothing is read where
+// the set or the units are declined, where the first buffer has less than the 65,537 bytes that tell a line that is too long, or the second less than the 128 bytes
+// that a record can have; none of these is told.
 pub fn run(
     streams: Streams,
     set: u32,
@@ -282,27 +232,18 @@ pub fn run(
     buf: &mut [u8],
     out: &mut [u8],
     shares: &mut [u64; 32],
-) -> Outcome
+) -> Option<bool>
     ensures { Gives set units shares.old shares.new result }
 {
     let n = positions::count_of(set);
     if positions::why_before(n, units) != 0 {
-        return Outcome {
-            known: true,
-            given: false,
-        };
+        return Some(false);
     }
     if buf.len() < 65537 {
-        return Outcome {
-            known: false,
-            given: false,
-        };
+        return None;
     }
     if out.len() < 128 {
-        return Outcome {
-            known: false,
-            given: false,
-        };
+        return None;
     }
     run_to_end(streams, set, units, buf, out, shares)
 }

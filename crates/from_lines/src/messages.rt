@@ -1,7 +1,4 @@
 // Why a line is refused, in words.
-ghost use Rattle.std.specs.Prelude.{◌≤◌};
-
-use crate::counted;
 use feed::Streams;
 use text_lines::put_line;
 use words::number;
@@ -42,11 +39,6 @@ fn put(out: &mut [u8], at: usize, k: usize) -> usize {
     put_line(out, at, pieces, k)
 }
 
-// A place as a number.
-fn wide(n: usize) -> u64 {
-    n as u64
-}
-
 // One of two places, by whether there is one thing or several.
 fn by_number(n: usize, one: usize, several: usize) -> usize {
     if n == 1 { one } else { several }
@@ -54,16 +46,16 @@ fn by_number(n: usize, one: usize, several: usize) -> usize {
 
 // How many positions a day has.
 fn put_members(out: &mut [u8], at: usize, n: usize) -> usize {
-    let a = number(out, at, wide(n));
+    let a = number(out, at, n as u64);
     let b = put(out, a, by_number(n, MEMBER, MEMBERS));
-    let c = number(out, b, wide(n));
+    let c = number(out, b, n as u64);
     put(out, c, by_number(n, POSITION, POSITIONS))
 }
 
 // A reason for n members.
 fn put_reason(out: &mut [u8], at: usize, reason: u8, n: usize) -> usize {
-    let to = put(out, at, REASONS + lists::place(reason));
-    if lists::either(reason == 4, reason == 5) {
+    let to = put(out, at, REASONS + usize::from(reason));
+    if reason == 4 || reason == 5 {
         return put_members(out, to, n);
     }
     to
@@ -74,21 +66,13 @@ fn put_place(out: &mut [u8], line: u64, place: usize) -> usize {
     let a = put(out, 0, LINE);
     let b = number(out, a, line);
     let c = put(out, b, COLUMN);
-    let d = number(out, c, counted(1, place));
+    let d = number(out, c, (place as u64).wrapping_add(1));
     put(out, d, COLON)
-}
-
-// A length, at most that of a message.
-fn capped(n: usize) -> usize
-    ensures { result ≤ 256 }
-{
-    if n < 256 { n } else { 256 }
 }
 
 // The first bytes of a message as a line on standard error.
 fn tell(streams: Streams, note: [u8; 256], n: usize) {
-    let end = capped(n);
-    feed::tell(streams, &note[0..end]);
+    feed::tell(streams, &note[..n.min(256)]);
     feed::tell(streams, b"\n");
 }
 

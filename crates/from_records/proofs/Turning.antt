@@ -1,10 +1,8 @@
 -- One turn of the loop, what holds after each, and what is given at the end: laws that the proofs of the functions cite. Assumes nothing.
-use Rattle.std.proofs.Common.{◌≡◌, ℕ, ◌+◌, ◌-◌, ◌*◌, ◌/◌, ◌<◌, ◌≤◌, true, false, eqb, List, [], ◌∷◌, ◌++◌, length, get_or, take, drop, sym, refl, ap, ◌∙◌, true≢false, mul-add, arith, length-append, length-drop, length-take-le, drop-drop, take-add, eqb-true}
+use Rattle.std.proofs.Common.{Some, None, ◌≡◌, ℕ, ◌+◌, ◌-◌, ◌*◌, ◌/◌, ◌<◌, ◌≤◌, List, [], ◌∷◌, ◌++◌, length, get_or, take, drop, sym, refl, ap, ◌∙◌, mul-add, arith, length-append, length-drop, length-take-le, drop-drop, take-add}
 use native.Mathlib.Nat.{mul-add-div}
 use lib.Seq.{drop-append-le, drop-nil}
-use borrow.Author.Tests.{eqb-false}
 use Rattle.lists.specs.Lists.{joined}
-use Rattle.lists.proofs.Bools.{cases}
 use Rattle.lists.proofs.Joined.{joined-more}
 use Rattle.sets.specs.Set.{members}
 use Rattle.splitting.specs.Limits.{Answer}
@@ -15,9 +13,9 @@ use Rattle.positions.specs.Keeping.{Kept, no_days, Taken, taken, part_of, ended}
 use Rattle.positions.proofs.Whole.{ready-some, answers-before, answers-bad}
 use Rattle.positions.proofs.Parts.{used_le, part-used, first-days, first_then, first-none, part-some-member, end-first}
 use Rattle.from_records.specs.declared.Turn.{Turn}
-use Rattle.from_records.specs.declared.Rest.{Rest}
-use Rattle.from_records.specs.declared.Outcome.{Outcome}
-use Rattle.from_records.specs.Turns.{left_of, TakesTurn, Reached, SumsOf, Declined, TakesInput, Finishes, Gives}
+use Rattle.from_records.specs.declared.Stop.{Stop}
+use Rattle.from_records.specs.declared.Stop.TheVariants.{Ended, Refused}
+use Rattle.from_records.specs.Turns.{left_of, TakesTurn, Reached, SumsOf, Declined, StopsAt, Finishes, Gives}
 
 -- ---- what is left of bytes
 
@@ -139,60 +137,29 @@ read-end set units shares buf sums len z f =
     ∙ ap (λ (s : List ℕ). ended set units (length bytes - t.used) s shares) f.is.kept
     ∙ end-first set units bytes shares z good
 
--- the three ends of `finish`
-module _ (set units : ℕ) (rest : Rest) (shares : List ℕ) where
-  pub finish-declined : (rest.answer ≡ 0 → ⊥) → Finishes set units rest shares shares (record { known = true; answer = rest.answer })
-  finish-declined h = record { declined = λ k. (refl, refl, refl); failed = λ z e. absurd (h z); whole = λ z e. absurd (h z) }
-
-  pub finish-failed : rest.answer ≡ 0 → rest.ended ≡ false → Finishes set units rest shares shares (record { known = false; answer = 0 })
-  finish-failed z e = record { declined = λ k. absurd (k z); failed = λ y d. (refl, refl); whole = λ y d. absurd (true≢false (sym d ∙ e)) }
-
-  pub finish-whole : (out : List ℕ) (answer : ℕ) → rest.answer ≡ 0 → rest.ended ≡ true → ◌≡◌ {A = Answer} (answer, out) (ended set units rest.len rest.sums shares)
-      → Finishes set units rest shares out (record { known = true; answer = answer })
-  finish-whole out answer z e is = record { declined = λ k. absurd (k z); failed = λ y d. absurd (true≢false (sym e ∙ d)); whole = λ y d. (refl, is) }
-
 -- declined before the run, and nothing read
 pub gives-declined : (set units : ℕ) (shares : List ℕ) (k why : ℕ) → k ≡ length (members set) → why ≡ why_before k units → (why ≡ 0 → ⊥)
-    → Gives set units shares shares (record { known = true; answer = why })
+    → Gives set units shares shares (Some why)
 unfolding joined
-gives-declined set units shares k why e w h =
-    record { parts = []; known = λ g. answers-before set units [] shares k why e w h; unknown = λ g. absurd (true≢false g) }
+gives-declined set units shares k why e w h = record { parts = []; is = answers-before set units [] shares k why e w h }
 
-pub gives_none : (set units : ℕ) (shares : List ℕ) → Gives set units shares shares (record { known = false; answer = 0 })
-gives_none set units shares = record { parts = []; known = λ g. absurd (true≢false (sym g)); unknown = λ g. refl }
+pub gives_none : (set units : ℕ) (shares : List ℕ) → Gives set units shares shares None
+gives_none set units shares = record { parts = []; is = refl }
 
-module _ (set units : ℕ) (rest : Rest) (shares out buf : List ℕ) (r : Outcome) (z : why_before (length (members set)) units ≡ 0)
-    (input : TakesInput (length (members set)) buf rest) (end : Finishes set units rest shares out r) where
-  by-record : (rest.answer ≡ 0 → ⊥) → Gives set units shares out r
-  by-record h =
+module _ (set units : ℕ) (shares out buf : List ℕ) (r : ℕ) (z : why_before (length (members set)) units ≡ 0) where
+  -- a record has declined the run
+  by-record : (answer : ℕ) → (answer ≡ 0 → ⊥) → Declined (length (members set)) answer → r ≡ answer → out ≡ shares → Gives set units shares out (Some r)
+  by-record answer h d e same =
       let n = length (members set) in
-      let d = input.declined h in
       let bytes = joined d.parts in
-      let same = first-days n (ready-some n units z) bytes in
-      let answer : (taken n no_days 0 (days_of n bytes)).answer ≡ rest.answer = ap (λ (t : Taken). t.answer) (sym same) ∙ d.is in
-      let said : ◌≡◌ {A = Answer} (rest.answer, shares) (expected_units set units bytes shares)
-      = answers-bad set units bytes shares n (why_before n units) refl refl z rest.answer answer h in
-      record {
-        parts = d.parts;
-        known = λ g. ap (λ (a : ℕ). (a, out)) (end.declined h).1 ∙ ap (λ (l : List ℕ). (rest.answer, l)) (end.declined h).2 ∙ said;
-        unknown = λ g. (end.declined h).2;
-      }
+      let days : (taken n no_days 0 (days_of n bytes)).answer ≡ answer = ap (λ (t : Taken). t.answer) (sym (first-days n (ready-some n units z) bytes)) ∙ d.is in
+      let said : ◌≡◌ {A = Answer} (answer, shares) (expected_units set units bytes shares)
+      = answers-bad set units bytes shares n (why_before n units) refl refl z answer days h in
+      record { parts = d.parts; is = ap (λ (a : ℕ). (a, out)) e ∙ ap (λ (l : List ℕ). (answer, l)) same ∙ said }
 
-  by-failure : rest.answer ≡ 0 → rest.ended ≡ false → Gives set units shares out r
-  by-failure y e =
-      let not_known = end.failed y e in
-      record { parts = []; known = λ g. absurd (true≢false (sym g ∙ not_known.0)); unknown = λ g. not_known.1 }
-
-  by_end : rest.answer ≡ 0 → rest.ended ≡ true → Gives set units shares out r
-  by_end y e =
-      let fed = input.fed e in
-      record { parts = fed.parts; known = λ g. (end.whole y e).1 ∙ read-end set units shares buf rest.sums rest.len z fed; unknown = λ g. absurd (true≢false (sym (end.whole y e).0 ∙ g)) }
-
-  pub gives : Gives set units shares out r
-  gives =
-      cases (eqb rest.answer 0) _
-      (λ t. cases rest.ended _ (by_end (eqb-true rest.answer 0 t)) (by-failure (eqb-true rest.answer 0 t)))
-      (λ f. by-record (eqb-false rest.answer 0 f))
+  pub gives : (stop : Stop) → StopsAt (length (members set)) buf stop → Finishes set units stop shares out r → Gives set units shares out (Some r)
+  gives (Ended sums len days) fed end = record { parts = fed.parts; is = end ∙ read-end set units shares buf sums len z fed }
+  gives (Refused days answer) declined end = by-record answer declined.0 declined.1 end.0 end.1
 
 -- before the run
 pub ready : (set units k why : ℕ) → k ≡ length (members set) → why ≡ why_before k units → why ≡ 0 → why_before (length (members set)) units ≡ 0

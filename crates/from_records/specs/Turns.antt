@@ -1,13 +1,14 @@
 -- The loop that reads day records: one turn over the bytes that are in the buffer, what is kept after all turns (`Fed`, `feed/specs/Feeds`), and what is given.
-use Rattle.std.specs.Prelude.{◌≡◌, ℕ, ◌*◌, ◌/◌, true, false, List, length, drop, ◌≢◌}
+use Rattle.std.specs.Prelude.{◌≡◌, ℕ, ◌*◌, ◌/◌, List, length, drop, ◌≢◌, Option, MatchOption, Result, IfOk}
 use Rattle.lists.specs.Lists.{joined}
 use Rattle.splitting.specs.Limits.{Answer}
+use Rattle.feed.specs.declared.Failed.{Failed}
 use Rattle.feed.specs.Feeds.{Keeps, Fed}
 use Rattle.positions.specs.Days.{size, expected_units}
 use Rattle.positions.specs.Keeping.{Kept, no_days, part_of, ended}
 use Rattle.from_records.specs.declared.Turn.{Turn}
-use Rattle.from_records.specs.declared.Rest.{Rest}
-use Rattle.from_records.specs.declared.Outcome.{Outcome}
+use Rattle.from_records.specs.declared.Stop.{Stop}
+use Rattle.from_records.specs.declared.Stop.TheVariants.{Ended, Refused}
 
 -- the bytes behind the whole records
 unfoldable pub left_of : ℕ → List ℕ → List ℕ
@@ -35,21 +36,23 @@ pub record Declined (n answer : ℕ) : Type 0 where
   pub parts : List (List ℕ)
   pub is : (part_of n no_days (joined parts)).answer ≡ answer
 
+-- where the reading stops: the sums at the input's end, or a record that is declined
+abbrev pub StopsAt : ℕ → List ℕ → Stop → Type 0
+StopsAt n buf (Ended sums len days) = Fed (left_of n) (SumsOf n sums) buf len
+StopsAt n buf (Refused days answer) = (answer ≢ 0) × Declined n answer
+
 -- The contract of `take_input`: the reading stops at the input's end, at a record that is declined, or where a read fails.
-pub record TakesInput (n : ℕ) (buf : List ℕ) (r : Rest) : Type 0 where
-  pub fed : r.ended ≡ true → Fed (left_of n) (SumsOf n r.sums) buf r.len
-  pub declined : (r.answer ≢ 0) → Declined n r.answer
+abbrev pub TakesInput : ℕ → List ℕ → Result Stop Failed → Type 0
+TakesInput n buf r = IfOk r (StopsAt n buf)
 
 -- The contract of `finish`, by where the reading stopped.
-pub record Finishes (set units : ℕ) (rest : Rest) (old new : List ℕ) (r : Outcome) : Type 0 where
-  pub declined : (rest.answer ≢ 0) → (r.known ≡ true) × (r.answer ≡ rest.answer) × (new ≡ old)
-  pub failed : rest.answer ≡ 0 → rest.ended ≡ false → (r.known ≡ false) × (new ≡ old)
-  pub whole : rest.answer ≡ 0 → rest.ended ≡ true → (r.known ≡ true) × ◌≡◌ {A = Answer} (r.answer, new) (ended set units rest.len rest.sums old)
+abbrev pub Finishes : ℕ → ℕ → Stop → List ℕ → List ℕ → ℕ → Type 0
+Finishes set units (Ended sums len days) old new r = ◌≡◌ {A = Answer} (r, new) (ended set units len sums old)
+Finishes set units (Refused days answer) old new r = (r ≡ answer) × (new ≡ old)
 
--- There are parts, those that were read. Where the answer is known, it and the shares are what document 02 says of the parts joined; bytes behind a record that
--- is declined would not change it. Where it is not known the shares are as they were. No contract says which bytes a read brings, so that the parts are only
+-- There are parts, those that were read. Where there is an answer, it and the shares are what document 02 says of the parts joined; bytes behind a record that
+-- is declined would not change it. Where there is none the shares are as they were. No contract says which bytes a read brings, so that the parts are only
 -- known to exist; the contracts of `take_turn` and `finish` speak of bytes that are lent.
-pub record Gives (set units : ℕ) (old new : List ℕ) (r : Outcome) : Type 0 where
+pub record Gives (set units : ℕ) (old new : List ℕ) (r : Option ℕ) : Type 0 where
   pub parts : List (List ℕ)
-  pub known : r.known ≡ true → ◌≡◌ {A = Answer} (r.answer, new) (expected_units set units (joined parts) old)
-  pub unknown : r.known ≡ false → new ≡ old
+  pub is : MatchOption r (new ≡ old) (λ answer. ◌≡◌ {A = Answer} (answer, new) (expected_units set units (joined parts) old))

@@ -4,13 +4,13 @@
 
 ghost use Rattle.std.specs.Prelude.{◌≤◌, length, take};
 ghost use Rattle.sets.specs.Set.{members};
-ghost use Rattle.feed.specs.Feeds.{Reads};
 ghost use Rattle.positions.specs.Keeping.{keeping};
 ghost use Rattle.from_records.specs.Turns.{TakesTurn, TakesInput, Finishes, Gives};
 
-use feed::{Got, Streams};
+use feed::{Failed, Streams};
 
-// After a turn: the row that the next day takes, how many bytes are kept at the buffer's front, how many days came, and why the next one is declined, or 0.
+// After a turn: the row that the next day takes, how many bytes are kept at the buffer's front, how many days came, and why the next one is declined, or 0, by
+// the numbers of document 02's answers.
 #[derive(Clone, Copy)]
 struct Turn {
     row: usize,
@@ -19,31 +19,22 @@ struct Turn {
     answer: u8,
 }
 
-// When the reading stops: the sums, how many bytes of a record are left, whether the input ended, how many days came, and why the next one is declined, or 0.
+// Where the reading stops: at the input's end, with the sums, how many bytes of a record are left and how many days came; or at a record that is declined, with
+// the days before it and why.
 #[derive(Clone, Copy)]
-struct Rest {
-    sums: [u64; 32],
-    len: usize,
-    ended: bool,
-    days: u64,
-    answer: u8,
-}
-
-// Whether the answer to the run is known, and the answer: it is not known where a read failed.
-#[derive(Clone, Copy)]
-pub struct Outcome {
-    pub known: bool,
-    pub answer: u8,
+enum Stop {
+    Ended {
+        sums: [u64; 32],
+        len: usize,
+        days: u64,
+    },
+    Refused {
+        days: u64,
+        answer: u8,
+    },
 }
 
 // ---- the loop
-
-// Reads from standard input into the buffer from a place on.
-fn read_more(streams: Streams, buf: &mut [u8], at: usize) -> Got
-    ensures { Reads at buf.old buf.new result }
-{
-    feed::read(streams, buf, at, b"expected: standard input")
-}
 
 // How many days so many bytes are.
 fn days_in(set: u32, used: usize) -> u64 {
@@ -52,11 +43,6 @@ fn days_in(set: u32, used: usize) -> u64 {
         return 0;
     }
     (used / (4 * n)) as u64
-}
-
-// One number and another.
-fn plus(a: u64, b: u64) -> u64 {
-    std::num::wrapping_add_u64(a, b)
 }
 
 // The bytes in front of a place taken: their whole records, and what is left of them moved to the front.
@@ -71,7 +57,7 @@ fn take_turn(
     requires { end ≤ length buf.old }
     ensures { TakesTurn (length (members set)) (keeping row ring.old sums.old) (take end buf.old) buf.old buf.new (keeping result.row ring.new sums.new) result }
 {
-    let part = positions::take_days(ring, sums, row, set, &buf[0..end]);
+    let part = positions::take_days(ring, sums, row, set, &buf[..end]);
     let used = part.used;
     Turn {
         row: part.row,
@@ -82,7 +68,7 @@ fn take_turn(
 }
 
 // Reads and takes until the input ends, a read fails, or a position is out of range.
-fn take_input(streams: Streams, set: u32, buf: &mut [u8]) -> Rest
+fn take_input(streams: Streams, set: u32, buf: &mut [u8]) -> Result<Stop, Failed>
     requires { 1 ≤ length (members set) }
     ensures { TakesInput (length (members set)) buf.new result }
 {
@@ -91,41 +77,23 @@ fn take_input(streams: Streams, set: u32, buf: &mut [u8]) -> Rest
     let mut row: usize = 0;
     let mut len: usize = 0;
     let mut days: u64 = 0;
-    let mut turns = u64::MAX;
-    while turns > 0 {
-        turns -= 1;
-        let got = read_more(streams, buf, len);
-        let more = got.len;
+    for _ in 0..u64::MAX {
+        let more = feed::read(streams, buf, len, b"expected: standard input")?;
         if more == 0 {
-            return Rest {
-                sums,
-                len,
-                ended: got.ended,
-                days,
-                answer: 0,
-            };
+            return Ok(Stop::Ended { sums, len, days });
         }
         let turn = take_turn(&mut ring, &mut sums, row, set, buf, len + more);
         row = turn.row;
         len = turn.len;
-        days = plus(days, turn.days);
+        days = days.wrapping_add(turn.days);
         if turn.answer != 0 {
-            return Rest {
-                sums,
-                len,
-                ended: false,
+            return Ok(Stop::Refused {
                 days,
                 answer: turn.answer,
-            };
+            });
         }
     }
-    Rest {
-        sums,
-        len,
-        ended: false,
-        days,
-        answer: 0,
-    }
+    Err(Failed)
 }
 
 // ---- messages
@@ -134,11 +102,11 @@ fn take_input(streams: Streams, set: u32, buf: &mut [u8]) -> Rest
 fn tell(streams: Streams, days: u64, reason: &[u8]) {
     let mut note = [0u8; 128];
     let a = words::put(&mut note, 0, b"day ");
-    let b = words::number(&mut note, a, plus(days, 1));
+    let b = words::number(&mut note, a, days.wrapping_add(1));
     let c = words::put(&mut note, b, b": ");
     let d = words::put(&mut note, c, reason);
     if d <= 128 {
-        feed::tell(streams, &note[0..d]);
+        feed::tell(streams, &note[..d]);
     }
 }
 
@@ -159,57 +127,44 @@ fn tell_cut(streams: Streams, answer: u8, days: u64) {
 
 // ---- the run
 
-// The end of the run: a record has declined it, or the shares are given where no byte of a record is left.
-fn finish(streams: Streams, set: u32, units: u64, rest: Rest, shares: &mut [u64; 32]) -> Outcome
-    ensures { Finishes set units rest shares.old shares.new result }
+// The answer to the run: that of the record that has declined it; or the shares are given, where no byte of a record is left.
+fn finish(streams: Streams, set: u32, units: u64, stop: Stop, shares: &mut [u64; 32]) -> u8
+    ensures { Finishes set units stop shares.old shares.new result }
 {
-    if rest.answer != 0 {
-        tell_range(streams, rest.days);
-        return Outcome {
-            known: true,
-            answer: rest.answer,
-        };
-    }
-    if !rest.ended {
-        return Outcome {
-            known: false,
-            answer: 0,
-        };
-    }
-    let sums = rest.sums;
-    let answer = positions::end(&sums, set, units, rest.len, shares);
-    tell_cut(streams, answer, rest.days);
-    Outcome {
-        known: true,
-        answer,
+    match stop {
+        Stop::Refused { days, answer } => {
+            tell_range(streams, days);
+            answer
+        }
+        Stop::Ended { sums, len, days } => {
+            let answer = positions::end(&sums, set, units, len, shares);
+            tell_cut(streams, answer, days);
+            answer
+        }
     }
 }
 
 // Reads day records from standard input to its end, or to the first that is declined, and answers as document 02 says of the whole run; where the answer is 0 each
-// member is given its share of the units. A record that is declined and a read that fails are told on standard error. Nothing is read where the set or the
-// units are declined, or the buffer has less than the 128 bytes of the longest record.
+// member is given its share of the units. A record that is declined and a read that fails are told on standard error, and where a read failed there is no answer.
+// Nothing is read where the set or the units are declined, or where the buffer has less than the 128 bytes of the longest record, and there is no answer then.
 pub fn run(
     streams: Streams,
     set: u32,
     units: u64,
     buf: &mut [u8],
     shares: &mut [u64; 32],
-) -> Outcome
+) -> Option<u8>
     ensures { Gives set units shares.old shares.new result }
 {
     let why = positions::why_before(positions::count_of(set), units);
     if why != 0 {
-        return Outcome {
-            known: true,
-            answer: why,
-        };
+        return Some(why);
     }
     if buf.len() < 128 {
-        return Outcome {
-            known: false,
-            answer: 0,
-        };
+        return None;
     }
-    let rest = take_input(streams, set, buf);
-    finish(streams, set, units, rest, shares)
+    match take_input(streams, set, buf) {
+        Ok(stop) => Some(finish(streams, set, units, stop, shares)),
+        Err(Failed) => None,
+    }
 }

@@ -1,7 +1,7 @@
 -- One turn of the loop, and what holds after each: laws that the proofs of the functions cite. Assumes nothing.
 use mathlib.Core.Path.{◌≡◌, refl, sym, ap, ap₂, subst, ◌∙◌}
-use mathlib.Core.Bool.{true, false}
-use mathlib.Core.List.{List, ◌++◌}
+use mathlib.Core.List.{List, [], ◌++◌}
+use Rattle.std.specs.Prelude.{Result, Ok, Err, IsErrAnd}
 use Prim.Native.Nat.{ℕ, ◌+◌, ◌*◌, ◌≤◌, ◌<◌}
 use native.Mathlib.Omega.{arith}
 use lib.ListN.{length, get_or, take, drop}
@@ -21,6 +21,7 @@ use Rattle.report.specs.Texts.{ledger_lines, cut_lines, held_lines, placed_lines
 use Rattle.case.proofs.Parts.{none-held, held_then}
 use Rattle.report.proofs.Placing.{text-append, lines_fit}
 use Rattle.report.proofs.Printing.{after, printed-is, taken_is, last-most}
+use Rattle.feed.specs.declared.Failed.{Failed}
 use Rattle.feed.specs.Feeds.{Slides}
 use Rattle.feed.proofs.Turning.{keeps, fed-none as none-fed, fed-turn as turn-fed}
 use Rattle.stream.specs.declared.Turn.{Turn}
@@ -64,13 +65,14 @@ fed-turn buf next after out out' h len more r f same small turn =
 -- ---- the end
 
 -- no input ended
-pub ends-not : (buf out : List ℕ) (h : Held) (len : ℕ) → FedTo buf h len → Ends out (record { ended = false; len = 0 })
-ends-not buf out h len f =
-    record { parts = f.parts; bytes = f.bytes; last = λ e. (let z : ◌≡◌ {A = ℕ} 0 1 = cc in absurd (omega arith)); fits = omega arith }
+pub ends-not : (out : List ℕ) (Q : Failed → Type 0) (r : Result ℕ Failed) → IsErrAnd r Q → Ends out r
+unfolding joined
+ends-not out Q (Ok n) h = absurd h
+ends-not out Q (Err e) h = record { parts = []; bytes = tt; last = tt; fits = tt }
 
 -- the text of the end
 pub ends : (buf kept out out' : List ℕ) (h : Held) (len n : ℕ) → 4096 ≤ length out → FedTo buf h len → kept ≡ take len buf → Last h kept out out' n
-    → Ends out' (record { ended = true; len = n })
+    → Ends out' (Ok n)
 ends buf kept out out' h len n room f lends last =
     let input = joined f.parts in
     let lines : List Line = cut_lines (rest input) ++ held_lines (after input) in
@@ -84,7 +86,7 @@ ends buf kept out out' h len n room f lends last =
     record {
       parts = f.parts;
       bytes = f.bytes;
-      last = λ e.
+      last =
           ap (λ (x : List ℕ). text (ledger_lines no_held (whole input)) ++ x)
           (ap₂ (λ (k : ℕ) (o : List ℕ). take k o) long front ∙ take_at t (drop (0 + length t) out) (length t) refl)
           ∙ sym (text-append (ledger_lines no_held (whole input)) lines)

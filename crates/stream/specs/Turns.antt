@@ -1,5 +1,5 @@
 -- The loop of the program `ledger`: one turn over the bytes that are in the buffer, and what is held and kept after all turns (`Fed`, `feed/specs/Feeds`).
-use Rattle.std.specs.Prelude.{◌≡◌, true, List, ◌++◌, ℕ, ◌≤◌, length, take}
+use Rattle.std.specs.Prelude.{◌≡◌, List, ◌++◌, ℕ, ◌≤◌, length, take, Result, IfOk}
 use Rattle.std.proofs.lemmas.List.Edits.{sets}
 use Rattle.lists.specs.Lists.{joined, Bytes}
 use Rattle.machine.specs.Printed.{text, printed}
@@ -9,9 +9,9 @@ use Rattle.case.specs.declared.Held.{Held}
 use Rattle.case.specs.Cases.{no_held}
 use Rattle.case.specs.Input.{ledger_after, HeldAfter}
 use Rattle.report.specs.Texts.{ledger_lines, cut_lines, held_lines, placed_lines}
+use Rattle.feed.specs.declared.Failed.{Failed}
 use Rattle.feed.specs.Feeds.{Keeps, Fed}
 use Rattle.stream.specs.declared.Turn.{Turn}
-use Rattle.stream.specs.declared.Ending.{Ending}
 
 -- A turn over some bytes at the front of the buffer: their whole fields are taken, their s lines are the text to be written, and what is left of
 -- the bytes stands at the buffer's front, with the buffer's own bytes behind it.
@@ -35,8 +35,8 @@ pub record Last (h : Held) (kept out out' : List ℕ) (r : ℕ) : Type 0 where
 
 -- Before the last write there are parts, those that were read, such that, where the input ended, the s lines of their whole fields and the text that
 -- is still to be written are what the machine prints for the parts joined.
-pub record Ends (out : List ℕ) (r : Ending) : Type 0 where
+pub record Ends (out : List ℕ) (r : Result ℕ Failed) : Type 0 where
   pub parts : List (List ℕ)
   pub bytes : Bytes (joined parts)
-  pub last : r.ended ≡ true → text (ledger_lines no_held (whole (joined parts))) ++ take r.len out ≡ printed (joined parts)
-  pub fits : r.len ≤ length out
+  pub last : IfOk r (λ len. text (ledger_lines no_held (whole (joined parts))) ++ take len out ≡ printed (joined parts))
+  pub fits : IfOk r (λ len. len ≤ length out)

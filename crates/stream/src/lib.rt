@@ -4,11 +4,11 @@
 // the loop is that of `Streams` is `TakesTurn` and `FedTo` in the specs here. A read or a write that fails is told on standard error, and nothing more is written.
 #![tactic(auto)]
 
-ghost use Rattle.std.specs.Prelude.{◌*◌, ◌≤◌, length, take};
+ghost use Rattle.std.specs.Prelude.{◌*◌, ◌≤◌, IfOk, length, take};
 ghost use Rattle.stream.specs.Turns.{TakesTurn, FedTo, Last, Ends};
 
 use case::Held;
-use feed::Streams;
+use feed::{Failed, Streams};
 
 // What is held after a turn, how many bytes are kept at the buffer's front, and how many bytes of text are to be written.
 #[derive(Clone, Copy)]
@@ -18,18 +18,10 @@ pub struct Turn {
     pub written: usize,
 }
 
-// What is held when the reading stops, how many bytes of a field that is cut off are kept at the buffer's front, and whether the input ended.
+// What is held when the input has ended, and how many bytes of a field that is cut off are kept at the buffer's front.
 #[derive(Clone, Copy)]
 pub struct Rest {
     pub held: Held,
-    pub len: usize,
-    pub ended: bool,
-}
-
-// Whether the input ended, and how many bytes of text at the buffer's front are then still to be written.
-#[derive(Clone, Copy)]
-pub struct Ending {
-    pub ended: bool,
     pub len: usize,
 }
 
@@ -38,7 +30,7 @@ fn take_turn(held: Held, buf: &mut [u8], end: usize, out: &mut [u8]) -> Turn
     requires { (end ≤ length buf.old) × (4 * end ≤ length out.old) }
     ensures { TakesTurn held (take end buf.old) buf.old buf.new out.old out.new result }
 {
-    let taken = report::take_part(held, &buf[0..end], out);
+    let taken = report::take_part(held, &buf[..end], out);
     let used = taken.used;
     let next = taken.held;
     Turn {
@@ -49,37 +41,23 @@ fn take_turn(held: Held, buf: &mut [u8], end: usize, out: &mut [u8]) -> Turn
 }
 
 // Reads and takes until the input ends, or a read or a write fails.
-fn take_input(streams: Streams, buf: &mut [u8], out: &mut [u8]) -> Rest
+fn take_input(streams: Streams, buf: &mut [u8], out: &mut [u8]) -> Result<Rest, Failed>
     requires { 4 * length buf.old ≤ length out.old }
-    ensures { FedTo buf.new result.held result.len }
+    ensures { IfOk result (λ rest. FedTo buf.new rest.held rest.len) }
 {
     let mut held = Held::none();
     let mut len: usize = 0;
-    let mut turns = u64::MAX;
-    while turns > 0 {
-        turns -= 1;
-        let got = feed::read(streams, buf, len, b"ledger: standard input");
-        let more = got.len;
+    for _ in 0..u64::MAX {
+        let more = feed::read(streams, buf, len, b"ledger: standard input")?;
         if more == 0 {
-            return Rest {
-                held,
-                len,
-                ended: got.ended,
-            };
+            return Ok(Rest { held, len });
         }
         let turn = take_turn(held, buf, len + more, out);
         held = turn.held;
         len = turn.len;
-        turns = feed::turns_left(
-            turns,
-            feed::flush(streams, out, turn.written, b"ledger: standard output"),
-        );
+        feed::flush(streams, out, turn.written, b"ledger: standard output")?;
     }
-    Rest {
-        held,
-        len,
-        ended: false,
-    }
+    Err(Failed)
 }
 
 // The text behind the s lines of the whole fields: the s line of a field that is cut off, and the lines of the end.
@@ -90,23 +68,14 @@ fn last_text(held: Held, rest: &[u8], out: &mut [u8]) -> usize
     report::write_end(held, out, to)
 }
 
-// The run up to its last write.
-fn run_to_end(streams: Streams, buf: &mut [u8], out: &mut [u8]) -> Ending
+// The run up to its last write, and how many bytes of text at the buffer's front are then still to be written.
+fn run_to_end(streams: Streams, buf: &mut [u8], out: &mut [u8]) -> Result<usize, Failed>
     requires { (4 * length buf.old ≤ length out.old) × (4096 ≤ length out.old) }
     ensures { Ends out.new result }
 {
-    let rest = take_input(streams, buf, out);
+    let rest = take_input(streams, buf, out)?;
     let len = rest.len;
-    if !rest.ended {
-        return Ending {
-            ended: false,
-            len: 0,
-        };
-    }
-    Ending {
-        ended: true,
-        len: last_text(rest.held, &buf[0..len], out),
-    }
+    Ok(last_text(rest.held, &buf[..len], out))
 }
 
 // The whole run over two lent buffers: whether the input ended and all was written. Nothing is read where the first has less than the 65,538 bytes of the
@@ -118,12 +87,10 @@ pub fn run(streams: Streams, buf: &mut [u8], out: &mut [u8]) -> bool {
     if buf.len() < 65538 {
         return false;
     }
-    let end = run_to_end(streams, buf, out);
-    let n = end.len;
-    if !end.ended {
-        return false;
+    match run_to_end(streams, buf, out) {
+        Ok(len) => feed::flush(streams, out, len, b"ledger: standard output").is_ok(),
+        Err(Failed) => false,
     }
-    feed::flush(streams, out, n, b"ledger: standard output") == 0
 }
 
 // The same with buffers of its own: the body of the program `ledger`, and what the library for C exports, whose `main` can give a status.

@@ -1,5 +1,5 @@
 -- The end of the fields: a field that is cut off, or those of the lines that are left. Assumes nothing.
-use Rattle.std.proofs.Common.{◌≡◌, ℕ, ◌≤◌, true, false, List, [], ◌∷◌, ◌++◌, length, take, drop, sym, ap, ◌∙◌, append-nil, arith}
+use Rattle.std.proofs.Common.{Result, Ok, Err, IsErrAnd, ◌≡◌, ℕ, ◌≤◌, true, false, List, [], ◌∷◌, ◌++◌, length, take, drop, sym, ap, ◌∙◌, append-nil, arith}
 use mathlib.Core.Bool.{false≢true}
 use lib.Seq.{sets-eq, drop-length}
 use Rattle.lists.specs.Lists.{joined}
@@ -7,6 +7,7 @@ use Rattle.lines.specs.Placed.{Placed, placed}
 use Rattle.input.specs.Strings.{bytes_of}
 use Rattle.input.specs.Pieces.{pieces, all_pieces, left_of}
 use Rattle.input.proofs.Pieces.{fields-chunk}
+use Rattle.feed.specs.declared.Failed.{Failed}
 use Rattle.forms.specs.Put.{Put}
 use Rattle.forms.proofs.Puts.{put_then, put-placed, joined-map-two}
 use Rattle.translation.proofs.Writing.{put_front}
@@ -38,12 +39,12 @@ cut_off out mid new message p r few room first second =
 
 -- ---- the lines that are left
 
-pub finish-cut : (left out : List ℕ) (n : ℕ) → CutOff out n → Finishes left out (record { good = false; failed = false; len = n })
+pub finish-cut : (left out : List ℕ) (n : ℕ) → CutOff out n → Finishes left out (record { good = false; len = n })
 finish-cut left out n cut =
     record { all = λ e. absurd (false≢true e); last = λ e. absurd (false≢true e); cut = λ e. cut; fits = cut.fits }
 
 pub finish-good : (left out new : List ℕ) (r : Part) → WritesLines true left out new r → r.used ≡ length left
-    → Finishes left new (record { good = true; failed = false; len = r.written })
+    → Finishes left new (record { good = true; len = r.written })
 unfolding pieces
 finish-good left out new r w used =
     let size = good_size true in
@@ -61,19 +62,12 @@ finish-good left out new r w used =
 -- ---- the end
 
 -- a write failed
-pub ends-not : (out : List ℕ) → Ends out (record { good = false; failed = true; len = 0 })
+pub ends-not : (out : List ℕ) (Q : Failed → Type 0) (r : Result Ending Failed) → IsErrAnd r Q → Ends out r
 unfolding joined
-ends-not out =
-    record {
-      parts = [];
-      bytes = tt;
-      all = λ e. absurd (false≢true e);
-      last = λ e. absurd (false≢true e);
-      cut = λ e f. absurd (false≢true (sym f));
-      fits = omega arith;
-    }
+ends-not out Q (Ok end) h = absurd h
+ends-not out Q (Err e) h = record { parts = []; bytes = tt; all = tt; last = tt; cut = tt; fits = tt }
 
-pub ends : (buf kept out : List ℕ) (lines len : ℕ) (r : Ending) → FedTo buf lines len → kept ≡ take len buf → Finishes kept out r → Ends out r
+pub ends : (buf kept out : List ℕ) (lines len : ℕ) (r : Ending) → FedTo buf lines len → kept ≡ take len buf → Finishes kept out r → Ends out (Ok r)
 ends buf kept out lines len r f lends end =
     let text = joined f.parts in
     let is : kept ≡ rest text = lends ∙ f.kept in
@@ -86,6 +80,6 @@ ends buf kept out lines len r f lends end =
           ap (λ (x : List ℕ). fields_of (good_lines text) ++ x) (end.last e ∙ ap (λ (s : List ℕ). fields_of (all_pieces (good_size true) s)) is)
           ∙ sym (joined-map-two line_field (good_lines text) (all_pieces (good_size true) (rest text)))
           ∙ ap fields_of (sym (lines-all refused_line text (all e)));
-      cut = λ e g. end.cut e;
+      cut = end.cut;
       fits = end.fits;
     }

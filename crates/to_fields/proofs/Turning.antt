@@ -1,6 +1,5 @@
 -- The parts of a turn, and what holds after each turn: laws that the proofs of the functions cite. Assumes nothing.
-use Rattle.std.proofs.Common.{◌≡◌, ℕ, ◌+◌, ◌%◌, ◌^◌, ◌<◌, ◌≤◌, true, false, not, eqb, List, ◌++◌, length, get_or, take, drop, sym, refl, ap, ◌∙◌, arith, length-append, eqb-true}
-use mathlib.Core.Bool.{false≢true}
+use Rattle.std.proofs.Common.{◌≡◌, ℕ, ◌+◌, ◌%◌, ◌^◌, ◌<◌, ◌≤◌, false, not, eqb, List, ◌++◌, length, get_or, take, drop, sym, refl, ap, ◌∙◌, arith, length-append, eqb-true}
 use borrow.Author.Tests.{not-false}
 use Rattle.input.specs.Pieces.{pieces}
 use Rattle.input.proofs.Pieces.{Passing, passing-starts}
@@ -47,36 +46,26 @@ module _ (first : ℕ) (input part old new : List ℕ) (lines used : ℕ) (r : P
       (e ∙ ap (λ (k : ℕ). (lines + k) % 2 ^ 64) (sym w.there))
 
   pub passed-all : 64 ≤ length old → r.count ≡ 0 → (next : ℕ) → next ≡ line_size false part
-      → WritesAllLines first input (record { used = used; lines = lines; failed = false; refused = not (eqb next 0) })
+      → WritesAllLines first input (record { used = used; lines = lines; refused = not (eqb next 0) })
   passed-all room none-there next is =
       let e =
       part-ends (good_size false) (good-most false) after first input lines used g line_field _ part old new r.count r.used r.written lends w room none-there in
       record {
         wrote = record { within = g.place; all = λ z. e.1 };
-        lines = λ z. omega (arith, e.0);
-        refused = λ z. ap (λ (n : ℕ). not (eqb n 0)) (is ∙ ap (line_size false) (lends ∙ ap (λ (n : ℕ). drop n input) e.1));
+        lines = omega (arith, e.0);
+        refused = ap (λ (n : ℕ). not (eqb n 0)) (is ∙ ap (line_size false) (lends ∙ ap (λ (n : ℕ). drop n input) e.1));
       }
-
--- a write failed
-pub passed-not : (first : ℕ) (input : List ℕ) (lines used : ℕ) → used ≤ length input
-    → WritesAllLines first input (record { used = used; lines = lines; failed = true; refused = false })
-passed-not first input lines used h =
-    record {
-      wrote = record { within = h; all = λ e. absurd (false≢true (sym e)) };
-      lines = λ e. absurd (false≢true (sym e));
-      refused = λ e. absurd (false≢true (sym e));
-    }
 
 -- ---- a turn
 
 pub turns : (first : ℕ) (buf buf' part : List ℕ) (end n : ℕ) (r : Wrote) → end ≤ length buf → part ≡ take end buf → WritesAllLines first part r
     → Slides r.used end buf buf' n
-    → TakesTurn first (take end buf) buf buf' (record { len = n; lines = r.lines; failed = r.failed; refused = r.refused })
+    → TakesTurn first (take end buf) buf buf' (record { len = n; lines = r.lines; refused = r.refused })
 turns first buf buf' part end n r inside lends wrote slid =
     record {
-      keeps = λ good. turn-keeps (good_size false) (good-most false) buf buf' part end r.used n r.failed inside lends wrote.wrote slid good;
-      lines = λ good. wrote.lines good ∙ ap (λ (s : List ℕ). (first + length (good_lines s)) % 2 ^ 64) lends;
-      refused = λ good. wrote.refused good ∙ ap stops_at lends;
+      keeps = turn-keeps (good_size false) (good-most false) buf buf' part end r.used n false inside lends wrote.wrote slid refl;
+      lines = wrote.lines ∙ ap (λ (s : List ℕ). (first + length (good_lines s)) % 2 ^ 64) lends;
+      refused = wrote.refused ∙ ap stops_at lends;
     }
 
 -- ---- after each turn
@@ -87,20 +76,20 @@ fed-none buf = fed-first (good_size false) (good-most false) (λ s. Counts 0 (le
 
 -- a turn over the bytes that are kept and those that came behind them
 module _ (buf next after : List ℕ) (lines len more : ℕ) (r : Turn) (f : FedTo buf lines len) (same : take len next ≡ take len buf)
-    (small : (k : ℕ) → get_or next k 0 < 256) (turn : TakesTurn lines (take (len + more) next) next after r) (good : r.failed ≡ false) where
+    (small : (k : ℕ) → get_or next k 0 < 256) (turn : TakesTurn lines (take (len + more) next) next after r) where
   pub fed-turn : FedTo after r.lines r.len
   fed-turn =
       turn-fed rest (λ s. Counts lines (length (good_lines s))) (λ s. Counts r.lines (length (good_lines s))) (rest_then refused_line) buf next after len more r.len f same small
-      (turn.keeps good)
+      turn.keeps
       (λ s t was e.
       let all : length (good_lines (s ++ t)) ≡ length (good_lines s) + length (good_lines (take (len + more) next)) =
       ap length (lines-apart refused_line s t) ∙ length-append (good_lines s) (good_lines (rest s ++ t))
       ∙ ap (λ (l : List ℕ). length (good_lines s) + length (good_lines l)) (sym e) in
-      omega (arith, turn.lines good, was, all))
+      omega (arith, turn.lines, was, all))
 
   -- no line is refused: what is kept leaves room
   pub turn-room : r.refused ≡ false → r.len ≤ 65536
   turn-room on =
       let bytes = take (len + more) next in
-      let none-there : line_size false (rest bytes) ≡ 0 = eqb-true (line_size false (rest bytes)) 0 (not-false _ (sym (turn.refused good) ∙ on)) in
-      omega (arith, (turn.keeps good).len, rest-short refused_line bytes none-there)
+      let none-there : line_size false (rest bytes) ≡ 0 = eqb-true (line_size false (rest bytes)) 0 (not-false _ (sym turn.refused ∙ on)) in
+      omega (arith, turn.keeps.len, rest-short refused_line bytes none-there)

@@ -1,5 +1,5 @@
 -- The loop that writes lines as fields: what one part of it writes, and what is still to be written when the reading has stopped.
-use Rattle.std.specs.Prelude.{◌≡◌, ℕ, ◌+◌, ◌%◌, ◌^◌, ◌<◌, ◌≤◌, Bool, true, false, not, List, [], ◌∷◌, ◌++◌, length, take, ◌==◌}
+use Rattle.std.specs.Prelude.{◌≡◌, ℕ, ◌+◌, ◌%◌, ◌^◌, ◌<◌, ◌≤◌, Bool, true, false, not, List, [], ◌∷◌, ◌++◌, length, take, ◌==◌, Result, IfOk}
 use Rattle.lists.specs.Lists.{when◌then◌else◌, joined, Bytes, Each}
 use Rattle.wire.specs.Asked.{asked}
 use Rattle.forms.specs.Forms.{form_of}
@@ -7,6 +7,7 @@ use Rattle.forms.specs.Encode.{encode_form}
 use Rattle.input.specs.Pieces.{all_pieces, left_of}
 use Rattle.notation.specs.declared.Read.{Read}
 use Rattle.notation.specs.Reading.{is_refused}
+use Rattle.feed.specs.declared.Failed.{Failed}
 use Rattle.feed.specs.Feeds.{Keeps, Fed}
 use Rattle.translation.specs.Writes.{WritesSome, WritesAll}
 use Rattle.to_fields.specs.declared.Line.{Line}
@@ -50,18 +51,18 @@ Counts n m = n % 2 ^ 64 ≡ m % 2 ^ 64
 abbrev pub stops_at : List ℕ → Bool
 stops_at s = not (line_size false (rest s) == 0)
 
--- the contract of `write_all`: unless a write failed, all lines are written, up to the first that is refused or not all there, and counted
+-- the contract of `write_all`, where no write failed: all lines are written, up to the first that is refused or not all there, and counted
 pub record WritesAllLines (first : ℕ) (input : List ℕ) (r : Wrote) : Type 0 where
-  pub wrote : WritesAll (good_size false) input r.used r.failed
-  pub lines : r.failed ≡ false → Counts r.lines (first + length (good_lines input))
-  pub refused : r.failed ≡ false → r.refused ≡ stops_at input
+  pub wrote : WritesAll (good_size false) input r.used false
+  pub lines : Counts r.lines (first + length (good_lines input))
+  pub refused : r.refused ≡ stops_at input
 
 -- A turn over some bytes at the front of the buffer, where no write failed: their lines are counted, what is left of the bytes stands at the buffer's front, with
 -- the buffer's own bytes behind it, and it is known whether that begins with a line that is refused.
 pub record TakesTurn (first : ℕ) (bytes buf buf' : List ℕ) (r : Turn) : Type 0 where
-  pub keeps : r.failed ≡ false → Keeps rest bytes buf buf' r.len
-  pub lines : r.failed ≡ false → Counts r.lines (first + length (good_lines bytes))
-  pub refused : r.failed ≡ false → r.refused ≡ stops_at bytes
+  pub keeps : Keeps rest bytes buf buf' r.len
+  pub lines : Counts r.lines (first + length (good_lines bytes))
+  pub refused : r.refused ≡ stops_at bytes
 
 -- After all turns there are parts, those that were read; the number of lines is that of the lines at the front of the parts joined, up to the first that is
 -- refused or not all there, and what is kept at the buffer's front is what is left behind them.
@@ -71,7 +72,7 @@ FedTo buf lines len = Fed rest (λ s. Counts lines (length (good_lines s))) buf 
 -- The contract of `take_input`, where no write failed. Where the input ended, at most 65,536 bytes are kept, so that a buffer of 65,537 bytes has room for a further
 -- read, and the read that brought nothing is the input's end.
 pub record TakesInput (buf : List ℕ) (r : Rest) : Type 0 where
-  pub fed : r.failed ≡ false → FedTo buf r.lines r.len
+  pub fed : FedTo buf r.lines r.len
   pub room : r.ended ≡ true → r.len ≤ 65536
 
 -- the first bytes of a buffer are a field that is cut off: tag 0, the greatest length, and fewer bytes behind it than that
@@ -91,10 +92,10 @@ pub record Finishes (left out : List ℕ) (r : Ending) : Type 0 where
 -- Before the last write there are parts, those that were read. Where all was read and written and is good, no line of the parts joined is refused, and the fields
 -- that were written and the bytes that are still to be written are the fields of all lines. Else, unless a write failed, the bytes that are still to
 -- be written are a field that is cut off.
-pub record Ends (out : List ℕ) (r : Ending) : Type 0 where
+pub record Ends (out : List ℕ) (r : Result Ending Failed) : Type 0 where
   pub parts : List (List ℕ)
   pub bytes : Bytes (joined parts)
-  pub all : r.good ≡ true → Each (λ line. refused_line line ≡ false) (lines_of (joined parts))
-  pub last : r.good ≡ true → fields_of (good_lines (joined parts)) ++ take r.len out ≡ fields_of (lines_of (joined parts))
-  pub cut : r.good ≡ false → r.failed ≡ false → CutOff out r.len
-  pub fits : r.len ≤ length out
+  pub all : IfOk r (λ e. e.good ≡ true → Each (λ line. refused_line line ≡ false) (lines_of (joined parts)))
+  pub last : IfOk r (λ e. e.good ≡ true → fields_of (good_lines (joined parts)) ++ take e.len out ≡ fields_of (lines_of (joined parts)))
+  pub cut : IfOk r (λ e. e.good ≡ false → CutOff out e.len)
+  pub fits : IfOk r (λ e. e.len ≤ length out)

@@ -5,17 +5,16 @@
 
 mod messages;
 
-ghost use Rattle.std.specs.Prelude.{◌≡◌, ◌+◌, ◌%◌, ◌^◌, ◌≤◌, true, false, length, take};
-ghost use Rattle.feed.specs.Feeds.{Reads};
+ghost use Rattle.std.specs.Prelude.{◌≡◌, ◌≤◌, IfOk, length, take};
 ghost use Rattle.to_fields.specs.Lines.{line_read};
 ghost use Rattle.to_fields.specs.Turns.{NoCall, IsLine, NextLine, WritesLines, WritesAllLines, TakesTurn, TakesInput, CutOff, Finishes, Ends};
 
-use feed::{Got, Streams};
+use feed::{Failed, Streams};
 use notation::Read;
 use text_lines::LONGEST;
 use wire::Call;
 
-// A line's bytes, and the call that it asks for; no bytes where it is not to be taken.
+// A line's bytes, and the call that it asks for; no bytes where it is not to be taken. No line has 0 bytes, and `size_within` says it so.
 #[derive(Clone, Copy)]
 struct Line {
     size: usize,
@@ -30,38 +29,35 @@ pub struct Part {
     pub written: usize,
 }
 
-// The bytes of the lines that were written, the number of lines up to then, whether a write has failed, and whether the next line is refused.
+// The bytes of the lines that were written, the number of lines up to then, and whether the next line is refused.
 #[derive(Clone, Copy)]
 struct Wrote {
     used: usize,
     lines: u64,
-    failed: bool,
     refused: bool,
 }
 
-// How many bytes are kept at the buffer's front after a turn, the number of lines, whether a write has failed, and whether the next line is refused.
+// How many bytes are kept at the buffer's front after a turn, the number of lines, and whether the next line is refused.
 #[derive(Clone, Copy)]
 struct Turn {
     len: usize,
     lines: u64,
-    failed: bool,
     refused: bool,
 }
 
-// How many bytes are kept at the buffer's front when the reading stops, the number of lines, whether the input ended, and whether a write has failed.
+// How many bytes are kept at the buffer's front when the reading stops, the number of lines, and whether the input ended: where it did not, a line is refused or a
+// read failed.
 #[derive(Clone, Copy)]
 struct Rest {
     len: usize,
     lines: u64,
     ended: bool,
-    failed: bool,
 }
 
-// Whether all was read and written and is good, whether a write has failed, and how many bytes at the buffer's front are still to be written.
+// Whether all was read and is good, and how many bytes at the buffer's front are still to be written.
 #[derive(Clone, Copy)]
 struct Ending {
     good: bool,
-    failed: bool,
     len: usize,
 }
 
@@ -83,7 +79,7 @@ fn read_piece(line: &[u8]) -> Read
             item: 0,
         };
     }
-    notation::read_line(&line[0..n])
+    notation::read_line(&line[..n])
 }
 
 // A line of so many bytes that asks for no call.
@@ -120,7 +116,7 @@ fn next_line(last: bool, input: &[u8], room: usize) -> Line
         return no_call(0);
     }
     let size = text_lines::line_size(last, input);
-    let read = read_piece(&input[0..size]);
+    let read = read_piece(&input[..size]);
     line_of(size, read)
 }
 
@@ -148,29 +144,10 @@ pub fn take_some(last: bool, input: &[u8], out: &mut [u8]) -> Part
 
 // ---- the loop
 
-// Reads from standard input into the buffer from a place on.
-fn read_more(streams: Streams, buf: &mut [u8], at: usize) -> Got
-    ensures { Reads at buf.old buf.new result }
-{
-    feed::read(streams, buf, at, b"fields: standard input")
-}
-
-// Writes the first bytes of the buffer to standard output: whether that was done.
-fn write_front(streams: Streams, out: &[u8], n: usize) -> bool {
-    feed::flush(streams, out, n, b"fields: standard output") == 0
-}
-
-// The number of lines, and some more.
-fn counted(lines: u64, count: usize) -> u64
-    ensures { result ≡ (lines + count) % 2 ^ 64 }
-{
-    std::num::wrapping_add_u64(lines, count as u64)
-}
-
 // Every line at the front of some bytes written to standard output, a part at a time, up to the first that is refused or not all there, unless a write fails.
-fn write_all(streams: Streams, first: u64, input: &[u8], out: &mut [u8]) -> Wrote
+fn write_all(streams: Streams, first: u64, input: &[u8], out: &mut [u8]) -> Result<Wrote, Failed>
     requires { 64 ≤ length out.old }
-    ensures { WritesAllLines first input.now result }
+    ensures { IfOk result (λ wrote. WritesAllLines first input.now wrote) }
 {
     let mut lines = first;
     let mut used: usize = 0;
@@ -179,81 +156,68 @@ fn write_all(streams: Streams, first: u64, input: &[u8], out: &mut [u8]) -> Wrot
         let count = part.count;
         if count == 0 {
             let next = text_lines::line_size(false, &input[used..]);
-            return Wrote {
+            return Ok(Wrote {
                 used,
                 lines,
-                failed: false,
                 refused: next != 0,
-            };
+            });
         }
         used += part.used;
-        lines = counted(lines, count);
-        let n = part.written;
-        if !write_front(streams, out, n) {
-            return Wrote {
-                used,
-                lines,
-                failed: true,
-                refused: false,
-            };
-        }
+        lines = lines.wrapping_add(count as u64);
+        feed::flush(streams, out, part.written, b"fields: standard output")?;
     }
 }
 
 // The bytes in front of a place taken: their lines written, and what is left of them moved to the front.
-fn take_turn(streams: Streams, lines: u64, buf: &mut [u8], end: usize, out: &mut [u8]) -> Turn
+fn take_turn(
+    streams: Streams,
+    lines: u64,
+    buf: &mut [u8],
+    end: usize,
+    out: &mut [u8],
+) -> Result<Turn, Failed>
     requires { (end ≤ length buf.old) × (64 ≤ length out.old) }
-    ensures { TakesTurn lines (take end buf.old) buf.old buf.new result }
+    ensures { IfOk result (λ turn. TakesTurn lines (take end buf.old) buf.old buf.new turn) }
 {
-    let wrote = write_all(streams, lines, &buf[0..end], out);
+    let wrote = write_all(streams, lines, &buf[..end], out)?;
     let used = wrote.used;
-    Turn {
+    Ok(Turn {
         len: feed::slide(buf, used, end),
         lines: wrote.lines,
-        failed: wrote.failed,
         refused: wrote.refused,
-    }
+    })
 }
 
 // Reads and takes until the input ends, a line is refused, or a read or a write fails. What a read brought is written before the next.
-fn take_input(streams: Streams, buf: &mut [u8], out: &mut [u8]) -> Rest
+fn take_input(streams: Streams, buf: &mut [u8], out: &mut [u8]) -> Result<Rest, Failed>
     requires { 64 ≤ length out.old }
-    ensures { TakesInput buf.new result }
+    ensures { IfOk result (λ rest. TakesInput buf.new rest) }
 {
     let mut lines: u64 = 0;
     let mut len: usize = 0;
-    let mut turns = u64::MAX;
-    while turns > 0 {
-        turns -= 1;
-        let got = read_more(streams, buf, len);
-        let more = got.len;
+    for _ in 0..u64::MAX {
+        let Ok(more) = feed::read(streams, buf, len, b"fields: standard input") else {
+            break;
+        };
         if more == 0 {
-            return Rest {
+            return Ok(Rest {
                 len,
                 lines,
-                ended: got.ended,
-                failed: false,
-            };
+                ended: true,
+            });
         }
-        let turn = take_turn(streams, lines, buf, len + more, out);
+        let turn = take_turn(streams, lines, buf, len + more, out)?;
         len = turn.len;
         lines = turn.lines;
-        let stops = lists::either(turn.failed, turn.refused);
-        if stops {
-            return Rest {
-                len,
-                lines,
-                ended: false,
-                failed: turn.failed,
-            };
+        if turn.refused {
+            break;
         }
     }
-    Rest {
+    Ok(Rest {
         len,
         lines,
         ended: false,
-        failed: false,
-    }
+    })
 }
 
 // ---- the end
@@ -273,18 +237,6 @@ fn tell(streams: Streams, message: &[u8]) {
     feed::tell(streams, b"\n");
 }
 
-// One more.
-fn more(n: u64) -> u64 {
-    std::num::wrapping_add_u64(n, 1)
-}
-
-// A length, at most that of a message.
-fn capped(n: usize) -> usize
-    ensures { result ≤ 512 }
-{
-    if n < 512 { n } else { 512 }
-}
-
 // A line that is refused: told on standard error, and the fields end.
 fn refuse_line(
     streams: Streams,
@@ -300,9 +252,9 @@ fn refuse_line(
     ensures { CutOff out.new result }
 {
     let mut note = [0u8; 512];
-    let n = capped(messages::write_message(&mut note, number, at, reason, tag, item, line));
-    tell(streams, &note[0..n]);
-    put_end(&note[0..n], out)
+    let n = messages::write_message(&mut note, number, at, reason, tag, item, line).min(512);
+    tell(streams, &note[..n]);
+    put_end(&note[..n], out)
 }
 
 // The text could not be read to its end: the fields end.
@@ -319,14 +271,23 @@ fn refuse(streams: Streams, last: bool, lines: u64, text: &[u8], out: &mut [u8])
     ensures { CutOff out.new result }
 {
     let size = text_lines::line_size(last, text);
-    let read = read_piece(&text[0..size]);
+    let read = read_piece(&text[..size]);
     match read {
         Read::Refused {
             at,
             reason,
             tag,
             item,
-        } => refuse_line(streams, more(lines), at, reason, tag, item, text, out),
+        } => refuse_line(
+            streams,
+            lines.wrapping_add(1),
+            at,
+            reason,
+            tag,
+            item,
+            text,
+            out,
+        ),
         _ => refuse_text(out),
     }
 }
@@ -339,7 +300,6 @@ fn finish(streams: Streams, ended: bool, lines: u64, rest: &[u8], out: &mut [u8]
     if !ended {
         return Ending {
             good: false,
-            failed: false,
             len: refuse(streams, false, lines, rest, out),
         };
     }
@@ -347,32 +307,23 @@ fn finish(streams: Streams, ended: bool, lines: u64, rest: &[u8], out: &mut [u8]
     if part.used == rest.len() {
         return Ending {
             good: true,
-            failed: false,
             len: part.written,
         };
     }
     Ending {
         good: false,
-        failed: false,
         len: refuse(streams, true, lines, rest, out),
     }
 }
 
 // The run up to its last write.
-fn run_to_end(streams: Streams, buf: &mut [u8], out: &mut [u8]) -> Ending
+fn run_to_end(streams: Streams, buf: &mut [u8], out: &mut [u8]) -> Result<Ending, Failed>
     requires { 515 ≤ length out.old }
     ensures { Ends out.new result }
 {
-    let rest = take_input(streams, buf, out);
+    let rest = take_input(streams, buf, out)?;
     let len = rest.len;
-    if rest.failed {
-        return Ending {
-            good: false,
-            failed: true,
-            len: 0,
-        };
-    }
-    finish(streams, rest.ended, rest.lines, &buf[0..len], out)
+    Ok(finish(streams, rest.ended, rest.lines, &buf[..len], out))
 }
 
 // The whole run over two lent buffers: whether every line was read and written. Nothing is read where the first has less than the 65,537 bytes that tell a line that
@@ -384,10 +335,9 @@ pub fn run(streams: Streams, buf: &mut [u8], out: &mut [u8]) -> bool {
     if out.len() < 515 {
         return false;
     }
-    let end = run_to_end(streams, buf, out);
-    let n = end.len;
-    if !write_front(streams, out, n) {
+    let Ok(end) = run_to_end(streams, buf, out) else {
         return false;
-    }
-    end.good
+    };
+    let wrote = feed::flush(streams, out, end.len, b"fields: standard output");
+    wrote.is_ok() && end.good
 }

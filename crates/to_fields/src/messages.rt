@@ -1,5 +1,4 @@
 // Why a line is refused, in words: the place, what was expected, and how it is written.
-use crate::more;
 use text_lines::put_line;
 use words::number;
 
@@ -86,7 +85,7 @@ fn kind_piece(kind: u8) -> usize {
 
 // The largest number of a kind; kinds are 1 to 5.
 fn most_piece(kind: u8) -> usize {
-    MOST + lists::place(kind)
+    MOST + usize::from(kind)
 }
 
 // A word without the space behind it, and nothing where there is none.
@@ -97,7 +96,7 @@ fn put_word(out: &mut [u8], at: usize, word: &[u8], n: usize) -> usize {
     if word.len() < n {
         return at;
     }
-    words::put(out, at, &word[0..n - 1])
+    words::put(out, at, &word[..n - 1])
 }
 
 // What comes before a number: its key, or a comma and a number of its kind.
@@ -119,13 +118,10 @@ fn byte_at(line: &[u8], at: usize) -> u8 {
 
 // Whether three bytes begin with one of the dashes that look like a minus sign: in UTF-8 from U+2010 to U+2015 or U+2212, or 0x96 or 0x97 of Windows.
 fn is_dash(a: u8, b: u8, c: u8) -> bool {
-    let windows = lists::either(a == 0x96, a == 0x97);
-    let general = lists::both(b == 0x80, lists::both(0x90 <= c, c <= 0x95));
-    let minus = lists::both(b == 0x88, c == 0x92);
-    lists::either(
-        windows,
-        lists::both(a == 0xe2, lists::either(general, minus)),
-    )
+    let windows = a == 0x96 || a == 0x97;
+    let general = b == 0x80 && (0x90..=0x95).contains(&c);
+    let minus = b == 0x88 && c == 0x92;
+    windows || a == 0xe2 && (general || minus)
 }
 
 // Whether such a dash stands at a place of a line.
@@ -143,7 +139,7 @@ fn dash_at(line: &[u8], at: usize) -> bool {
 // A reason that names what was expected.
 fn put_expected(out: &mut [u8], at: usize, reason: u8, tag: u8, item: usize) -> usize {
     let to = put(out, at, EXPECTED);
-    if lists::either(reason == 3, reason == 9) {
+    if reason == 3 || reason == 9 {
         return put(out, to, kind_piece(forms::kind(tag, item)));
     }
     let next = put_next(out, to, tag, item);
@@ -180,16 +176,11 @@ fn put_reason(out: &mut [u8], at: usize, reason: u8, tag: u8, item: usize) -> us
         let to = put(out, at, LARGE);
         return put(out, to, most_piece(forms::kind(tag, item)));
     }
-    if lists::either(reason == 6, reason == 9) {
+    if reason == 6 || reason == 9 {
         let to = put(out, at, EARLY);
         return put_expected(out, to, reason, tag, item);
     }
     put_expected(out, at, reason, tag, item)
-}
-
-// A place as a number.
-fn wide(n: usize) -> u64 {
-    n as u64
 }
 
 // "line L column C: " at the front of a buffer, with the first column as 1.
@@ -197,7 +188,7 @@ fn put_place(out: &mut [u8], line: u64, place: usize) -> usize {
     let a = put(out, 0, LINE);
     let b = number(out, a, line);
     let c = put(out, b, COLUMN);
-    let d = number(out, c, more(wide(place)));
+    let d = number(out, c, (place as u64).wrapping_add(1));
     put(out, d, COLON)
 }
 
@@ -213,8 +204,7 @@ pub fn write_message(
 ) -> usize {
     let a = put_place(out, line, place);
     let b = put_reason(out, a, reason, tag, item);
-    let dash = dash_at(text, place);
-    if lists::both(reason == 3, dash) {
+    if reason == 3 && dash_at(text, place) {
         return put(out, b, MINUS);
     }
     b

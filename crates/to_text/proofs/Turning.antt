@@ -1,7 +1,8 @@
 -- The parts of a turn, and the end: laws that the proofs of the functions cite. Assumes nothing.
 use mathlib.Core.Path.{◌≡◌, refl, sym, ap, subst, ◌∙◌}
-use mathlib.Core.Bool.{true, false, false≢true}
+use mathlib.Core.Bool.{false}
 use mathlib.Core.List.{List, [], ◌∷◌, ◌++◌, append-nil}
+use Rattle.std.specs.Prelude.{Result, Ok, Err, IsErrAnd}
 use Prim.Native.Nat.{ℕ, ◌+◌, ◌*◌, ◌≤◌, ◌<◌}
 use native.Mathlib.Omega.{arith}
 use lib.ListN.{length, get_or, take, drop}
@@ -13,6 +14,7 @@ use Rattle.input.proofs.Fronts.{front-most}
 use Rattle.input.proofs.Parts.{cut_fields, fields_split, rest_then, rest-short}
 use Rattle.forms.specs.Put.{Put}
 use Rattle.forms.proofs.Puts.{put-none, put_as, joined-map-two}
+use Rattle.feed.specs.declared.Failed.{Failed}
 use Rattle.feed.specs.Feeds.{Keeps}
 use Rattle.feed.proofs.Turning.{fed-turn as turn-fed}
 use Rattle.translation.specs.Writes.{WritesAll}
@@ -51,10 +53,6 @@ module _ (input part old new : List ℕ) (used : ℕ) (r : Part) (g : Passed inp
             (part-ends (front_size false) (front-most false) _ _ input tt used g field_text _ part old new r.count r.used r.written lends w (bytes, room) none-there).1;
       }
 
--- a write failed
-pub passed-not : (input : List ℕ) (used : ℕ) → used ≤ length input → WritesAll (front_size false) input used true
-passed-not input used h = record { within = h; all = λ e. absurd (false≢true (sym e)) }
-
 -- ---- after each turn
 
 pub fed-none : (buf : List ℕ) → FedTo buf 0
@@ -87,22 +85,23 @@ cut-text (x ∷ s) = append-nil (field_text (x ∷ s))
 -- ---- the end
 
 -- the input did not end
-pub ends-not : (out : List ℕ) → Ends out (record { ended = false; len = 0 })
+pub ends-not : (out : List ℕ) (Q : Failed → Type 0) (r : Result ℕ Failed) → IsErrAnd r Q → Ends out r
 unfolding joined
-ends-not out = record { parts = []; bytes = tt; last = λ e. absurd (false≢true e); fits = omega arith }
+ends-not out Q (Ok n) h = absurd h
+ends-not out Q (Err e) h = record { parts = []; bytes = tt; last = tt; fits = tt }
 
 module _ (buf kept out : List ℕ) (len : ℕ) (f : FedTo buf len) (lends : kept ≡ take len buf) where
   -- what is left has room for its text
   pub last-room : 335882 ≤ length out → 5 * length kept + 8192 ≤ length out
   last-room room = omega (arith, ap length (lends ∙ f.kept), rest-short (joined f.parts) f.bytes)
 
-  pub ends : (out' : List ℕ) (n : ℕ) → Put out 0 (cut_text kept) (length out) n out' → Ends out' (record { ended = true; len = n })
+  pub ends : (out' : List ℕ) (n : ℕ) → Put out 0 (cut_text kept) (length out) n out' → Ends out' (Ok n)
   ends out' n p =
       let input = joined f.parts in
       record {
         parts = f.parts;
         bytes = f.bytes;
-        last = λ e.
+        last =
             ap (λ (x : List ℕ). fields_text (whole input) ++ x) (put_front (cut_text kept) out out' n p ∙ ap cut_text (lends ∙ f.kept) ∙ sym (cut-text (rest input)))
             ∙ sym (joined-map-two field_text (whole input) (cut_fields (rest input)))
             ∙ ap fields_text (sym (fields_split (length input) input (omega arith)));

@@ -1,12 +1,12 @@
 -- The loop that writes fields as text: what one part of it writes, and what is still to be written when the input has ended.
-use Rattle.std.specs.Prelude.{◌≡◌, true, false, List, [], ◌∷◌, ◌++◌, ℕ, ◌-◌, ◌/◌, ◌≤◌, leb, ltb, length, take}
+use Rattle.std.specs.Prelude.{◌≡◌, false, List, [], ◌∷◌, ◌++◌, ℕ, ◌-◌, ◌/◌, ◌≤◌, leb, ltb, length, take, Result, IfOk}
 use Rattle.lists.specs.Lists.{when◌then◌else◌, joined, Bytes}
 use Rattle.machine.specs.Printed.{fields_in}
 use Rattle.input.specs.Fields.{front_size, whole, rest}
+use Rattle.feed.specs.declared.Failed.{Failed}
 use Rattle.feed.specs.Feeds.{Fed}
 use Rattle.translation.specs.Writes.{WritesSome}
 use Rattle.to_text.specs.declared.Part.{Part}
-use Rattle.to_text.specs.declared.Ending.{Ending}
 use Rattle.to_text.specs.Texts.{field_text, fields_text}
 
 -- the bytes of the first field, and 0 where it is not all there or its text may have no room: a text has at most 8,192 bytes and five for each byte of its field
@@ -33,8 +33,8 @@ cut_text (x ∷ s) = field_text (x ∷ s)
 
 -- Before the last write there are parts, those that were read, such that, where the input ended, the text of their whole fields and the text that is still to be
 -- written are the text of all fields of the parts joined, the one that is cut off too.
-pub record Ends (out : List ℕ) (r : Ending) : Type 0 where
+pub record Ends (out : List ℕ) (r : Result ℕ Failed) : Type 0 where
   pub parts : List (List ℕ)
   pub bytes : Bytes (joined parts)
-  pub last : r.ended ≡ true → fields_text (whole (joined parts)) ++ take r.len out ≡ fields_text (fields_in (length (joined parts)) (joined parts))
-  pub fits : r.len ≤ length out
+  pub last : IfOk r (λ len. fields_text (whole (joined parts)) ++ take len out ≡ fields_text (fields_in (length (joined parts)) (joined parts)))
+  pub fits : IfOk r (λ len. len ≤ length out)

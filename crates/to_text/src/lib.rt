@@ -2,15 +2,15 @@
 // as much as there is, has every whole field of it written, and keeps what is left for the next read.
 #![tactic(auto)]
 
-ghost use Rattle.std.specs.Prelude.{◌≡◌, true, false, ◌++◌, ◌+◌, ◌*◌, ◌≤◌, ◌<◌, length, take};
+ghost use Rattle.std.specs.Prelude.{◌≡◌, false, ◌++◌, ◌+◌, ◌*◌, ◌≤◌, ◌<◌, IfOk, length, take};
 ghost use Rattle.input.specs.Fields.{front_size, rest};
 ghost use Rattle.forms.specs.Put.{Put};
-ghost use Rattle.feed.specs.Feeds.{Reads, Keeps};
+ghost use Rattle.feed.specs.Feeds.{Keeps};
 ghost use Rattle.translation.specs.Writes.{WritesAll};
 ghost use Rattle.to_text.specs.Texts.{hex_digit, hex_text, break_text, hex_from, comment, field_text};
 ghost use Rattle.to_text.specs.Turns.{size_within, WritesFields, FedTo, cut_text, Ends};
 
-use feed::{Got, Streams};
+use feed::{Failed, Streams};
 
 // How many fields were written, the bytes that they took, and the bytes of their text.
 #[derive(Clone, Copy)]
@@ -18,34 +18,6 @@ pub struct Part {
     pub count: usize,
     pub used: usize,
     pub written: usize,
-}
-
-// The bytes of the fields that were written, and whether a write has failed.
-#[derive(Clone, Copy)]
-struct Wrote {
-    used: usize,
-    failed: bool,
-}
-
-// How many bytes are kept at the buffer's front after a turn, and whether a write has failed.
-#[derive(Clone, Copy)]
-struct Turn {
-    len: usize,
-    failed: bool,
-}
-
-// How many bytes of a field that is cut off are kept at the buffer's front when the reading stops, and whether the input ended and no write failed.
-#[derive(Clone, Copy)]
-struct Rest {
-    len: usize,
-    ended: bool,
-}
-
-// Whether the input ended, and how many bytes of text at the buffer's front are then still to be written.
-#[derive(Clone, Copy)]
-struct Ending {
-    ended: bool,
-    len: usize,
 }
 
 // The bytes of the text that a field can have beside five for each of its own.
@@ -99,10 +71,8 @@ fn put_bytes(bytes: &[u8], out: &mut [u8], at: usize) -> usize
     ensures { Put out.old at (hex_from 0 bytes.now) (5 * length bytes.now) result out.new }
 {
     let mut to = at;
-    let mut i: usize = 0;
-    while i < bytes.len() {
-        to = put_byte(i, bytes[i], out, to);
-        i += 1;
+    for (i, b) in bytes.iter().enumerate() {
+        to = put_byte(i, *b, out, to);
     }
     to
 }
@@ -132,7 +102,7 @@ fn put_field(field: &[u8], out: &mut [u8], at: usize) -> usize
     to
 }
 
-// The bytes of the field at the front, and 0 where it is not all there or its text has no room.
+// The bytes of the field at the front, and 0 where it is not all there or its text has no room; no field has 0 bytes, and `size_within` says it so.
 fn next_size(input: &[u8], room: usize) -> usize
     ensures { result ≡ size_within room input.now }
 {
@@ -167,77 +137,46 @@ pub fn take_some(input: &[u8], out: &mut [u8]) -> Part
 
 // ---- the loop
 
-// Reads from standard input into the buffer from a place on.
-fn read_more(streams: Streams, buf: &mut [u8], at: usize) -> Got
-    ensures { Reads at buf.old buf.new result }
-{
-    feed::read(streams, buf, at, b"fields: standard input")
-}
-
-// Writes the first bytes of the buffer to standard output: whether that was done.
-fn write_front(streams: Streams, out: &[u8], n: usize) -> bool {
-    feed::flush(streams, out, n, b"fields: standard output") == 0
-}
-
-// Every whole field at the front of some bytes written to standard output, a part at a time, unless a write fails.
-fn write_all(streams: Streams, input: &[u8], out: &mut [u8]) -> Wrote
+// Every whole field at the front of some bytes written to standard output, a part at a time, unless a write fails; and the bytes that they took.
+fn write_all(streams: Streams, input: &[u8], out: &mut [u8]) -> Result<usize, Failed>
     requires { 335882 ≤ length out.old }
-    ensures { WritesAll (front_size false) input.now result.used result.failed }
+    ensures { IfOk result (λ used. WritesAll (front_size false) input.now used false) }
 {
     let mut used: usize = 0;
     loop {
         let part = take_some(&input[used..], out);
         if part.count == 0 {
-            return Wrote {
-                used,
-                failed: false,
-            };
+            return Ok(used);
         }
         used += part.used;
-        let n = part.written;
-        if !write_front(streams, out, n) {
-            return Wrote { used, failed: true };
-        }
+        feed::flush(streams, out, part.written, b"fields: standard output")?;
     }
 }
 
-// The bytes in front of a place taken: their whole fields written, and what is left of them moved to the front.
-fn take_turn(streams: Streams, buf: &mut [u8], end: usize, out: &mut [u8]) -> Turn
+// The bytes in front of a place taken: their whole fields written, and what is left of them moved to the front; and how many bytes are left.
+fn take_turn(streams: Streams, buf: &mut [u8], end: usize, out: &mut [u8]) -> Result<usize, Failed>
     requires { (end ≤ length buf.old) × (335882 ≤ length out.old) }
-    ensures { result.failed ≡ false → Keeps rest (take end buf.old) buf.old buf.new result.len }
+    ensures { IfOk result (λ len. Keeps rest (take end buf.old) buf.old buf.new len) }
 {
-    let wrote = write_all(streams, &buf[0..end], out);
-    let used = wrote.used;
-    Turn {
-        len: feed::slide(buf, used, end),
-        failed: wrote.failed,
-    }
+    let used = write_all(streams, &buf[..end], out)?;
+    Ok(feed::slide(buf, used, end))
 }
 
-// Reads and takes until the input ends, or a read or a write fails. What a read brought is written before the next.
-fn take_input(streams: Streams, buf: &mut [u8], out: &mut [u8]) -> Rest
+// Reads and takes until the input ends, or a read or a write fails. What a read brought is written before the next. How many bytes of a field that is cut off are
+// kept at the buffer's front.
+fn take_input(streams: Streams, buf: &mut [u8], out: &mut [u8]) -> Result<usize, Failed>
     requires { 335882 ≤ length out.old }
-    ensures { result.ended ≡ true → FedTo buf.new result.len }
+    ensures { IfOk result (λ len. FedTo buf.new len) }
 {
     let mut len: usize = 0;
-    let mut turns = u64::MAX;
-    while turns > 0 {
-        turns -= 1;
-        let got = read_more(streams, buf, len);
-        let more = got.len;
+    for _ in 0..u64::MAX {
+        let more = feed::read(streams, buf, len, b"fields: standard input")?;
         if more == 0 {
-            return Rest {
-                len,
-                ended: got.ended,
-            };
+            return Ok(len);
         }
-        let turn = take_turn(streams, buf, len + more, out);
-        len = turn.len;
-        if turn.failed {
-            return Rest { len, ended: false };
-        }
+        len = take_turn(streams, buf, len + more, out)?;
     }
-    Rest { len, ended: false }
+    Err(Failed)
 }
 
 // The text of a field that is cut off by the input's end; none where no bytes are left.
@@ -251,23 +190,13 @@ fn last_text(rest: &[u8], out: &mut [u8]) -> usize
     put_field(rest, out, 0)
 }
 
-// The run up to its last write.
-fn run_to_end(streams: Streams, buf: &mut [u8], out: &mut [u8]) -> Ending
+// The run up to its last write, and how many bytes of text at the buffer's front are then still to be written.
+fn run_to_end(streams: Streams, buf: &mut [u8], out: &mut [u8]) -> Result<usize, Failed>
     requires { 335882 ≤ length out.old }
     ensures { Ends out.new result }
 {
-    let rest = take_input(streams, buf, out);
-    let len = rest.len;
-    if !rest.ended {
-        return Ending {
-            ended: false,
-            len: 0,
-        };
-    }
-    Ending {
-        ended: true,
-        len: last_text(&buf[0..len], out),
-    }
+    let len = take_input(streams, buf, out)?;
+    Ok(last_text(&buf[..len], out))
 }
 
 // The whole run over two lent buffers: whether the input ended and all was written. Nothing is read where the first has less than the 65,538 bytes of the longest
@@ -279,10 +208,8 @@ pub fn run(streams: Streams, buf: &mut [u8], out: &mut [u8]) -> bool {
     if out.len() < 335882 {
         return false;
     }
-    let end = run_to_end(streams, buf, out);
-    let n = end.len;
-    if !end.ended {
-        return false;
+    match run_to_end(streams, buf, out) {
+        Ok(len) => feed::flush(streams, out, len, b"fields: standard output").is_ok(),
+        Err(Failed) => false,
     }
-    write_front(streams, out, n)
 }

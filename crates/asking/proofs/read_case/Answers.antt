@@ -1,41 +1,16 @@
 -- `asking::read_case` meets its contract. Assumes nothing.
-use native.Mathlib.Omega.{arith}
-use Rattle.input.specs.Fields.{rest}
-use Rattle.case.specs.Input.{HeldAfter}
-use Rattle.feed.proofs.Turning.{fed-read}
+use Rattle.std.proofs.Common.{rules}
 use Rattle.case_feed.proofs.Turning.{fed-none, fed-turn}
-use borrow.Author.Rules.{rules}
 use Rattle.asking.proofs.read_case.Goals as goal
 
 pub returns-then-buf-lt65538 : goal.returns-then-buf-lt65538
 returns-then-buf-lt65538 c = fed-none _ _ c.none-held.ensures
 
-pub loop-turns-init : goal.loop-turns-init
-loop-turns-init c = (fed-none _ _ c.none-held.ensures, search rules)
+pub loop-init : goal.loop-init
+loop-init c = fed-none _ _ c.none-held.ensures
 
-pub returns-then-more-eq0 : goal.returns-then-more-eq0
-returns-then-more-eq0 c =
-    let l = c.loop-turns in
-    let r = c.read-got in
-    fed-read rest (HeldAfter l.held) l.buf _ l.len l.invariant.0 r.ensures.front r.auto.buf
-
-pub overflow_add-len : goal.overflow_add-len
-overflow_add-len c = let k = c.loop-turns.invariant.0.fits in let h = c.read-got.ensures.room in search rules
-
-pub take_turn-turn-requires : goal.take_turn-turn-requires
-take_turn-turn-requires c =
-    let r = c.read-got in
-    omega (arith, r.ensures.room, c.loop-turns.invariant.0.fits, r.auto.buf)
-
-pub loop-turns-preserved : goal.loop-turns-preserved
-loop-turns-preserved c =
-    let l = c.loop-turns in
-    let r = c.read-got in
-    let t = c.take_turn-turn in (
-      fed-turn l.buf _ _ l.held l.len r.result.len t.result.held t.result.len l.invariant.0 r.ensures.front
-          (λ k. search rules) t.ensures,
-      search rules,
-    )
-
-pub returns : goal.returns
-returns c = c.loop-turns.invariant.0
+pub loop-preserved : goal.loop-preserved
+loop-preserved c =
+    let l = c.loop in
+    let t = c.take_turn-turn in
+    fed-turn l.buf _ _ l.held l.len c.in-Ok.more t.result.held t.result.len l.invariant c.read.ensures.front (λ k. search rules) t.ensures

@@ -1,6 +1,5 @@
 -- `from_lines::finish` meets its contract. Assumes nothing.
-use Rattle.std.proofs.Common.{arith}
-use Rattle.feed.proofs.Turning.{lent}
+use Rattle.std.proofs.Common.{refl, arith}
 use Rattle.from_lines.proofs.Ends.{finish-not, finish-done}
 use Rattle.from_lines.proofs.finish.Goals as goal
 
@@ -15,4 +14,4 @@ slice_bounds-take_days-end c = let p = c.take_some-part.ensures.put in omega (ar
 pub returns : goal.returns
 returns c =
     let t = c.take_some-part in
-    finish-done _ _ _ _ _ t.result t.ensures _ _ _ _ _ _ _ _ _ _ c.requires.0 c.if-part-rest.false (lent t.result.written _) c.take_days.ensures c.end.ensures
+    finish-done _ _ _ _ _ t.result t.ensures _ _ _ _ _ _ _ _ _ _ c.requires.0 c.if-part-rest.false refl c.take_days.ensures c.end.ensures

@@ -1,7 +1,6 @@
 -- `from_lines::take_all` meets its contract. Assumes nothing.
 use Rattle.std.proofs.Common.{refl, ◌∙◌, arith, rules}
 use Rattle.input.proofs.Fronts.{rest_all}
-use Rattle.feed.proofs.Turning.{lent}
 use Rattle.from_lines.proofs.Turning.{passed_none, passed-within, passed-some, passed-goes, passed-all}
 use Rattle.from_lines.proofs.take_all.Goals as goal
 
@@ -45,4 +44,4 @@ pub loop-part-preserved : goal.loop-part-preserved
 loop-part-preserved c =
     let l = c.loop-part in
     let t = c.take_some-part in
-    (passed-goes _ _ _ _ _ _ _ _ _ _ t.result l.invariant.0 (rest_all _ l.used) t.ensures _ _ _ _ _ _ _ c.counted-lines.ensures (lent t.result.written _) c.take_days-days.ensures, t.auto.out ∙ l.invariant.1)
+    (passed-goes _ _ _ _ _ _ _ _ _ _ t.result l.invariant.0 (rest_all _ l.used) t.ensures _ _ _ _ _ _ _ refl refl c.take_days-days.ensures, t.auto.out ∙ l.invariant.1)

@@ -11,12 +11,12 @@ returns-then-why-ne0 c =
 pub returns-then-buf-lt128 : goal.returns-then-buf-lt128
 returns-then-buf-lt128 c = gives_none _ _ _
 
-pub take_input-rest-requires : goal.take_input-rest-requires
-take_input-rest-requires c =
+pub take_input-requires : goal.take_input-requires
+take_input-requires c =
     let a = c.args in
     ready-some _ a.units (ready a.set a.units _ _ c.count_of.ensures.0 c.why_before-why.ensures c.if-why-ne0.false)
 
-pub returns : goal.returns
-returns c =
+pub returns-in-Ok : goal.returns-in-Ok
+returns-in-Ok c =
     let a = c.args in
-    gives a.set a.units _ a.shares.now _ _ _ (ready a.set a.units _ _ c.count_of.ensures.0 c.why_before-why.ensures c.if-why-ne0.false) c.take_input-rest.ensures c.finish.ensures
+    gives a.set a.units a.shares.now _ _ _ (ready a.set a.units _ _ c.count_of.ensures.0 c.why_before-why.ensures c.if-why-ne0.false) _ c.in-Ok.ensures c.finish.ensures

@@ -1,17 +1,14 @@
 -- `stream::run_to_end` meets its contract. Assumes nothing.
-use native.Mathlib.Omega.{arith}
-use Rattle.feed.proofs.Turning.{lent}
+use Rattle.std.proofs.Common.{refl, arith}
 use Rattle.stream.proofs.Turning.{ends-not, ends}
 use Rattle.stream.proofs.run_to_end.Goals as goal
 
-pub returns-then-not-rest : goal.returns-then-not-rest
-returns-then-not-rest c =
-    let t = c.take_input-rest in
-    ends-not t.new.buf t.new.out t.result.held t.result.len t.ensures
+pub returns-in_err-rest : goal.returns-in_err-rest
+returns-in_err-rest c = ends-not _ _ _ c.from_residual.ensures.1
 
 pub returns : goal.returns
 returns c =
-    let t = c.take_input-rest in
+    let t = c.take_input in
+    let rest = c.in_ok-rest.rest in
     let e = c.last_text in
-    let pre = c.requires in
-    ends t.new.buf _ t.new.out _ t.result.held t.result.len e.result (omega (arith, pre.1, t.auto.out)) t.ensures (lent t.result.len t.new.buf) e.ensures
+    ends t.new.buf _ t.new.out _ rest.held rest.len e.result (omega (arith, c.requires.1, t.auto.out)) c.in_ok-rest.ensures refl e.ensures

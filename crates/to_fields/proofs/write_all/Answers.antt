@@ -1,50 +1,32 @@
 -- `to_fields::write_all` meets its contract. Assumes nothing.
-use Rattle.std.proofs.Common.{refl, ◌∙◌, arith, rules}
+use Rattle.std.proofs.Common.{refl, arith, rules}
 use Rattle.input.proofs.Fronts.{rest_all}
-use Rattle.to_fields.proofs.Turning.{passed_none, passed-within, passed-some, passed-goes, passed-all, passed-not}
+use Rattle.to_fields.proofs.Turning.{passed_none, passed-within, passed-some, passed-goes, passed-all}
 use Rattle.to_fields.proofs.write_all.Goals as goal
 
 pub loop-streams-init : goal.loop-streams-init
-loop-streams-init c = (passed_none _ _, refl)
-
-pub slice_bounds-take_some-count : goal.slice_bounds-take_some-count
-slice_bounds-take_some-count c = c.loop-streams.invariant.0.place
-
-pub slice_bounds-take_some-start : goal.slice_bounds-take_some-start
-slice_bounds-take_some-start c = let w = c.loop-streams.invariant.0.place in search (rules, w)
-
-pub slice_bounds-line_size-count : goal.slice_bounds-line_size-count
-slice_bounds-line_size-count c = c.loop-streams.invariant.0.place
-
-pub slice_bounds-line_size-start : goal.slice_bounds-line_size-start
-slice_bounds-line_size-start c = let w = c.loop-streams.invariant.0.place in search (rules, w)
+loop-streams-init c = passed_none _ _
 
 pub returns-then-count-eq0 : goal.returns-then-count-eq0
 returns-then-count-eq0 c =
     let l = c.loop-streams in
     let t = c.take_some-part in
-    passed-all _ _ _ _ _ _ _ t.result l.invariant.0 (rest_all _ l.used) t.ensures (omega (arith, c.requires, l.invariant.1)) c.if-count-eq0.true _ c.line_size-next.ensures
+    passed-all _ _ _ _ _ _ _ t.result l.invariant (rest_all _ l.used) t.ensures (omega (arith, c.requires, l.auto.out)) c.if-count-eq0.true _ c.line_size-next.ensures
 
 pub overflow_add-used : goal.overflow_add-used
 overflow_add-used c =
     let l = c.loop-streams in
     let t = c.take_some-part in
-    let w = passed-within _ _ _ _ _ _ _ t.result l.invariant.0 (rest_all _ l.used) t.ensures in search (rules, w)
-
-pub returns-then-not-write_front : goal.returns-then-not-write_front
-returns-then-not-write_front c =
-    let l = c.loop-streams in
-    let t = c.take_some-part in
-    passed-not _ _ _ _ (passed-within _ _ _ _ _ _ _ t.result l.invariant.0 (rest_all _ l.used) t.ensures)
+    let w = passed-within _ _ _ _ _ _ _ t.result l.invariant (rest_all _ l.used) t.ensures in search (rules, w)
 
 pub loop-streams-smaller : goal.loop-streams-smaller
 loop-streams-smaller c =
     let l = c.loop-streams in
     let t = c.take_some-part in
-    omega (arith, passed-within _ _ _ _ _ _ _ t.result l.invariant.0 (rest_all _ l.used) t.ensures, passed-some _ _ _ _ _ _ _ t.result l.invariant.0 (rest_all _ l.used) t.ensures, c.if-count-eq0.false)
+    omega (arith, passed-within _ _ _ _ _ _ _ t.result l.invariant (rest_all _ l.used) t.ensures, passed-some _ _ _ _ _ _ _ t.result l.invariant (rest_all _ l.used) t.ensures, c.if-count-eq0.false)
 
 pub loop-streams-preserved : goal.loop-streams-preserved
 loop-streams-preserved c =
     let l = c.loop-streams in
     let t = c.take_some-part in
-    (passed-goes _ _ _ _ _ _ _ t.result l.invariant.0 (rest_all _ l.used) t.ensures _ c.counted-lines.ensures, t.auto.out ∙ l.invariant.1)
+    passed-goes _ _ _ _ _ _ _ t.result l.invariant (rest_all _ l.used) t.ensures _ refl
