@@ -98,7 +98,7 @@ fn read_words(rt: HostRuntime) -> Option<Asked> {
     }
 }
 
-// ---- the shares as text
+// ---- the shares as text. The buffer and the place are handed on, since each contract says by `Put` what stands between two places.
 
 // A text from a place on.
 fn put(out: &mut [u8], at: usize, text: &[u8]) -> usize
@@ -139,7 +139,7 @@ fn put_place(out: &mut [u8], at: usize, set: u32, m: u8, units: u64) -> usize
     at
 }
 
-// The lines of the members.
+// The lines of the members, by place, as `members_text` has them.
 fn put_members(out: &mut [u8], set: u32, shares: [u64; 32]) -> usize
     requires { 2816 ≤ length out.old }
     ensures { Put out.old 0 (members_text set shares) 2816 result out.new }

@@ -1,4 +1,3 @@
--- `expected::put_members` meets its contract. The invariant: the lines of the places passed are written. Assumes nothing.
 use Rattle.std.proofs.Common.{◌≡◌, ◌+◌, ◌*◌, refl, arith}
 use Rattle.lists.specs.Lists.{tab, joined}
 use Rattle.forms.proofs.Puts.{put-none, put_as}

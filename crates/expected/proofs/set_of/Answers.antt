@@ -1,4 +1,3 @@
--- `expected::set_of` meets its contract. The invariant: the set is that of the numbers passed. Assumes nothing.
 use Rattle.std.proofs.Common.{ℕ, get_or, refl, ap, ◌∙◌, arith}
 use Rattle.sets.specs.Set.{with_member}
 use Rattle.expected.specs.Words.{set_of}
