@@ -223,6 +223,7 @@ fn put_ranking(text: &mut Text, set: u32, members: Members, res: Result) {
     let expected = over_pools(members.expected);
     let contribution = widened(members.contribution);
     let paid = widened(members.paid);
+    // by place, since the range shows that each of the arrays has it
     for m in 0..32u8 {
         if sets::has(set, m) {
             let i = usize::from(m);
@@ -256,6 +257,7 @@ fn put_unranked(text: &mut Text, set: u32, members: Members) {
     ));
     let won = over_pools(members.won);
     let expected = over_pools(members.expected);
+    // by place, as above
     for m in 0..32u8 {
         if sets::has(set, m) {
             let i = usize::from(m);

@@ -1,4 +1,3 @@
--- `explain::take_input` meets its contract. Assumes nothing.
 use Rattle.std.proofs.Common.{rules}
 use Rattle.case_feed.proofs.Turning.{fed-none, fed-turn}
 use Rattle.explain.proofs.take_input.Goals as goal

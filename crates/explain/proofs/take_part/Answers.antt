@@ -1,4 +1,3 @@
--- `explain::take_part` meets its contract: the fields are taken one by one, as `Passing` says. Assumes nothing.
 use Rattle.std.proofs.Common.{◌≡◌, ℕ, ◌+◌, ◌-◌, false, List, take, drop, ap, ◌∙◌, arith, rules}
 use Rattle.input.specs.Fields.{front_size}
 use Rattle.input.proofs.Fronts.{front-most, rest_all}
