@@ -20,24 +20,14 @@ pub const UNIT_LIMIT: u64 = 1_000;
 
 pub const PRICE_LIMIT: u32 = 2_000_000;
 
-// The units of the bid at place i, if its price is t or above, and 0 if it is not.
-fn counted_at(units: &[u64], prices: &[u32], t: u32, i: usize) -> u64
-    requires { (i < length units.now) × (i < length prices.now) }
-    ensures { result ≡ counted_at units.now prices.now t i }
-{
-    lists::number_if(t <= prices[i], units[i])
-}
-
 // The units bid from the price t on.
 fn units_from(units: &[u64], prices: &[u32], t: u32) -> u64
     requires { BidsFit units.now prices.now }
     ensures { result ≡ from units.now prices.now t }
 {
-    let mut sum: u64 = 0;
-    let mut i: usize = 0;
-    while i < units.len() {
-        sum += counted_at(units, prices, t, i);
-        i += 1;
+    let mut sum = 0;
+    for (i, n) in units.iter().enumerate() {
+        sum += lists::number_if(t <= prices[i], *n);
     }
     sum
 }
@@ -75,10 +65,8 @@ fn weigh(reserve: u32, units: &[u64], prices: &[u32], t: u32, weights: &mut [u64
     requires weights_len { length weights.old ≡ length units.now }
     ensures { weights.new ≡ below reserve units.now prices.now t }
 {
-    let mut i: usize = 0;
-    while i < units.len() {
-        weights[i] = below_at(reserve, units, prices, t, i);
-        i += 1;
+    for (i, weight) in weights.iter_mut().enumerate() {
+        *weight = below_at(reserve, units, prices, t, i);
     }
 }
 
@@ -95,10 +83,8 @@ fn settle(units: &[u64], prices: &[u32], t: u32, won: &mut [u64])
     requires { (length prices.now ≡ length units.now) × (length won.old ≡ length units.now) }
     ensures { won.new ≡ settled units.now prices.now t won.old }
 {
-    let mut i: usize = 0;
-    while i < units.len() {
-        won[i] = settled_at(units, prices, t, i, won[i]);
-        i += 1;
+    for (i, share) in won.iter_mut().enumerate() {
+        *share = settled_at(units, prices, t, i, *share);
     }
 }
 
@@ -129,7 +115,7 @@ fn allot_within(open_units: u64, reserve: u32, units: &[u64], prices: &[u32], wo
     ensures { won.new ≡ allot open_units reserve units.now prices.now }
 {
     let n = units.len();
-    let mut weights = [0u64; PLACE_LIMIT];
+    let mut weights = [0; PLACE_LIMIT];
     allot_with(open_units, reserve, units, prices, &mut weights[..n], won);
 }
 
@@ -137,29 +123,14 @@ fn allot_within(open_units: u64, reserve: u32, units: &[u64], prices: &[u32], wo
 fn units_fit(least: u64, units: &[u64]) -> bool
     ensures { result ≡ all (between least unit_limit) units.now }
 {
-    let mut i: usize = 0;
-    while i < units.len() {
-        let fits = lists::both(least <= units[i], units[i] <= UNIT_LIMIT);
-        if !fits {
-            return false;
-        }
-        i += 1;
-    }
-    true
+    units.iter().all(|n| least <= *n && *n <= UNIT_LIMIT)
 }
 
 // Whether each price is within its limit.
 fn prices_fit(prices: &[u32]) -> bool
     ensures { result ≡ all price_ok prices.now }
 {
-    let mut i: usize = 0;
-    while i < prices.len() {
-        if PRICE_LIMIT < prices[i] {
-            return false;
-        }
-        i += 1;
-    }
-    true
+    prices.iter().all(|p| *p <= PRICE_LIMIT)
 }
 
 // Why an auction with n counts is declined, or 0.
@@ -224,19 +195,6 @@ pub fn alone(open_units: u64, reserve: u32, units: &[u64], prices: &[u32], count
     run(1, BID_LIMIT, open_units, reserve, units, prices, counts)
 }
 
-// The same for C.
-pub fn ledger_auction(
-    open_units: u64,
-    reserve: u32,
-    units: &[u64],
-    prices: &[u32],
-    counts: &mut [u64],
-) -> u8
-    ensures { ◌≡◌ {A = Answer} (result, counts.new) (allot_into 1 bid_limit open_units reserve units.now prices.now counts.old) }
-{
-    alone(open_units, reserve, units, prices, counts)
-}
-
 // A bid as it is lent: its units and its price in cents, positive paid to the house and negative by the house.
 #[repr(C)]
 #[derive(Clone, Copy)]
@@ -257,40 +215,21 @@ pub struct Bids {
 fn held(price: i32) -> u32
     ensures { result ≡ held price }
 {
-    let sum = price as i64 + 1_000_000;
-    if sum < 0 {
-        (sum + 4_294_967_296) as u32
-    } else {
-        sum as u32
-    }
-}
-
-// How many records of a lent run are read: all, or as many as fit of a longer one.
-fn capped(n: usize) -> usize
-    ensures { result ≡ min n bid_limit }
-{
-    if n < BID_LIMIT { n } else { BID_LIMIT }
+    price.cast_unsigned().wrapping_add(1_000_000)
 }
 
 // The bids of a lent run. Each record goes straight to its place in the arrays, since a struct that is passed on is copied whole.
 fn gather(bids: &[BidRecord]) -> Bids
     ensures { result ≡ gathered bids.now }
 {
-    let n = capped(bids.len());
-    let mut units = [0u64; BID_LIMIT];
-    let mut prices = [0u32; BID_LIMIT];
-    let mut i = 0;
-    while i < n {
-        let b = bids[i];
-        units[i] = b.units as u64;
-        prices[i] = held(b.price);
-        i += 1;
+    let n = bids.len().min(BID_LIMIT);
+    let mut units = [0; BID_LIMIT];
+    let mut prices = [0; BID_LIMIT];
+    for (i, bid) in bids[..n].iter().enumerate() {
+        units[i] = u64::from(bid.units);
+        prices[i] = held(bid.price);
     }
-    Bids {
-        units: units,
-        prices: prices,
-        n: i,
-    }
+    Bids { units, prices, n }
 }
 
 // The auction run alone over the first n of the bids.
@@ -301,7 +240,13 @@ fn alone_over(bids: Bids, n: usize, open_units: u16, reserve: i32, counts: &mut 
     let units = bids.units;
     let prices = bids.prices;
     if n <= BID_LIMIT {
-        alone(open_units as u64, least, &units[..n], &prices[..n], counts)
+        alone(
+            u64::from(open_units),
+            least,
+            &units[..n],
+            &prices[..n],
+            counts,
+        )
     } else {
         1
     }

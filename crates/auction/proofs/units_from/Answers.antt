@@ -1,4 +1,3 @@
--- `auction::units_from` meets its contract. The invariant: the units counted so far, at most 1000 for each place. Assumes nothing.
 use mathlib.Core.Path.{◌≡◌}
 use native.Mathlib.Omega.{arith}
 use lib.ListN.{length}
@@ -8,20 +7,18 @@ use Rattle.auction.proofs.Levels.{counted-le}
 use Rattle.auction.proofs.units_from.Goals as goal
 
 pub loop-i-init : goal.loop-i-init
-loop-i-init c =
-    let a = c.args in
-    omega (arith, sum_to-none (counted_at a.units.now a.prices.now a.t))
+loop-i-init c = omega (arith, sum_to-none (counted_at c.args.units.now c.args.prices.now c.args.t))
 
 pub overflow_add-sum : goal.overflow_add-sum
 overflow_add-sum c =
     let i = c.loop-i.i in
-    omega (arith, counted-le c.args.units.now c.args.prices.now c.args.t i, c.requires.units i)
+    omega (arith, c.number_if-sum.ensures, counted-le c.args.units.now c.args.prices.now c.args.t i, c.requires.units i, c.requires.few)
 
 pub loop-i-preserved : goal.loop-i-preserved
 loop-i-preserved c =
     let i = c.loop-i.i in
     let f = counted_at c.args.units.now c.args.prices.now c.args.t in
-    omega (arith, counted-le c.args.units.now c.args.prices.now c.args.t i, c.requires.units i, sum_to-next i f)
+    omega (arith, c.number_if-sum.ensures, counted-le c.args.units.now c.args.prices.now c.args.t i, c.requires.units i, sum_to-next i f)
 
 pub returns : goal.returns
 unfolding from
