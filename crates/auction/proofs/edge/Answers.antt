@@ -1,4 +1,3 @@
--- `auction::edge` meets its contract. The invariant: the units from `high` are at most n, and those from any price below `low` are more. Assumes nothing.
 use Prim.Native.Nat.{◌+◌, ◌-◌, ◌/◌}
 use mathlib.Core.Path.{◌≡◌}
 use native.Mathlib.Omega.{arith}
