@@ -1,6 +1,6 @@
--- `auction::below_at` meets its contract. Assumes nothing.
+-- `auction::Auction::below_at` meets its contract. Assumes nothing.
 use Rattle.auction.specs.Edge.{below_at}
-use Rattle.auction.proofs.below_at.Goals as goal
+use Rattle.auction.proofs.Auction.below_at.Goals as goal
 
 pub returns : goal.returns
 unfolding below_at

@@ -2,22 +2,22 @@ use Prim.Native.Nat.{◌+◌, ◌-◌, ◌/◌}
 use mathlib.Core.Path.{◌≡◌}
 use native.Mathlib.Omega.{arith}
 use Rattle.auction.proofs.Levels.{from_le, from_nothing}
-use Rattle.auction.proofs.edge.Goals as goal
+use Rattle.auction.proofs.Auction.edge.Goals as goal
 
 pub loop-low-init : goal.loop-low-init
 loop-low-init c = (
   omega arith,
   omega arith,
   omega arith,
-  omega (arith, from_nothing c.args.units.now c.args.prices.now 2000001 (λ i. omega (arith, c.requires.bids.prices i))),
+  omega (arith, from_nothing c.args.self.units.now c.args.self.prices.now 2000001 (λ i. omega (arith, c.requires.bids.prices i))),
   λ p h l. absurd (omega arith),
 )
 
-pub loop-low-smaller-then-units_from-open_units : goal.loop-low-smaller-then-units_from-open_units
-loop-low-smaller-then-units_from-open_units c = omega arith
+pub loop-low-smaller-then-units_from-self : goal.loop-low-smaller-then-units_from-self
+loop-low-smaller-then-units_from-self c = omega arith
 
-pub loop-low-preserved-then-units_from-open_units : goal.loop-low-preserved-then-units_from-open_units
-loop-low-preserved-then-units_from-open_units c = (omega arith, omega arith, omega arith, omega arith, c.loop-low.invariant.4)
+pub loop-low-preserved-then-units_from-self : goal.loop-low-preserved-then-units_from-self
+loop-low-preserved-then-units_from-self c = (omega arith, omega arith, omega arith, omega arith, c.loop-low.invariant.4)
 
 pub loop-low-smaller : goal.loop-low-smaller
 loop-low-smaller c = omega arith
@@ -29,7 +29,7 @@ loop-low-preserved c =
       omega arith,
       omega arith,
       omega arith,
-      λ p h l. omega (arith, from_le c.args.units.now c.args.prices.now p (at.low + (at.high - at.low) / 2) (omega arith)),
+      λ p h l. omega (arith, from_le c.args.self.units.now c.args.self.prices.now p (at.low + (at.high - at.low) / 2) (omega arith)),
     )
 
 pub returns : goal.returns

@@ -1,7 +1,7 @@
--- `auction::allot_within` meets its contract. The room for the weights is a part of a local array. Assumes nothing.
+-- `auction::Auction::allot_within` meets its contract. The room for the weights is a part of a local array. Assumes nothing.
 use mathlib.Core.Path.{sym}
 use lib.Seq.{length-take-le}
-use Rattle.auction.proofs.allot_within.Goals as goal
+use Rattle.auction.proofs.Auction.allot_within.Goals as goal
 
 pub slice_bounds-allot_with-end : goal.slice_bounds-allot_with-end
 slice_bounds-allot_with-end c = sym (length-take-le _ _ c.requires.ready.bids.few)

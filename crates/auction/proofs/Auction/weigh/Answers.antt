@@ -1,7 +1,7 @@
 use native.Mathlib.Omega.{arith}
 use Rattle.lists.proofs.Places.{filled_next, tab-of}
 use Rattle.auction.specs.Edge.{below}
-use Rattle.auction.proofs.weigh.Goals as goal
+use Rattle.auction.proofs.Auction.weigh.Goals as goal
 
 pub below_at-requires : goal.below_at-requires
 below_at-requires c = (omega arith, omega arith, c.requires.bids_fit.prices c.loop-i.i)

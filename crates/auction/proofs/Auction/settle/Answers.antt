@@ -4,7 +4,7 @@ use lib.Seq.{get_or-set_other}
 use borrow.Author.Count.{below_none}
 use Rattle.lists.proofs.Places.{filled_next, tab-of}
 use Rattle.auction.specs.Edge.{settled_at, settled}
-use Rattle.auction.proofs.settle.Goals as goal
+use Rattle.auction.proofs.Auction.settle.Goals as goal
 
 pub loop-i-init : goal.loop-i-init
 loop-i-init c = (below_none _, λ k l. refl)

@@ -1,7 +1,7 @@
--- `auction::refusal` meets its contract. Each callee says what one part of the list of tests is. Assumes nothing.
+-- `auction::Auction::refusal` meets its contract. Each callee says what one part of the list of tests is. Assumes nothing.
 use Rattle.lists.specs.Tests.{first_of}
 use Rattle.auction.specs.Limits.{refusal}
-use Rattle.auction.proofs.refusal.Goals as goal
+use Rattle.auction.proofs.Auction.refusal.Goals as goal
 
 pub returns : goal.returns
 unfolding refusal first_of
