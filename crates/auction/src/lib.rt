@@ -143,16 +143,21 @@ impl<'a> Auction<'a> {
         self.allot_with(&mut weights[..n], won);
     }
 
-    // Why an auction with n counts is declined, or 0.
+    // Why an auction with n counts is declined, or 0: the answers of document 01.
     fn refusal(self, least: u64, places: usize, n: usize) -> u8
         ensures { result ≡ refusal least places self.entry.open_units self.entry.reserve self.entry.units.now self.entry.prices.now n }
     {
-        let paired = lists::both(self.prices.len() == self.units.len(), n == self.units.len());
-        let lengths = lists::both(paired, n <= places);
-        let numbers = lists::both(self.open_units <= UNIT_LIMIT, self.reserve <= PRICE_LIMIT);
-        let sized = lists::both(numbers, units_fit(least, self.units));
-        let ranges = lists::both(sized, prices_fit(self.prices));
-        lists::decline_if(!lengths, 1, lists::decline_if(!ranges, 5, 0))
+        if self.prices.len() != self.units.len() || n != self.units.len() || n > places {
+            return 1;
+        }
+        if self.open_units > UNIT_LIMIT
+            || self.reserve > PRICE_LIMIT
+            || !units_fit(least, self.units)
+            || !prices_fit(self.prices)
+        {
+            return 5;
+        }
+        0
     }
 
     // Runs an auction of at most `places` bids of at least `least` units, or answers why not and leaves the counts untouched.
