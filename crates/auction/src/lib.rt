@@ -9,7 +9,7 @@ ghost use Rattle.auction.specs.Auction.{allot};
 ghost use Rattle.auction.specs.Limits.{unit_limit, bid_limit, place_limit, refusal, allot_into};
 ghost use Rattle.auction.specs.Lent.{held, alone_lent};
 ghost use Rattle.auction.specs.Gathered.{gathered, alone_over};
-ghost use Rattle.auction.specs.Edge.{BidsFit, Ready, counted_at, from, Edge, below_at, below, settled};
+ghost use Rattle.auction.specs.Edge.{BidsFit, Ready, from, Edge, below_at, below, settled};
 
 // The most bids of an auction that is run alone, and the most places of one that is not; the most units that are open or bid; the highest price.
 pub const BID_LIMIT: usize = 256;
