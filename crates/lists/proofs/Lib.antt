@@ -1,5 +1,6 @@
 pub mod Bools
 pub mod Sums
+pub mod Std
 pub mod Places
 pub mod Stores
 pub mod Keep

@@ -23,33 +23,18 @@ struct Performance {
     expected: u64,
 }
 
-// Member m's, each number held to its limit.
-fn performance_at(d: &[u64; 32], won: &[u64; 32], expected: &[u64; 32], m: usize) -> Performance
-    requires { m < 32 }
-    ensures { result ≡ performance_at d.now won.now expected.now m }
-{
-    Performance {
-        d: lists::smaller(d[m], D_LIMIT),
-        won: lists::smaller(won[m], CASE_UNIT_LIMIT),
-        expected: lists::smaller(expected[m], CASE_UNIT_LIMIT),
-    }
-}
-
 // "ΔP = D / W (0 if W = 0)": what D is divided by. No quotient is ever made.
 fn divisor_of(won: u64) -> u64
     ensures { result ≡ max won 1 }
 {
-    if won == 0 { 1 } else { won }
+    won.max(1)
 }
 
 // Whether x is above y, or equal to it where the rest decides so.
 fn higher(x: u64, y: u64, rest: bool) -> bool
     ensures { result ≡ higher x y rest }
 {
-    if y < x {
-        return true;
-    }
-    if x == y { rest } else { false }
+    x > y || (x == y && rest)
 }
 
 // "Within A: higher ΔP × excess, then higher excess, then higher ΔP."
@@ -116,36 +101,49 @@ fn with_senior(seniors: u32, o: u8, other: Performance, mine: Performance) -> u3
     }
 }
 
-// "Rank = 1 + the number strictly senior": member m's, by the ones of the set of its seniors.
-fn rank_of(d: &[u64; 32], won: &[u64; 32], expected: &[u64; 32], set: u32, m: usize) -> u8
-    requires { m < 32 }
-    ensures { result ≡ rank_in set (λ o. capped (standing_at d.now won.now expected.now o)) m }
-{
-    let mine = performance_at(d, won, expected, m);
-    let mut seniors: u32 = 0;
-    let mut left = set;
-    while left != 0 {
-        let o = sets::next(left);
-        left = sets::without_least(left);
-        seniors = with_senior(
-            seniors,
-            o as u8,
-            performance_at(d, won, expected, o as usize),
-            mine,
-        );
+// What the members' ranks depend on, by member.
+#[derive(Clone, Copy)]
+struct Columns {
+    d: [u64; 32],
+    won: [u64; 32],
+    expected: [u64; 32],
+}
+
+impl Columns {
+    // Member m's, each number held to its limit.
+    fn performance_at(&self, m: usize) -> Performance
+        requires { m < 32 }
+        ensures { result ≡ performance_at self.now.d self.now.won self.now.expected m }
+    {
+        Performance {
+            d: self.d[m].min(D_LIMIT),
+            won: self.won[m].min(CASE_UNIT_LIMIT),
+            expected: self.expected[m].min(CASE_UNIT_LIMIT),
+        }
     }
-    1 + sets::count(seniors) as u8
+
+    // "Rank = 1 + the number strictly senior": member m's, by the ones of the set of its seniors.
+    fn rank_of(&self, set: u32, m: usize) -> u8
+        requires { m < 32 }
+        ensures { result ≡ rank_in set (λ o. capped (standing_at self.now.d self.now.won self.now.expected o)) m }
+    {
+        let mine = self.performance_at(m);
+        let mut seniors = 0;
+        for o in sets::members_of(set) {
+            seniors = with_senior(seniors, o, self.performance_at(usize::from(o)), mine);
+        }
+        1 + sets::count(seniors) as u8
+    }
 }
 
 // The rank of each of the 32 places among the members of the set, from the members' D, units won and units expected.
 pub fn ranks(d: [u64; 32], won: [u64; 32], expected: [u64; 32], set: u32) -> [u8; 32]
     ensures { result ≡ ranks_of d won expected set }
 {
-    let mut out = [0u8; 32];
-    let mut m: usize = 0;
-    while m < 32 {
-        out[m] = rank_of(&d, &won, &expected, set, m);
-        m += 1;
+    let columns = Columns { d, won, expected };
+    let mut out = [0; 32];
+    for (m, rank) in out.iter_mut().enumerate() {
+        *rank = columns.rank_of(set, m);
     }
     out
 }
@@ -161,85 +159,84 @@ pub struct Charged {
 pub fn charge_layers(loss: u64, limits: [u64; 6]) -> Charged
     ensures { result ≡ charged_layers loss limits }
 {
-    let mut charges = [0u64; 6];
+    let mut charges = [0; 6];
     let mut rest = loss;
-    let mut i: usize = 0;
-    while i < 6 {
-        charges[i] = lists::smaller(rest, limits[i]);
-        rest = lists::less(rest, limits[i]);
-        i += 1;
+    for (i, limit) in limits.iter().enumerate() {
+        charges[i] = rest.min(*limit);
+        rest = rest.saturating_sub(*limit);
     }
     Charged { charges, rest }
-}
-
-// A rank as a number to which 1 can be added.
-fn wide(rank: u8) -> u64
-    ensures { (result ≡ rank) × (result ≤ 255) }
-{
-    rank as u64
 }
 
 // What a member holds, held to its limit, where it counts; 0 where it does not.
 fn holding_if(counts: bool, amount: u64) -> u64
     ensures { result ≡ (when counts then min amount weight_limit else 0) }
 {
-    lists::number_if(counts, lists::smaller(amount, splitting::WEIGHT_LIMIT))
-}
-
-// What the members hold whose rank is r or junior to it.
-fn held_from(ranks: &[u8; 32], holds: &[u64; 32], set: u32, r: u64) -> u64
-    ensures { result ≡ held_by set (rank_at ranks.now) (held_at holds.now) (leb r) }
-{
-    let mut total: u64 = 0;
-    let mut left = set;
-    while left != 0 {
-        let m = sets::next(left) as usize;
-        left = sets::without_least(left);
-        total += holding_if(r <= wide(ranks[m]), holds[m]);
+    if counts {
+        amount.min(splitting::WEIGHT_LIMIT)
+    } else {
+        0
     }
-    total
 }
 
-// What each member of rank r holds, and 0 at the other places.
-fn of_rank(ranks: &[u8; 32], holds: &[u64; 32], set: u32, r: u64) -> [u64; 32]
-    ensures { result ≡ of_members set (λ m. when eqb r (rank_at ranks.now m) then held_at holds.now m else 0) }
-{
-    let mut out = [0u64; 32];
-    let mut left = set;
-    while left != 0 {
-        let m = sets::next(left) as usize;
-        left = sets::without_least(left);
-        out[m] = holding_if(r == wide(ranks[m]), holds[m]);
+// The members of a set, with each one's rank and what it holds.
+#[derive(Clone, Copy)]
+struct Holdings {
+    ranks: [u8; 32],
+    holds: [u64; 32],
+    set: u32,
+}
+
+impl Holdings {
+    // What the members hold whose rank is r or junior to it.
+    fn held_from(&self, r: u64) -> u64
+        ensures { result ≡ held_by self.now.set (rank_at self.now.ranks) (held_at self.now.holds) (leb r) }
+    {
+        let mut total = 0;
+        for m in sets::members_of(self.set) {
+            let m = usize::from(m);
+            total += holding_if(r <= u64::from(self.ranks[m]), self.holds[m]);
+        }
+        total
     }
-    out
-}
 
-// What member m is charged: its rank bears what the ranks junior to it leave, up to what its members hold, split by what they hold.
-fn charge_of(amount: u64, ranks: &[u8; 32], holds: &[u64; 32], set: u32, m: usize) -> u64
-    requires { (m < 32) × (amount ≤ amount_limit) }
-    ensures { result ≡ charged_by_rank set (rank_at ranks.now) (held_at holds.now) amount m }
-{
-    let r = wide(ranks[m]);
-    let junior = held_from(ranks, holds, set, r + 1);
-    let equal = held_from(ranks, holds, set, r) - junior;
-    let due = lists::smaller(lists::less(amount, junior), equal);
-    let weights = of_rank(ranks, holds, set, r);
-    let mut shares = [0u64; 32];
-    splitting::split(due, &weights, &mut shares);
-    shares[m]
+    // What each member of rank r holds, and 0 at the other places.
+    fn of_rank(&self, r: u64) -> [u64; 32]
+        ensures { result ≡ of_members self.now.set (λ m. when eqb r (rank_at self.now.ranks m) then held_at self.now.holds m else 0) }
+    {
+        let mut out = [0; 32];
+        for m in sets::members_of(self.set) {
+            let m = usize::from(m);
+            out[m] = holding_if(r == u64::from(self.ranks[m]), self.holds[m]);
+        }
+        out
+    }
+
+    // What member m is charged: its rank bears what the ranks junior to it leave, up to what its members hold, split by what they hold.
+    fn charge_of(&self, amount: u64, m: usize) -> u64
+        requires { (m < 32) × (amount ≤ amount_limit) }
+        ensures { result ≡ charged_by_rank self.now.set (rank_at self.now.ranks) (held_at self.now.holds) amount m }
+    {
+        let r = u64::from(self.ranks[m]);
+        let junior = self.held_from(r + 1);
+        let equal = self.held_from(r) - junior;
+        let due = amount.saturating_sub(junior).min(equal);
+        let mut shares = [0; 32];
+        splitting::split(due, &self.of_rank(r), &mut shares);
+        shares[m]
+    }
 }
 
 // "contributions, most junior rank first, an equal rank split by contribution in member order": what each member is charged of the amount.
 pub fn charge_by_rank(amount: u64, ranks: [u8; 32], holds: [u64; 32], set: u32) -> [u64; 32]
     ensures { result ≡ charges_of amount ranks holds set }
 {
-    let whole = lists::smaller(amount, splitting::AMOUNT_LIMIT);
-    let mut out = [0u64; 32];
-    let mut left = set;
-    while left != 0 {
-        let m = sets::next(left) as usize;
-        left = sets::without_least(left);
-        out[m] = charge_of(whole, &ranks, &holds, set, m);
+    let whole = amount.min(splitting::AMOUNT_LIMIT);
+    let members = Holdings { ranks, holds, set };
+    let mut out = [0; 32];
+    for m in sets::members_of(set) {
+        let m = usize::from(m);
+        out[m] = members.charge_of(whole, m);
     }
     out
 }

@@ -1,10 +1,6 @@
 -- `waterfall::charge_layers` meets its contract. The invariant and its three laws are in `proofs/InTurn.antt`. Assumes nothing.
-use Prim.Native.Nat.{◌-◌}
 use Rattle.waterfall.proofs.InTurn.{Done}
 use Rattle.waterfall.proofs.charge_layers.Given as goal
 
 abbrev pub invariant-loop-i : goal.invariant-loop-i
-invariant-loop-i l = Done l.loss l.limits l.charges l.rest l.i
-
-abbrev pub decreases-loop-i : goal.decreases-loop-i
-decreases-loop-i l = 6 - l.i
+invariant-loop-i l = Done l.loss l.limit-items l.charges l.rest l.i
