@@ -2,18 +2,28 @@
 use mathlib.Core.Path.{◌≡◌, ap}
 use mathlib.Core.Bool.{Bool, cond, ◌&&◌, and-false}
 use mathlib.Core.List.{List}
-use Prim.Native.Nat.{ℕ, ◌+◌, ◌*◌, ◌%◌, ◌-◌, ◌^◌, ◌≤◌, ◌<◌, min}
-use native.Mathlib.Nat.{mul-le-mul}
+use Prim.Native.Nat.{ℕ, ◌+◌, ◌*◌, ◌%◌, ◌-◌, ◌≤◌, ◌<◌, min}
 use native.Mathlib.Omega.{arith}
 use lib.Dec.{ltb, eqb}
-use lib.ListN.{get_or, set}
+use lib.ListN.{length, get_or, set, get_or-eq_default}
 use borrow.Author.Tests.{lt-ltb, le-ltb, eq-eqb, ne_eqb}
+use mathlib.Core.Logic.{⊎_elim}
 use Rattle.lists.specs.Lists.{sum_to}
+use Rattle.lists.proofs.Bools.{lt-or-le}
+use Rattle.lists.proofs.Places.{get_or-in}
 use Rattle.lists.specs.Adding.{most16, most32, add_at}
 use Rattle.auction.specs.Price.{zero_price}
 use Rattle.units.specs.Steps.{transferred, repriced, with_counts, put_up_units, noted_at, tear_units, with_buyer, sale_units}
 use Rattle.units.specs.Shown.{agreed_of, buyer_of, sale_price_of, column, sold_in, kind_of, count_of, sold_for, holding_of, passed_of}
 use Rattle.units.specs.declared.Units.{Units}
+
+-- what stands for a pool among four numbers, and d for a pool that no case has
+pub pool-of : (xs : List ℕ) (pool d : ℕ) → length xs ≡ 4 → get_or xs pool d ≡ cond (ltb pool 4) (get_or xs pool 0) d
+pool-of xs pool d long =
+    ⊎_elim
+    (λ l. rw (lt-ltb pool 4 l) (get_or-in xs pool d 0 (omega arith)))
+    (λ l. rw (le-ltb pool 4 l) (get_or-eq_default xs d {n = pool} (omega arith)))
+    (lt-or-le pool 4)
 
 -- ---- units counted elsewhere at a price that is noted
 
@@ -119,13 +129,6 @@ module _ (u : Units) (members pools prices : List ℕ) (m pool price n at sold a
   holding-there = rw (lt-ltb pool 4 hp, lt-ltb m 32 hm, es, ea, ewa, eb, ewb, ed, ewd, eh, ep, em)
 
 -- ---- sums of prices
-
--- n units at a price, and a sum with them, fit 64 bits
-pub priced-fits : {n price : ℕ} → n ≤ most16 → price ≤ most32 → n * price < 2 ^ 64
-priced-fits a b = omega (arith, mul-le-mul a b)
-
-pub gained-fits : {sum n price : ℕ} → sum ≤ most32 → n ≤ most16 → price ≤ most32 → sum + n * price < 2 ^ 64
-gained-fits s a b = omega (arith, mul-le-mul a b)
 
 pub repriced-is : (sums : List ℕ) (pool n old new a b c d e f r : ℕ) → a ≡ get_or sums pool 0 → b ≡ n → c ≡ new → d ≡ n → e ≡ old → f ≡ a + b * c - d * e → r ≡ min f most32
     → set sums pool r ≡ repriced sums pool n old new

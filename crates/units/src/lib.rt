@@ -8,6 +8,8 @@ ghost use Rattle.units.specs.Steps.{no_units, transferred, repriced, with_counts
 ghost use Rattle.units.specs.Groups.{pool_at, move_units};
 ghost use Rattle.units.specs.Shown.{open_of, agreed_of, buyer_of, sale_price_of, column, sold_in, count_of, sold_for, holding_of, passed_of, sum_of, prices_of};
 
+use lists::Width;
+
 // `counts`: 0 to 3 the open units of a pool; from 4 on those allocated to member m in pool p, at 4 × m + p; from 132 on those sold to a bid; from 388 on those
 // moved to a member; from 516 on those torn up that were open or allocated, and from 648 on those that were moved; from 776 on those of a pool sold by agreement.
 // `sums`: the sum of the prices of a pool's units that are not open, as cents + 1,000,000,000.
@@ -28,9 +30,8 @@ fn transfer(counts: &mut [u16; 780], from: usize, to: usize, n: u16)
     requires { from < 780 }
     ensures { counts.new ≡ transferred counts.old from to n }
 {
-    let left = lists::less(lists::wide16(counts[from]), lists::wide16(n));
-    counts[from] = lists::narrow16(left);
-    lists::add_at16(counts, to, n);
+    counts[from] = counts[from].saturating_sub(n);
+    lists::add_at(counts, to, n);
 }
 
 // The sum of a pool's prices where n units have a new price in place of an old one.
@@ -38,16 +39,9 @@ fn reprice(sums: &mut [u32; 4], pool: usize, n: u16, old: u32, new: u32)
     requires { pool < 4 }
     ensures { sums.new ≡ repriced sums.old pool n old new }
 {
-    let gained = lists::wide32(sums[pool]) + lists::wide16(n) * lists::wide32(new);
-    let lost = lists::wide16(n) * lists::wide32(old);
-    sums[pool] = lists::narrow32(lists::less(gained, lost));
-}
-
-// A pool's number as a place, at most 3.
-fn pool_place(pool: u8) -> usize
-    ensures { (result ≡ min pool 3) × (result < 4) }
-{
-    if pool < 3 { lists::place(pool) } else { 3 }
+    let gained = u64::from(sums[pool]) + u64::from(n) * u64::from(new);
+    let lost = u64::from(n) * u64::from(old);
+    sums[pool] = u32::narrow(gained.saturating_sub(lost));
 }
 
 // All units of a place counted at the place `to` from now on, where their price is noted; `old` was their price.
@@ -55,14 +49,10 @@ fn noted_at(u: Units, k: usize, to: usize, old: u32, price: u32) -> Units
     requires { (k < 516) × (516 ≤ to) × (to < 780) }
     ensures { result ≡ noted_at u k to old price }
 {
-    let mut counts = u.counts;
-    let mut sums = u.sums;
-    let n = counts[k];
-    transfer(&mut counts, k, to, n);
-    reprice(&mut sums, k % 4, n, old, price);
     let mut out = u;
-    out.counts = counts;
-    out.sums = sums;
+    let n = out.counts[k];
+    transfer(&mut out.counts, k, to, n);
+    reprice(&mut out.sums, k % 4, n, old, price);
     if n == 0 {
         return out;
     }
@@ -87,9 +77,10 @@ fn pool_at(pools: &[u8; 256], j: usize) -> usize
     ensures { (result ≡ pool_at pools.now j) × (result < 4) }
 {
     if j < 128 {
-        return j % 4;
+        j % 4
+    } else {
+        usize::from(pools[j - 128]).min(3)
     }
-    pool_place(pools[j - 128])
 }
 
 // ---- what is added up
@@ -99,11 +90,9 @@ fn column_of(counts: &[u16; 780], first: usize, n: usize) -> u64
     requires { first + 4 * n ≤ 779 }
     ensures { result ≡ column counts.now first n }
 {
-    let mut sum: u64 = 0;
-    let mut r: usize = 0;
-    while r < n {
-        sum += lists::wide16(counts[first + 4 * r]);
-        r += 1;
+    let mut sum = 0;
+    for r in 0..n {
+        sum += u64::from(counts[first + 4 * r]);
     }
     sum
 }
@@ -112,11 +101,9 @@ fn column_of(counts: &[u16; 780], first: usize, n: usize) -> u64
 fn sold_in(counts: &[u16; 780], pools: &[u8; 256], pool: u8) -> u64
     ensures { (result ≡ sold_in counts.now pools.now pool) × (result ≤ 16776960) }
 {
-    let mut sum: u64 = 0;
-    let mut b: usize = 0;
-    while b < 256 {
-        sum += lists::number_if(pools[b] == pool, lists::wide16(counts[132 + b]));
-        b += 1;
+    let mut sum = 0;
+    for b in 0..256 {
+        sum += lists::number_if(pools[b] == pool, u64::from(counts[132 + b]));
     }
     sum
 }
@@ -133,15 +120,13 @@ fn sold_for(
 ) -> u64
     ensures { (result ≡ sold_for counts.now members.now pools.now prices.now m pool price) × (result ≤ 16776960) }
 {
-    let mut sum: u64 = 0;
-    let mut b: usize = 0;
-    while b < 256 {
+    let mut sum = 0;
+    for b in 0..256 {
         let here = lists::both(
             lists::both(members[b] == m, pools[b] == pool),
             prices[b] == price,
         );
-        sum += lists::number_if(here, lists::wide16(counts[132 + b]));
-        b += 1;
+        sum += lists::number_if(here, u64::from(counts[132 + b]));
     }
     sum
 }
@@ -174,10 +159,8 @@ impl Units {
         if 4 <= pool {
             return self;
         }
-        let mut counts = self.counts;
-        lists::add_at16(&mut counts, lists::place(pool), n);
         let mut out = self;
-        out.counts = counts;
+        lists::add_at(&mut out.counts, usize::from(pool), n);
         out
     }
 
@@ -195,19 +178,17 @@ impl Units {
     {
         let mut counts = self.counts;
         let mut sums = self.sums;
-        let bids = of_256(kept);
-        let mut b: usize = 0;
-        while b < bids {
-            let n = won_if(rounds[b] == round, won[b]);
-            let pool = pool_place(pools[b]);
+        for b in 0..kept.min(256) {
+            let n = if rounds[b] == round { won[b] } else { 0 };
+            let pool = usize::from(pools[b]).min(3);
             transfer(&mut counts, pool, 132 + b, n);
             reprice(&mut sums, pool, n, 1_000_000, prices[b]);
-            b += 1;
         }
-        let mut out = self;
-        out.counts = counts;
-        out.sums = sums;
-        out
+        Units {
+            counts,
+            sums,
+            ..self
+        }
     }
 
     // ALLOCATE: each member of the set gets its share of the open units of the pool, at the price. The shares are lent.
@@ -217,20 +198,20 @@ impl Units {
         if 4 <= pool {
             return self;
         }
-        let at = lists::place(pool);
+        let at = usize::from(pool);
         let mut counts = self.counts;
         let mut sums = self.sums;
-        let mut left = set;
-        while left != 0 {
-            let m = sets::next(left) as usize;
-            left = sets::without_least(left);
+        for m in sets::members_of(set) {
+            let m = usize::from(m);
             let n = shares[m];
             transfer(&mut counts, at, 4 + (4 * m + at), n);
             reprice(&mut sums, at, n, 1_000_000, price);
         }
-        let mut out = self;
-        out.counts = counts;
-        out.sums = sums;
+        let mut out = Units {
+            counts,
+            sums,
+            ..self
+        };
         out.allocation[at] = price;
         out
     }
@@ -242,7 +223,7 @@ impl Units {
         if 4 <= pool {
             return self;
         }
-        let at = lists::place(pool);
+        let at = usize::from(pool);
         noted_at(self, at, 516 + at, 1_000_000, price)
     }
 
@@ -253,7 +234,7 @@ impl Units {
         if 4 <= pool {
             return self;
         }
-        let at = lists::place(pool);
+        let at = usize::from(pool);
         let mut sold = self;
         sold.buyers[at] = member;
         noted_at(sold, at, 776 + at, 1_000_000, price)
@@ -266,12 +247,10 @@ impl Units {
         if 32 <= member {
             return self;
         }
-        let m = lists::place(member);
+        let m = usize::from(member);
         let mut out = self;
-        let mut pool: usize = 0;
-        while pool < 4 {
+        for pool in 0..4 {
             out = missed_in(out, m, pool, price);
-            pool += 1;
         }
         out
     }
@@ -281,34 +260,39 @@ impl Units {
     pub fn move_to(self, member: u8, owed: u64, prices: &[u32; 256], pools: &[u8; 256]) -> Units
         ensures { result ≡ move_units self prices.now pools.now member owed }
     {
-        let allocation = self.allocation;
         let mut counts = self.counts;
         let mut sums = self.sums;
-        let mut keys = turns::live_keys(&counts, &allocation, prices);
+        let mut keys = turns::live_keys(&counts, &self.allocation, prices);
         let mut left = owed;
-        let mut turn: usize = 0;
-        while turn < 384 {
+        for _ in 0..keys.len() {
             let key = turns::least_key(&keys);
             if lists::either(left == 0, turns::NO_KEY <= key) {
-                return with_counts(self, counts, sums);
+                return Units {
+                    counts,
+                    sums,
+                    ..self
+                };
             }
             let j = turns::key_place(key);
             let pool = pool_at(pools, j);
             let price = turns::key_price(key);
-            let saving = lists::less(1_000_000, lists::wide32(price));
+            let saving = 1_000_000_u64.saturating_sub(u64::from(price));
             let n = turns::units_needed(counts[4 + j], left, saving);
             transfer(
                 &mut counts,
                 4 + j,
-                388 + (4 * lists::place(member) + pool),
+                388 + (4 * usize::from(member) + pool),
                 n,
             );
             reprice(&mut sums, pool, n, price, 1_000_000);
             keys[j] = turns::NO_KEY;
-            left = lists::less(left, lists::wide16(n) * saving);
-            turn += 1;
+            left = left.saturating_sub(u64::from(n) * saving);
         }
-        with_counts(self, counts, sums)
+        Units {
+            counts,
+            sums,
+            ..self
+        }
     }
 
     // ---- what is read of them
@@ -317,12 +301,11 @@ impl Units {
     pub fn open_units(self, pool: u8) -> u16
         ensures { result ≡ open_of self pool }
     {
-        let counts = self.counts;
         match pool {
-            0 => counts[0],
-            1 => counts[1],
-            2 => counts[2],
-            3 => counts[3],
+            0 => self.counts[0],
+            1 => self.counts[1],
+            2 => self.counts[2],
+            3 => self.counts[3],
             _ => 0,
         }
     }
@@ -331,12 +314,11 @@ impl Units {
     pub fn agreed_units(self, pool: u8) -> u16
         ensures { result ≡ agreed_of self pool }
     {
-        let counts = self.counts;
         match pool {
-            0 => counts[776],
-            1 => counts[777],
-            2 => counts[778],
-            3 => counts[779],
+            0 => self.counts[776],
+            1 => self.counts[777],
+            2 => self.counts[778],
+            3 => self.counts[779],
             _ => 0,
         }
     }
@@ -345,26 +327,18 @@ impl Units {
     pub fn buyer(self, pool: u8) -> u8
         ensures { result ≡ buyer_of self pool }
     {
-        let buyers = self.buyers;
-        match pool {
-            0 => buyers[0],
-            1 => buyers[1],
-            2 => buyers[2],
-            3 => buyers[3],
-            _ => 0,
-        }
+        self.buyers.get(usize::from(pool)).copied().unwrap_or(0)
     }
 
     // The price at which a pool was sold by agreement.
     pub fn sale_price(self, pool: u8) -> u32
         ensures { result ≡ sale_price_of self pool }
     {
-        let noted = self.noted;
         match pool {
-            0 => noted[260],
-            1 => noted[261],
-            2 => noted[262],
-            3 => noted[263],
+            0 => self.noted[260],
+            1 => self.noted[261],
+            2 => self.noted[262],
+            3 => self.noted[263],
             _ => 0,
         }
     }
@@ -376,14 +350,13 @@ impl Units {
         if 4 <= pool {
             return 0;
         }
-        let at = lists::place(pool);
-        let counts = self.counts;
+        let at = usize::from(pool);
         match kind {
-            0 => column_of(&counts, at, 1),
-            1 => sold_in(&counts, pools, pool) + lists::wide16(self.agreed_units(pool)),
-            2 => column_of(&counts, 4 + at, 32),
-            3 => column_of(&counts, 388 + at, 32),
-            4 => column_of(&counts, 516 + at, 65),
+            0 => column_of(&self.counts, at, 1),
+            1 => sold_in(&self.counts, pools, pool) + u64::from(self.agreed_units(pool)),
+            2 => column_of(&self.counts, 4 + at, 32),
+            3 => column_of(&self.counts, 388 + at, 32),
+            4 => column_of(&self.counts, 516 + at, 65),
             _ => 0,
         }
     }
@@ -406,15 +379,16 @@ impl Units {
         if 32 <= m {
             return 0;
         }
-        let at = lists::place(pool);
-        let k = 4 * lists::place(m) + at;
-        let counts = self.counts;
-        let allocation = self.allocation;
-        let sold = sold_for(&counts, members, pools, prices, m, pool, price);
-        let allocated = lists::number_if(allocation[at] == price, lists::wide16(counts[4 + k]));
-        let moved = lists::number_if(price == 1_000_000, lists::wide16(counts[388 + k]));
+        let at = usize::from(pool);
+        let k = 4 * usize::from(m) + at;
+        let sold = sold_for(&self.counts, members, pools, prices, m, pool, price);
+        let allocated = lists::number_if(
+            self.allocation[at] == price,
+            u64::from(self.counts[4 + k]),
+        );
+        let moved = lists::number_if(price == 1_000_000, u64::from(self.counts[388 + k]));
         let here = lists::both(self.buyer(pool) == m, self.sale_price(pool) == price);
-        let agreed = lists::number_if(here, lists::wide16(self.agreed_units(pool)));
+        let agreed = lists::number_if(here, u64::from(self.agreed_units(pool)));
         sold + allocated + moved + agreed
     }
 
@@ -425,8 +399,8 @@ impl Units {
         if 32 <= m {
             return 0;
         }
-        let k = 4 * lists::place(m);
-        let counts = self.counts;
+        let k = 4 * usize::from(m);
+        let counts = &self.counts;
         let allocated = four(counts[4 + k], counts[5 + k], counts[6 + k], counts[7 + k]);
         let moved = four(
             counts[388 + k],
@@ -441,53 +415,24 @@ impl Units {
     pub fn prices_in(self, pool: u8) -> u32
         ensures { result ≡ sum_of self pool }
     {
-        let sums = self.sums;
-        match pool {
-            0 => sums[0],
-            1 => sums[1],
-            2 => sums[2],
-            3 => sums[3],
-            _ => Units::ZERO_SUM,
-        }
+        self.sums
+            .get(usize::from(pool))
+            .copied()
+            .unwrap_or(Units::ZERO_SUM)
     }
 
     // The sum of the prices of all units not open, as cents + 4,000,000,000: at most four times what 32 bits hold.
     pub fn prices(self) -> u64
         ensures { (result ≡ prices_of self) × (result ≤ 17179869180) }
     {
-        let sums = self.sums;
-        let first = lists::wide32(sums[0]) + lists::wide32(sums[1]);
-        first + lists::wide32(sums[2]) + lists::wide32(sums[3])
+        let [a, b, c, d] = self.sums;
+        u64::from(a) + u64::from(b) + u64::from(c) + u64::from(d)
     }
-}
-
-// At most 256.
-fn of_256(n: usize) -> usize
-    ensures { result ≡ min n 256 }
-{
-    if n < 256 { n } else { 256 }
 }
 
 // Four counts added up.
 fn four(a: u16, b: u16, c: u16, d: u16) -> u64
     ensures { (result ≡ a + b + c + d) × (result < 262144) }
 {
-    a as u64 + b as u64 + c as u64 + d as u64
-}
-
-// What a bid of the round won, and 0 for the others.
-fn won_if(test: bool, won: u16) -> u16
-    ensures { result ≡ cond test won 0 }
-{
-    if test { won } else { 0 }
-}
-
-// The units with other counts and sums.
-fn with_counts(u: Units, counts: [u16; 780], sums: [u32; 4]) -> Units
-    ensures { result ≡ with_counts u counts sums }
-{
-    let mut out = u;
-    out.counts = counts;
-    out.sums = sums;
-    out
+    u64::from(a) + u64::from(b) + u64::from(c) + u64::from(d)
 }

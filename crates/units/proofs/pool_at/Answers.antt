@@ -8,6 +8,6 @@ pub returns-then-j-lt128 : goal.returns-then-j-lt128
 unfolding pool_at
 returns-then-j-lt128 c = (rw (lt-ltb c.args.j 128 (omega arith)), omega arith)
 
-pub returns : goal.returns
+pub returns-else-j-lt128 : goal.returns-else-j-lt128
 unfolding pool_at
-returns c = (rw (le-ltb c.args.j 128 (omega arith)) c.pool_place.ensures.0, c.pool_place.ensures.1)
+returns-else-j-lt128 c = (rw (le-ltb c.args.j 128 (omega arith)) (rw c.from.ensures at c.min.ensures), omega arith)

@@ -1,4 +1,3 @@
--- `units::sold_for` meets its contract. The invariant: the sum is that of the bids passed. Assumes nothing.
 use mathlib.Core.Path.{◌≡◌, sym, ◌∙◌}
 use mathlib.Core.Bool.{◌&&◌}
 use Prim.Native.Nat.{◌+◌}
@@ -13,13 +12,13 @@ use Rattle.units.proofs.Numbers.{if-le}
 use Rattle.units.proofs.sold_for.Goals as goal
 
 pub loop-b-init : goal.loop-b-init
-loop-b-init c = (omega arith, sym (sum_to-none _), omega arith)
+loop-b-init c = (sym (sum_to-none _), omega arith)
 
 pub overflow_add-sum : goal.overflow_add-sum
 overflow_add-sum c = let a = c.args in
     let l = c.loop-b in
     let here : c.both-here.result ≡ (eqb (get_or a.members.now l.b 0) a.m && eqb (get_or a.pools.now l.b 0) a.pool && eqb (get_or a.prices.now l.b 0) a.price) = c.both-here.ensures ∙ rw c.both.ensures in
-    let small = if-le c.both-here.result _ _ most16 c.number_if-sum.ensures c.wide16.ensures.1 in
+    let small = if-le c.both-here.result _ _ most16 c.number_if-sum.ensures (omega (arith, c.from.ensures, c.fits-counts (132 + c.loop-b.b))) in
     record { fits = omega arith }
 
 pub loop-b-preserved : goal.loop-b-preserved
@@ -27,10 +26,10 @@ loop-b-preserved c = let a = c.args in
     let l = c.loop-b in
     let next = sum_to-next l.b (λ k. when eqb (get_or a.members.now k 0) a.m && eqb (get_or a.pools.now k 0) a.pool && eqb (get_or a.prices.now k 0) a.price then get_or a.counts.now (132 + k) 0 else 0) in
     let is : c.number_if-sum.result ≡ (when eqb (get_or a.members.now l.b 0) a.m && eqb (get_or a.pools.now l.b 0) a.pool && eqb (get_or a.prices.now l.b 0) a.price then get_or a.counts.now (132 + l.b) 0 else 0) =
-    c.number_if-sum.ensures ∙ rw (c.wide16.ensures.0, c.both-here.ensures, c.both.ensures) in
-    let small = if-le c.both-here.result _ _ most16 c.number_if-sum.ensures c.wide16.ensures.1 in
-    (omega arith, omega arith, omega arith)
+    c.number_if-sum.ensures ∙ rw (c.from.ensures, c.both-here.ensures, c.both.ensures) in
+    let small = if-le c.both-here.result _ _ most16 c.number_if-sum.ensures (omega (arith, c.from.ensures, c.fits-counts (132 + c.loop-b.b))) in
+    (omega arith, omega arith)
 
 pub returns : goal.returns
 unfolding sold_for
-returns c = let n : c.loop-b.b ≡ 256 = omega arith in (rw (← n) c.loop-b.invariant.1, omega (arith, c.loop-b.invariant.2))
+returns c = let n : c.loop-b.b ≡ 256 = omega arith in (rw (← n) c.loop-b.invariant.0, omega (arith, c.loop-b.invariant.1))

@@ -1,4 +1,3 @@
--- `units::sold_in` meets its contract. The invariant: the sum is that of the bids passed. Assumes nothing.
 use mathlib.Core.Path.{sym, ◌∙◌}
 use Rattle.lists.proofs.Sums.{sum_to-none}
 use Rattle.units.proofs.Numbers.{if-le}
@@ -14,21 +13,21 @@ use Rattle.units.specs.Shown.{sold_in}
 use Rattle.units.proofs.sold_in.Goals as goal
 
 pub loop-b-init : goal.loop-b-init
-loop-b-init c = (omega arith, sym (sum_to-none _), omega arith)
+loop-b-init c = (sym (sum_to-none _), omega arith)
 
 pub overflow_add-sum : goal.overflow_add-sum
 overflow_add-sum c = let a = c.args in
-    let small = if-le (eqb (get_or a.pools.now c.loop-b.b 0) a.pool) _ _ most16 c.number_if-sum.ensures c.wide16.ensures.1 in
+    let small = if-le (eqb (get_or a.pools.now c.loop-b.b 0) a.pool) _ _ most16 c.number_if-sum.ensures (omega (arith, c.from.ensures, c.fits-counts (132 + c.loop-b.b))) in
     record { fits = omega arith }
 
 pub loop-b-preserved : goal.loop-b-preserved
 loop-b-preserved c = let l = c.loop-b in
     let a = c.args in
     let next = sum_to-next l.b (λ k. when eqb (get_or a.pools.now k 0) a.pool then get_or a.counts.now (132 + k) 0 else 0) in
-    let is : c.number_if-sum.result ≡ (when eqb (get_or a.pools.now l.b 0) a.pool then get_or a.counts.now (132 + l.b) 0 else 0) = c.number_if-sum.ensures ∙ rw c.wide16.ensures.0 in
-    let small = if-le (eqb (get_or a.pools.now l.b 0) a.pool) _ _ most16 c.number_if-sum.ensures c.wide16.ensures.1 in
-    (omega arith, omega arith, omega arith)
+    let is : c.number_if-sum.result ≡ (when eqb (get_or a.pools.now l.b 0) a.pool then get_or a.counts.now (132 + l.b) 0 else 0) = c.number_if-sum.ensures ∙ rw c.from.ensures in
+    let small = if-le (eqb (get_or a.pools.now l.b 0) a.pool) _ _ most16 c.number_if-sum.ensures (omega (arith, c.from.ensures, c.fits-counts (132 + c.loop-b.b))) in
+    (omega arith, omega arith)
 
 pub returns : goal.returns
 unfolding sold_in
-returns c = let n : c.loop-b.b ≡ 256 = omega arith in (rw (← n) c.loop-b.invariant.1, omega (arith, c.loop-b.invariant.2))
+returns c = let n : c.loop-b.b ≡ 256 = omega arith in (rw (← n) c.loop-b.invariant.0, omega (arith, c.loop-b.invariant.1))

@@ -1,6 +1,6 @@
 -- `units::sold_in` meets its contract. The invariant: the sum is that of the bids passed. Assumes nothing.
 use mathlib.Core.Path.{◌≡◌}
-use Prim.Native.Nat.{◌+◌, ◌*◌, ◌-◌, ◌≤◌}
+use Prim.Native.Nat.{◌+◌, ◌*◌, ◌≤◌}
 use lib.ListN.{get_or}
 use lib.Dec.{eqb}
 use Rattle.lists.specs.Lists.{when◌then◌else◌, sum_to}
@@ -8,7 +8,4 @@ use Rattle.lists.specs.Adding.{most16}
 use Rattle.units.proofs.sold_in.Given as goal
 
 abbrev pub invariant-loop-b : goal.invariant-loop-b
-invariant-loop-b l = (l.b ≤ 256) × (l.sum ≡ sum_to l.b (λ k. when eqb (get_or l.pools k 0) l.pool then get_or l.counts (132 + k) 0 else 0)) × (l.sum ≤ l.b * most16)
-
-abbrev pub decreases-loop-b : goal.decreases-loop-b
-decreases-loop-b l = 256 - l.b
+invariant-loop-b l = (l.sum ≡ sum_to l.b (λ k. when eqb (get_or l.pools k 0) l.pool then get_or l.counts (132 + k) 0 else 0)) × (l.sum ≤ l.b * most16)

@@ -8,4 +8,4 @@ use Rattle.units.proofs.transfer.Goals as goal
 
 pub returns : goal.returns
 unfolding transferred
-returns c = let e : c.narrow16.result ≡ get_or c.args.counts.now c.args.from 0 - c.args.n = omega arith in c.add_at16.ensures ∙ rw e
+returns c = let e : c.saturating_sub.result ≡ get_or c.args.counts.now c.args.from 0 - c.args.n = omega arith in c.add_at.ensures ∙ rw e

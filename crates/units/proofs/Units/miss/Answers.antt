@@ -1,4 +1,3 @@
--- `units::Units::miss` meets its contract. The invariant: the pools passed are done. Assumes nothing.
 use mathlib.Core.Path.{◌≡◌, refl}
 use native.Mathlib.Numerals.{add-one}
 use native.Mathlib.Omega.{arith}
@@ -12,13 +11,13 @@ returns-then-member-ge32 c = rw (le-ltb c.args.member 32 (omega arith))
 
 pub loop-pool-init : goal.loop-pool-init
 unfolding missed_to
-loop-pool-init c = (omega arith, refl)
+loop-pool-init c = refl
 
 pub loop-pool-preserved : goal.loop-pool-preserved
 unfolding missed_to
-loop-pool-preserved c = let l = c.loop-pool in (omega arith, rw (add-one l.pool, ← l.invariant.1) c.missed_in-out.ensures)
+loop-pool-preserved c = let l = c.loop-pool in rw (add-one l.pool, ← l.invariant) c.missed_in-out.ensures
 
 pub returns : goal.returns
 unfolding miss_units
 returns c = let all : c.loop-pool.pool ≡ 4 = omega arith in
-    rw (lt-ltb c.args.member 32 (omega arith), ← all, ← c.place-m.ensures.0) c.loop-pool.invariant.1
+    rw (lt-ltb c.args.member 32 (omega arith), ← all, ← c.from-m.ensures) c.loop-pool.invariant

