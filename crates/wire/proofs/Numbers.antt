@@ -90,23 +90,6 @@ length-by-tag tag k n e h = rw e at h
 pub call-by-tag : (tag k : ℕ) (v : List ℕ) {x : Option Call} → tag ≡ k → x ≡ some (call_of k v) → x ≡ some (call_of tag v)
 call-by-tag tag k v e h = rw e h
 
--- a tag from k on that is not k
-past : (tag k : ℕ) → k ≤ tag → (tag ≡ k → ⊥) → suc k ≤ tag
-past tag k low h = omega arith
-
--- the last of the tags has no test of its own
-pub last-tag : (tag : ℕ) → 1 ≤ tag → tag ≤ 15
-    → (tag ≡ 1 → ⊥) → (tag ≡ 2 → ⊥) → (tag ≡ 3 → ⊥) → (tag ≡ 4 → ⊥) → (tag ≡ 5 → ⊥) → (tag ≡ 6 → ⊥) → (tag ≡ 7 → ⊥)
-    → (tag ≡ 8 → ⊥) → (tag ≡ 9 → ⊥) → (tag ≡ 10 → ⊥) → (tag ≡ 11 → ⊥) → (tag ≡ 12 → ⊥) → (tag ≡ 13 → ⊥) → (tag ≡ 14 → ⊥)
-    → tag ≡ 15
-last-tag tag low high h1 h2 h3 h4 h5 h6 h7 h8 h9 h10 h11 h12 h13 h14 =
-    let low₅ = past tag 4 (past tag 3 (past tag 2 (past tag 1 low h1) h2) h3) h4 in
-    let low₁₀ = past tag 9 (past tag 8 (past tag 7 (past tag 6 (past tag 5 low₅ h5) h6) h7) h8) h9 in
-    at_most tag 15 high (past tag 14 (past tag 13 (past tag 12 (past tag 11 (past tag 10 low₁₀ h10) h11) h12) h13) h14)
-  where
-    at_most : (n k : ℕ) → n ≤ k → k ≤ n → n ≡ k
-    at_most n k h l = omega arith
-
 -- ---- the bytes of a call
 
 -- the part of a list from a place to its end, as a part `&s[at..]` is given
