@@ -1,5 +1,5 @@
 // The calls of document 01, and SALE and WITHDRAW of document 02, as values, and how a call is read from any bytes.
-#![tactic(auto)]
+#![tactic(auto, unfolding(machine::specs::Wire::right_length, machine::specs::Wire::call_of, crate::specs::Asked::asked, lists::specs::Lists::tab))]
 
 ghost use Rattle.std.specs.Prelude.{◌≡◌, ◌+◌, ◌<◌, ◌≤◌, true, length};
 ghost use Rattle.std.proofs.Math.Option.{some};
