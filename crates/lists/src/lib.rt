@@ -1,9 +1,10 @@
 // The words that loops and refusals are written in, as code: a test as a number, the smaller of two, the first number that applies.
 #![tactic(auto)]
 
-ghost use Rattle.std.specs.Prelude.{◌≡◌, ◌&&◌, ◌||◌, cond, ◌+◌, ◌-◌, ◌≤◌, ◌<◌, min};
+ghost use Rattle.std.specs.Prelude.{◌≡◌, ◌&&◌, ◌||◌, cond, ℕ, List, ◌+◌, ◌-◌, ◌≤◌, ◌<◌, min};
 ghost use Rattle.lists.specs.Lists.{one_if};
 ghost use Rattle.lists.specs.Adding.{most16, most32, most64, add_at};
+ghost use Rattle.lists.specs.Widths.{Adds, adds_at};
 
 // 1 where the test passes, 0 where it fails: a sum needs no branch in its loop.
 pub fn one_if(test: bool) -> u64
@@ -95,27 +96,90 @@ pub fn narrow32(x: u64) -> u32
     }
 }
 
-// The sum of two numbers, held to 64 bits.
-fn plus(a: u64, b: u64) -> u64
-    ensures { result ≡ min (a + b) most64 }
-{
-    if a <= 18_446_744_073_709_551_615 - b {
-        a + b
-    } else {
-        18_446_744_073_709_551_615
+// Numbers of one width.
+pub trait Width: Copy {
+    // a number held to the width, the sum of two held to it, and a run of them after such a sum at one place
+    ghost narrowed: { ℕ → Self };
+
+    ghost sum: { Self → Self → Self };
+
+    ghost added: { List Self → ℕ → Self → List Self };
+
+    // A number held to the width.
+    fn narrow(x: u64) -> Self
+        ensures { result ≡ narrowed x };
+
+    // The sum of two numbers, held to the width.
+    fn plus(self, other: Self) -> Self
+        ensures { result ≡ sum self other };
+
+    ghost laws: { Adds sum added };
+}
+
+impl Width for u16 {
+    ghost narrowed = { λ x. min x most16 };
+
+    ghost sum = { λ x y. min (x + y) most16 };
+
+    ghost added = { add_at most16 };
+
+    ghost laws = { adds_at most16 };
+
+    fn narrow(x: u64) -> u16 {
+        u16::try_from(x).unwrap_or(u16::MAX)
+    }
+
+    fn plus(self, other: u16) -> u16 {
+        self.saturating_add(other)
+    }
+}
+
+impl Width for u32 {
+    ghost narrowed = { λ x. min x most32 };
+
+    ghost sum = { λ x y. min (x + y) most32 };
+
+    ghost added = { add_at most32 };
+
+    ghost laws = { adds_at most32 };
+
+    fn narrow(x: u64) -> u32 {
+        u32::try_from(x).unwrap_or(u32::MAX)
+    }
+
+    fn plus(self, other: u32) -> u32 {
+        self.saturating_add(other)
+    }
+}
+
+impl Width for u64 {
+    ghost narrowed = { λ x. min x most64 };
+
+    ghost sum = { λ x y. min (x + y) most64 };
+
+    ghost added = { add_at most64 };
+
+    ghost laws = { adds_at most64 };
+
+    fn narrow(x: u64) -> u64 {
+        x
+    }
+
+    fn plus(self, other: u64) -> u64 {
+        self.saturating_add(other)
     }
 }
 
 // Adds v at place k of a run, where there is such a place, and holds the sum to the run's width: sums by key need no branch in their loop.
-pub fn add_at(a: &mut [u64], k: usize, v: u64)
-    ensures { a.new ≡ add_at most64 a.old k v }
+pub fn add_at<T: Width>(a: &mut [T], k: usize, v: T)
+    ensures { a.new ≡ T.added a.old k v }
 {
     if k < a.len() {
-        a[k] = plus(a[k], v);
+        a[k] = a[k].plus(v);
     }
 }
 
-// The same in a run of 32 bits.
+// `add_at` in a run of 32 bits.
 pub fn add_at32(a: &mut [u32], k: usize, v: u32)
     ensures { a.new ≡ add_at most32 a.old k v }
 {
@@ -124,7 +188,7 @@ pub fn add_at32(a: &mut [u32], k: usize, v: u32)
     }
 }
 
-// The same in a run of 16 bits.
+// `add_at` in a run of 16 bits.
 pub fn add_at16(a: &mut [u16], k: usize, v: u16)
     ensures { a.new ≡ add_at most16 a.old k v }
 {
