@@ -53,6 +53,7 @@ pub fn number(out: &mut [u8], at: usize, n: u64) -> usize
 }
 
 // a − b as an amount of money.
+#[tactic(auto, unfolding(crate::specs::Amounts::difference_of))]
 pub fn difference(a: u64, b: u64) -> Amount
     ensures { result ≡ difference_of a b }
 {
@@ -69,6 +70,7 @@ pub fn difference(a: u64, b: u64) -> Amount
 }
 
 // A price that is held as cents + 1,000,000 modulo 2^32, as an amount of money: the wire's four bytes are two's complement.
+#[tactic(auto, unfolding(crate::specs::Amounts::amount_of))]
 pub fn price(p: u32) -> Amount
     ensures { result ≡ amount_of p }
 {
