@@ -7,6 +7,7 @@ ghost use Rattle.input.specs.Strings.{cut_at};
 ghost use Rattle.input.specs.Fields.{front_size, Cuts};
 
 // Where a string ends: an end below its begin or above the number of bytes is held to them.
+#[tactic(auto, unfolding(crate::specs::Strings::cut_at))]
 pub fn cut_at(at: usize, n: usize, end: usize) -> usize
     ensures { result ≡ cut_at at n end }
 {
