@@ -23,6 +23,7 @@ pub fn length_to(input: &[u8]) -> usize
 }
 
 // The bytes of the first line with its end, and 0 where it is not all there. Where the text ends here, a last line needs no end.
+#[tactic(auto, unfolding(crate::specs::Lines::line_size))]
 pub fn line_size(last: bool, input: &[u8]) -> usize
     ensures { result ≡ line_size last input.now }
 {
