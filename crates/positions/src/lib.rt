@@ -35,6 +35,7 @@ const MOST_POSITION: u32 = 10_000_000;
 // ---- a day
 
 // The row that a day takes: behind the last row comes the first.
+#[tactic(auto, unfolding(crate::specs::Keeping::row_of))]
 fn row_of(row: usize) -> usize
     ensures { (result ≡ row_of row) × (result < 66) }
 {
@@ -42,6 +43,7 @@ fn row_of(row: usize) -> usize
 }
 
 // A sum with the position that comes and without the one that leaves.
+#[tactic(auto, unfolding(crate::specs::Keeping::rolled))]
 fn rolled(sum: u64, comes: u32, leaves: u32) -> u64
     ensures { result ≡ rolled sum comes leaves }
 {
@@ -158,11 +160,15 @@ pub fn count_of(set: u32) -> usize
 }
 
 // Why a run is declined before its first record, or 0.
+#[tactic(auto, unfolding(crate::specs::Days::why_before, lists::specs::Tests::first_of))]
 pub fn why_before(n: usize, units: u64) -> u8
     ensures { result ≡ why_before n units }
 {
-    let fits = lists::both(1 <= units, units <= 1_000);
-    lists::decline_if(n == 0, 5, lists::decline_if(!fits, 5, 0))
+    if n == 0 || units < 1 || 1_000 < units {
+        5
+    } else {
+        0
+    }
 }
 
 // A part of a run of the members of a set: its whole records are taken. What is left of it, less than a record, goes before the next part.
