@@ -20,7 +20,7 @@ use Rattle.forms.proofs.Puts.{put_as}
 use Rattle.translation.proofs.Writing.{Writing, writing-starts}
 use Rattle.text_lines.specs.Lines.{length_to, line_size, good_size, size_within}
 use Rattle.text_lines.proofs.Parts.{good-most}
-use Rattle.text_lines.proofs.Taking.{size_small, size-there, taking-lent, taking-few, taking-within, taking-room, taking-behind, taking-goes, taking-ends}
+use Rattle.text_lines.proofs.Taking.{size_small, size-there, taking-lent, taking-few, taking-within, taking-room, taking-goes, taking-ends}
 use Rattle.rows.specs.declared.Row.{Row}
 use Rattle.rows.specs.declared.Day.{Day}
 use Rattle.rows.specs.Reading.{row_of}
@@ -44,10 +44,6 @@ day-few : (n : ℕ) (line : List ℕ) → (day_of n line).count ≤ 32
 unfolding day_of
 day-few n line =
     either (λ (r : Row). r.count ≤ 32) (ltb 65536 (length_to line)) (omega arith) (omega (arith, (row_within n n 10000000 (take (length_to line) line)).few))
-
-empty-record : (n : ℕ) → record_of n [] ≡ []
-unfolding computing
-empty-record n = refl
 
 no_bytes : four_each [] ≡ []
 unfolding four_each
@@ -186,9 +182,6 @@ module _ (n : ℕ) (last : Bool) (input old out : List ℕ) (count used to : ℕ
       module _ (r : ℕ) (next : List ℕ) (put : Put out to (four_each (take day.count day.numbers)) 128 r next) where
         written : Put out to (record_of n (take day.size (drop used input))) 128 r next
         written = put_as 128 (omega arith) d.bytes put
-
-        pub days-behind : r ≤ length next
-        days-behind = taking-behind (day_size n last) most (record_of n) 128 input old out count used to g day.size d.size some r next written
 
         pub days-go : Taking n last input old next (count + 1) (used + day.size) r
         days-go = taking-goes (day_size n last) most (record_of n) 128 input old out count used to g day.size d.size some r next written
