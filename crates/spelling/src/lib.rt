@@ -1,63 +1,167 @@
 // The text of a call, into a lent buffer.
 #![tactic(auto)]
 
-ghost use Rattle.std.specs.Prelude.{◌≡◌, [], ◌∷◌, ◌+◌, ◌*◌, ◌≤◌, ◌<◌, length, take, get_or};
+ghost use Rattle.std.specs.Prelude.{◌≡◌, [], ◌∷◌, ◌+◌, ◌*◌, ◌≤◌, ◌<◌, length, take};
 ghost use Rattle.sets.specs.Set.{members};
 ghost use Rattle.machine.specs.Printed.{decimal};
 ghost use Rattle.wire.specs.Asked.{asked};
 ghost use Rattle.forms.specs.Put.{Put, Written};
-ghost use Rattle.spelling.specs.Words.{pieces};
+ghost use Rattle.spelling.specs.Words.{key_of, name_of, separator};
 ghost use Rattle.spelling.specs.Text.{money_text, price_text, members_text, more_text, number_text, item_text, items_text, line_text, line_into, key_into, money_into};
 
 use wire::Call;
 
-// What stands before the numbers of the calls, and their names, each once.
-const TEXT: [u8; 212] = *b"\
-    , pools  least  members  hedge  other  margin  fund  house  pool  units \
-    \x20mark  member  contribution  expected  reserves  price  amount  bid \
-    HEADPOOLMEMBERROUNDBIDCLOSEALLOCATETEARCALLPAYMOVEMISSFINISHSALEWITHDRAW";
+// What stands before the numbers of the calls, eight for each tag: a key between spaces, or a comma.
+const SEPARATORS: [&[u8]; 128] = [
+    b",",
+    b",",
+    b",",
+    b",",
+    b",",
+    b",",
+    b",",
+    b",",
+    b" pools ",
+    b" least ",
+    b" members ",
+    b" hedge ",
+    b" other ",
+    b" margin ",
+    b" fund ",
+    b" house ",
+    b" pool ",
+    b" units ",
+    b" mark ",
+    b",",
+    b",",
+    b",",
+    b",",
+    b",",
+    b" member ",
+    b" contribution ",
+    b" expected ",
+    b",",
+    b",",
+    b",",
+    b",",
+    b",",
+    b" reserves ",
+    b",",
+    b",",
+    b",",
+    b",",
+    b",",
+    b",",
+    b",",
+    b" pool ",
+    b" member ",
+    b" units ",
+    b" price ",
+    b",",
+    b",",
+    b",",
+    b",",
+    b",",
+    b",",
+    b",",
+    b",",
+    b",",
+    b",",
+    b",",
+    b",",
+    b" pool ",
+    b" price ",
+    b",",
+    b",",
+    b",",
+    b",",
+    b",",
+    b",",
+    b" pool ",
+    b" price ",
+    b",",
+    b",",
+    b",",
+    b",",
+    b",",
+    b",",
+    b",",
+    b",",
+    b",",
+    b",",
+    b",",
+    b",",
+    b",",
+    b",",
+    b" member ",
+    b" amount ",
+    b",",
+    b",",
+    b",",
+    b",",
+    b",",
+    b",",
+    b" member ",
+    b",",
+    b",",
+    b",",
+    b",",
+    b",",
+    b",",
+    b",",
+    b" member ",
+    b" price ",
+    b",",
+    b",",
+    b",",
+    b",",
+    b",",
+    b",",
+    b",",
+    b",",
+    b",",
+    b",",
+    b",",
+    b",",
+    b",",
+    b",",
+    b" pool ",
+    b" member ",
+    b" price ",
+    b",",
+    b",",
+    b",",
+    b",",
+    b",",
+    b" member ",
+    b" bid ",
+    b",",
+    b",",
+    b",",
+    b",",
+    b",",
+    b",",
+];
 
-// Where each piece starts in TEXT: what stands before the numbers, eight for each tag, and then the names, by tag.
-const STARTS: [u8; 144] = *b"\
-    \x00\x00\x00\x00\x00\x00\x00\x00\
-    \x01\x08\x0f\x18\x1f\x26\x2e\x34\
-    \x3b\x41\x48\x00\x00\x00\x00\x00\
-    \x4e\x56\x64\x00\x00\x00\x00\x00\
-    \x6e\x00\x00\x00\x00\x00\x00\x00\
-    \x3b\x4e\x41\x78\x00\x00\x00\x00\
-    \x00\x00\x00\x00\x00\x00\x00\x00\
-    \x3b\x78\x00\x00\x00\x00\x00\x00\
-    \x3b\x78\x00\x00\x00\x00\x00\x00\
-    \x00\x00\x00\x00\x00\x00\x00\x00\
-    \x4e\x7f\x00\x00\x00\x00\x00\x00\
-    \x4e\x00\x00\x00\x00\x00\x00\x00\
-    \x4e\x78\x00\x00\x00\x00\x00\x00\
-    \x00\x00\x00\x00\x00\x00\x00\x00\
-    \x3b\x4e\x78\x00\x00\x00\x00\x00\
-    \x4e\x87\x00\x00\x00\x00\x00\x00\
-    \x00\x8c\x90\x94\x9a\x9f\xa2\xa7\
-    \xaf\xb3\xb7\xba\xbe\xc2\xc8\xcc";
-
-// How long each piece is.
-const LENGTHS: [u8; 144] = *b"\
-    \x01\x01\x01\x01\x01\x01\x01\x01\
-    \x07\x07\x09\x07\x07\x08\x06\x07\
-    \x06\x07\x06\x01\x01\x01\x01\x01\
-    \x08\x0e\x0a\x01\x01\x01\x01\x01\
-    \x0a\x01\x01\x01\x01\x01\x01\x01\
-    \x06\x08\x07\x07\x01\x01\x01\x01\
-    \x01\x01\x01\x01\x01\x01\x01\x01\
-    \x06\x07\x01\x01\x01\x01\x01\x01\
-    \x06\x07\x01\x01\x01\x01\x01\x01\
-    \x01\x01\x01\x01\x01\x01\x01\x01\
-    \x08\x08\x01\x01\x01\x01\x01\x01\
-    \x08\x01\x01\x01\x01\x01\x01\x01\
-    \x08\x07\x01\x01\x01\x01\x01\x01\
-    \x01\x01\x01\x01\x01\x01\x01\x01\
-    \x06\x08\x07\x01\x01\x01\x01\x01\
-    \x08\x05\x01\x01\x01\x01\x01\x01\
-    \x00\x04\x04\x06\x05\x03\x05\x08\
-    \x04\x04\x03\x04\x04\x06\x04\x08";
+// The names of the calls, by tag.
+const NAMES: [&[u8]; 16] = [
+    b"",
+    b"HEAD",
+    b"POOL",
+    b"MEMBER",
+    b"ROUND",
+    b"BID",
+    b"CLOSE",
+    b"ALLOCATE",
+    b"TEAR",
+    b"CALL",
+    b"PAY",
+    b"MOVE",
+    b"MISS",
+    b"FINISH",
+    b"SALE",
+    b"WITHDRAW",
+];
 
 // A text from a place of the buffer on, and the place behind it.
 fn put(out: &mut [u8], at: usize, text: &[u8]) -> usize
@@ -69,14 +173,20 @@ fn put(out: &mut [u8], at: usize, text: &[u8]) -> usize
     to
 }
 
-// A piece of text, from a place of the buffer on, and the place behind it.
-fn put_piece(out: &mut [u8], at: usize, k: usize) -> usize
-    requires { (k < 144) × (at + 16 ≤ length out.old) }
-    ensures { Put out.old at (get_or pieces k []) 16 result out.new }
+// What stands before a call's number i.
+fn separator(tag: u8, i: usize) -> &'static [u8]
+    requires { (tag < 16) × (i < 8) }
+    ensures { result.now ≡ separator (key_of tag i) }
 {
-    let start = usize::from(STARTS[k]);
-    let end = start + usize::from(LENGTHS[k]);
-    put(out, at, &TEXT[start..end])
+    SEPARATORS[usize::from(tag) * 8 + i]
+}
+
+// The name of a call.
+fn name(tag: u8) -> &'static [u8]
+    requires { tag < 16 }
+    ensures { result.now ≡ name_of tag }
+{
+    NAMES[usize::from(tag)]
 }
 
 // A number in decimal.
@@ -182,7 +292,7 @@ fn put_item(out: &mut [u8], at: usize, tag: u8, i: usize, n: u32) -> usize
     requires { (tag < 16) × (i < 8) × (at + 708 ≤ length out.old) }
     ensures { Put out.old at (item_text tag i n) 708 result out.new }
 {
-    let a = put_piece(out, at, usize::from(tag) * 8 + i);
+    let a = put(out, at, separator(tag, i));
     put_number(out, a, forms::kind(tag, i), n)
 }
 
@@ -203,7 +313,7 @@ fn put_form(out: &mut [u8], at: usize, tag: u8, numbers: &[u32]) -> usize
     requires { (tag < 16) × (length numbers.now ≤ 8) × (at + 8192 ≤ length out.old) }
     ensures { Put out.old at (line_text tag numbers.now) 5681 result out.new }
 {
-    let a = put_piece(out, at, 128 + usize::from(tag));
+    let a = put(out, at, name(tag));
     put_items(out, a, tag, numbers)
 }
 
@@ -235,7 +345,7 @@ pub fn write_key(tag: u8, i: usize, out: &mut [u8]) -> usize
     if 16 <= tag || 8 <= i {
         return 0;
     }
-    put_piece(out, 0, usize::from(tag) * 8 + i)
+    put(out, 0, separator(tag, i))
 }
 
 // Cents from a place on, with a point and two digits behind it, and the place behind them. Nothing is put where less than 23 bytes are left.
