@@ -36,7 +36,7 @@ const KINDS: [u8; 128] = *b"\
     \x01\x01\x05\x00\x00\x00\x00\x00\
     \x01\x02\x00\x00\x00\x00\x00\x00";
 
-// The kind of a call's number i, by its tag; 0 where there is none.
+// The kind of a call's number i, by its tag; 0 where there is none. It is a number, as in the definition `kind_of`.
 pub fn kind(tag: u8, i: usize) -> u8
     ensures { result ≡ kind_of tag i }
 {

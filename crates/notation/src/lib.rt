@@ -8,7 +8,7 @@ ghost use Rattle.notation.specs.Reading.{letter_of, grown, key_code, tag_named, 
 
 use wire::Call;
 
-// What is known of a line while it is read.
+// What is known of a line while it is read. The phase and the reason are numbers, as in the definitions of specs/.
 #[derive(Clone, Copy)]
 pub struct Scan {
     pub phase: u8,

@@ -7,7 +7,7 @@ ghost use Rattle.machine.specs.Printed.{decimal};
 ghost use Rattle.words.specs.Amounts.{difference_of, amount_of};
 ghost use Rattle.words.specs.Columns.{blanks, placed_right};
 
-// An amount of cents with its sign.
+// An amount of cents with its sign, two fields as in the definitions `difference_of` and `amount_of`.
 #[derive(Clone, Copy)]
 pub struct Amount {
     pub negative: bool,
