@@ -1,43 +1,18 @@
--- The tables of the code hold the pieces of text: each computed once. Assumes nothing.
-use mathlib.Core.Path.{◌≡◌, refl, sym, ap, ◌∙◌}
+-- The tables of the code hold the words: each computed once. Assumes nothing.
+use mathlib.Core.Path.{◌≡◌, refl, ap, ◌∙◌}
 use mathlib.Core.List.{List, [], ◌∷◌, map}
 use Prim.Native.Nat.{ℕ, zero, suc, ◌+◌, ◌*◌, ◌≤◌, ◌<◌}
 use native.Mathlib.Omega.{arith}
-use lib.ListN.{length, get_or, take, drop, length-take, length-drop}
-use lib.Seq.{drop-cons, get_or-take, get_or-drop}
+use lib.ListN.{length, get_or}
+use denote.Bor.{Bor}
 use lib.Dec.{leb}
 use mathlib.Core.Bool.{true}
 use borrow.Author.Tests.{lt-ltb, leb-true}
 use Rattle.lists.proofs.Bools.{and_left, and_right}
 use Rattle.lists.specs.Lists.{tab, all}
 use Rattle.lists.proofs.Places.{get_or-tab}
-use Rattle.spelling.specs.Words.{keys, key_of, name_of, separator, pieces}
+use Rattle.spelling.specs.Words.{keys, names, key_of, name_of, separator}
 use Rattle.spelling.specs.Computing.{computing}
-
-abbrev pub letters : List ℕ
-letters = 44 ∷ 32 ∷ 112 ∷ 111 ∷ 111 ∷ 108 ∷ 115 ∷ 32 ∷ 32 ∷ 108 ∷ 101 ∷ 97 ∷ 115 ∷ 116 ∷ 32 ∷ 32 ∷ 109 ∷ 101 ∷ 109 ∷ 98 ∷ 101 ∷ 114 ∷ 115 ∷ 32 ∷ 32 ∷ 104 ∷ 101 ∷ 100 ∷ 103 ∷ 101 ∷ 32 ∷ 32 ∷ 111 ∷ 116 ∷ 104 ∷ 101 ∷ 114 ∷ 32 ∷ 32 ∷ 109 ∷ 97 ∷ 114 ∷ 103 ∷ 105 ∷ 110 ∷ 32 ∷ 32 ∷ 102 ∷ 117 ∷ 110 ∷ 100 ∷ 32 ∷ 32 ∷ 104 ∷ 111 ∷ 117 ∷ 115 ∷ 101 ∷ 32 ∷ 32 ∷ 112 ∷ 111 ∷ 111 ∷ 108 ∷ 32 ∷ 32 ∷ 117 ∷ 110 ∷ 105 ∷ 116 ∷ 115 ∷ 32 ∷ 32 ∷ 109 ∷ 97 ∷ 114 ∷ 107 ∷ 32 ∷ 32 ∷ 109 ∷ 101 ∷ 109 ∷ 98 ∷ 101 ∷ 114 ∷ 32 ∷ 32 ∷ 99 ∷ 111 ∷ 110 ∷ 116 ∷ 114 ∷ 105 ∷ 98 ∷ 117 ∷ 116 ∷ 105 ∷ 111 ∷ 110 ∷ 32 ∷ 32 ∷ 101 ∷ 120 ∷ 112 ∷ 101 ∷ 99 ∷ 116 ∷ 101 ∷ 100 ∷ 32 ∷ 32 ∷ 114 ∷ 101 ∷ 115 ∷ 101 ∷ 114 ∷ 118 ∷ 101 ∷ 115 ∷ 32 ∷ 32 ∷ 112 ∷ 114 ∷ 105 ∷ 99 ∷ 101 ∷ 32 ∷ 32 ∷ 97 ∷ 109 ∷ 111 ∷ 117 ∷ 110 ∷ 116 ∷ 32 ∷ 32 ∷ 98 ∷ 105 ∷ 100 ∷ 32 ∷ 72 ∷ 69 ∷ 65 ∷ 68 ∷ 80 ∷ 79 ∷ 79 ∷ 76 ∷ 77 ∷ 69 ∷ 77 ∷ 66 ∷ 69 ∷ 82 ∷ 82 ∷ 79 ∷ 85 ∷ 78 ∷ 68 ∷ 66 ∷ 73 ∷ 68 ∷ 67 ∷ 76 ∷ 79 ∷ 83 ∷ 69 ∷ 65 ∷ 76 ∷ 76 ∷ 79 ∷ 67 ∷ 65 ∷ 84 ∷ 69 ∷ 84 ∷ 69 ∷ 65 ∷ 82 ∷ 67 ∷ 65 ∷ 76 ∷ 76 ∷ 80 ∷ 65 ∷ 89 ∷ 77 ∷ 79 ∷ 86 ∷ 69 ∷ 77 ∷ 73 ∷ 83 ∷ 83 ∷ 70 ∷ 73 ∷ 78 ∷ 73 ∷ 83 ∷ 72 ∷ 83 ∷ 65 ∷ 76 ∷ 69 ∷ 87 ∷ 73 ∷ 84 ∷ 72 ∷ 68 ∷ 82 ∷ 65 ∷ 87 ∷ []
-
-abbrev pub starts : List ℕ
-starts = 0 ∷ 0 ∷ 0 ∷ 0 ∷ 0 ∷ 0 ∷ 0 ∷ 0 ∷ 1 ∷ 8 ∷ 15 ∷ 24 ∷ 31 ∷ 38 ∷ 46 ∷ 52 ∷ 59 ∷ 65 ∷ 72 ∷ 0 ∷ 0 ∷ 0 ∷ 0 ∷ 0 ∷ 78 ∷ 86 ∷ 100 ∷ 0 ∷ 0 ∷ 0 ∷ 0 ∷ 0 ∷ 110 ∷ 0 ∷ 0 ∷ 0 ∷ 0 ∷ 0 ∷ 0 ∷ 0 ∷ 59 ∷ 78 ∷ 65 ∷ 120 ∷ 0 ∷ 0 ∷ 0 ∷ 0 ∷ 0 ∷ 0 ∷ 0 ∷ 0 ∷ 0 ∷ 0 ∷ 0 ∷ 0 ∷ 59 ∷ 120 ∷ 0 ∷ 0 ∷ 0 ∷ 0 ∷ 0 ∷ 0 ∷ 59 ∷ 120 ∷ 0 ∷ 0 ∷ 0 ∷ 0 ∷ 0 ∷ 0 ∷ 0 ∷ 0 ∷ 0 ∷ 0 ∷ 0 ∷ 0 ∷ 0 ∷ 0 ∷ 78 ∷ 127 ∷ 0 ∷ 0 ∷ 0 ∷ 0 ∷ 0 ∷ 0 ∷ 78 ∷ 0 ∷ 0 ∷ 0 ∷ 0 ∷ 0 ∷ 0 ∷ 0 ∷ 78 ∷ 120 ∷ 0 ∷ 0 ∷ 0 ∷ 0 ∷ 0 ∷ 0 ∷ 0 ∷ 0 ∷ 0 ∷ 0 ∷ 0 ∷ 0 ∷ 0 ∷ 0 ∷ 59 ∷ 78 ∷ 120 ∷ 0 ∷ 0 ∷ 0 ∷ 0 ∷ 0 ∷ 78 ∷ 135 ∷ 0 ∷ 0 ∷ 0 ∷ 0 ∷ 0 ∷ 0 ∷ 0 ∷ 140 ∷ 144 ∷ 148 ∷ 154 ∷ 159 ∷ 162 ∷ 167 ∷ 175 ∷ 179 ∷ 183 ∷ 186 ∷ 190 ∷ 194 ∷ 200 ∷ 204 ∷ []
-
-abbrev pub lengths : List ℕ
-lengths = 1 ∷ 1 ∷ 1 ∷ 1 ∷ 1 ∷ 1 ∷ 1 ∷ 1 ∷ 7 ∷ 7 ∷ 9 ∷ 7 ∷ 7 ∷ 8 ∷ 6 ∷ 7 ∷ 6 ∷ 7 ∷ 6 ∷ 1 ∷ 1 ∷ 1 ∷ 1 ∷ 1 ∷ 8 ∷ 14 ∷ 10 ∷ 1 ∷ 1 ∷ 1 ∷ 1 ∷ 1 ∷ 10 ∷ 1 ∷ 1 ∷ 1 ∷ 1 ∷ 1 ∷ 1 ∷ 1 ∷ 6 ∷ 8 ∷ 7 ∷ 7 ∷ 1 ∷ 1 ∷ 1 ∷ 1 ∷ 1 ∷ 1 ∷ 1 ∷ 1 ∷ 1 ∷ 1 ∷ 1 ∷ 1 ∷ 6 ∷ 7 ∷ 1 ∷ 1 ∷ 1 ∷ 1 ∷ 1 ∷ 1 ∷ 6 ∷ 7 ∷ 1 ∷ 1 ∷ 1 ∷ 1 ∷ 1 ∷ 1 ∷ 1 ∷ 1 ∷ 1 ∷ 1 ∷ 1 ∷ 1 ∷ 1 ∷ 1 ∷ 8 ∷ 8 ∷ 1 ∷ 1 ∷ 1 ∷ 1 ∷ 1 ∷ 1 ∷ 8 ∷ 1 ∷ 1 ∷ 1 ∷ 1 ∷ 1 ∷ 1 ∷ 1 ∷ 8 ∷ 7 ∷ 1 ∷ 1 ∷ 1 ∷ 1 ∷ 1 ∷ 1 ∷ 1 ∷ 1 ∷ 1 ∷ 1 ∷ 1 ∷ 1 ∷ 1 ∷ 1 ∷ 6 ∷ 8 ∷ 7 ∷ 1 ∷ 1 ∷ 1 ∷ 1 ∷ 1 ∷ 8 ∷ 5 ∷ 1 ∷ 1 ∷ 1 ∷ 1 ∷ 1 ∷ 1 ∷ 0 ∷ 4 ∷ 4 ∷ 6 ∷ 5 ∷ 3 ∷ 5 ∷ 8 ∷ 4 ∷ 4 ∷ 3 ∷ 4 ∷ 4 ∷ 6 ∷ 4 ∷ 8 ∷ []
-
-pieces_are : pieces ≡ tab 144 (λ k. take (get_or lengths k 0) (drop (get_or starts k 0) letters))
-unfolding computing
-pieces_are = refl
-
-lengths-are : lengths ≡ tab 144 (λ k. length (get_or pieces k []))
-unfolding computing
-lengths-are = refl
-
--- a piece is a part of the letters
-pub piece_is : (k : ℕ) → k < 144 → get_or pieces k [] ≡ take (get_or lengths k 0) (drop (get_or starts k 0) letters)
-piece_is k h = ap (λ (l : List (List ℕ)). get_or l k []) pieces_are ∙ get_or-tab 144 _ k [] h
-
--- of its length
-pub piece-long : (k : ℕ) → k < 144 → length (get_or pieces k []) ≡ get_or lengths k 0
-piece-long k h = sym (ap (λ (l : List ℕ). get_or l k 0) lengths-are ∙ get_or-tab 144 _ k 0 h)
 
 -- an entry of a list whose entries are all at most a number
 pub entry-small : (most : ℕ) (l : List ℕ) (k : ℕ) → all (λ n. leb n most) l ≡ true → get_or l k 0 ≤ most
@@ -46,44 +21,49 @@ entry-small most [] k e = omega arith
 entry-small most (x ∷ l) zero e = leb-true x most (and_left (leb x most) (all (λ n. leb n most) l) e)
 entry-small most (x ∷ l) (suc k) e = entry-small most l k (and_right (leb x most) (all (λ n. leb n most) l) e)
 
-pub lengths-small : (k : ℕ) → get_or lengths k 0 ≤ 16
+-- a word of a list whose words are all at most so long
+word-short : (most : ℕ) (ws : List (List ℕ)) (k : ℕ) → all (λ w. leb (length w) most) ws ≡ true → length (get_or ws k []) ≤ most
 unfolding all
-lengths-small k = entry-small 16 lengths k refl
+word-short most [] k e = omega arith
+word-short most (w ∷ ws) zero e = leb-true (length w) most (and_left (leb (length w) most) (all (λ v. leb (length v) most) ws) e)
+word-short most (w ∷ ws) (suc k) e = word-short most ws k (and_right (leb (length w) most) (all (λ v. leb (length v) most) ws) e)
 
--- a letter of a piece lies within the letters
-pub letter-in : (k j : ℕ) → k < 144 → j < get_or lengths k 0 → get_or starts k 0 + j < length letters
-letter-in k j h l =
-    let e : length (get_or pieces k []) ≡ length (take (get_or lengths k 0) (drop (get_or starts k 0) letters)) = ap length (piece_is k h) in
-    omega (arith, e, piece-long k h, simp (length-take, length-drop) at e)
+-- what an entry of a table points to
+pub entry-now : (xs : List (Bor (List ℕ))) (k : ℕ) (d : Bor (List ℕ)) → (get_or xs k d).now ≡ get_or (map (λ (b : Bor (List ℕ)). b.now) xs) k d.now
+entry-now [] k d = refl
+entry-now (x ∷ xs) zero d = refl
+entry-now (x ∷ xs) (suc k) d = entry-now xs k d
 
--- a piece from letter j on
-pub piece-next : (k j : ℕ) → k < 144 → j < get_or lengths k 0 → drop j (get_or pieces k []) ≡ get_or letters (get_or starts k 0 + j) 0 ∷ drop (suc j) (get_or pieces k [])
-piece-next k j h l =
-    drop-cons (get_or pieces k []) j 0 (omega (arith, piece-long k h))
-    ∙ ap (λ (x : ℕ). x ∷ drop (suc j) (get_or pieces k []))
-    (ap (λ (t : List ℕ). get_or t j 0) (piece_is k h) ∙ get_or-take (get_or lengths k 0) (drop (get_or starts k 0) letters) j 0 l ∙ get_or-drop (get_or starts k 0) letters j 0)
+-- within a list the default does not count
+pub any-default : (l : List (List ℕ)) (k : ℕ) (a b : List ℕ) → k < length l → get_or l k a ≡ get_or l k b
+any-default [] k a b h = absurd (omega arith)
+any-default (x ∷ l) zero a b h = refl
+any-default (x ∷ l) (suc k) a b h = any-default l k a b (omega arith)
 
--- ---- the pieces of a call
+-- ---- what stands before a number
 
-separators-are : map separator keys ≡ tab 128 (λ k. get_or pieces k [])
-unfolding computing
-separators-are = refl
+abbrev pub separators : List (List ℕ)
+separators = map separator keys
 
-rows_are : map separator keys ≡ tab 128 (λ k. separator (get_or keys k []))
+rows_are : separators ≡ tab 128 (λ k. separator (get_or keys k []))
 unfolding computing
 rows_are = refl
 
-pub piece-separator : (tag i : ℕ) → tag < 16 → i < 8 → get_or pieces (tag * 8 + i) [] ≡ separator (key_of tag i)
+pub separator-at : (tag i : ℕ) → tag < 16 → i < 8 → get_or separators (tag * 8 + i) [] ≡ separator (key_of tag i)
 unfolding key_of
-piece-separator tag i t h =
+separator-at tag i t h =
     rw (lt-ltb tag 16 t, lt-ltb i 8 h)
-    (sym (get_or-tab 128 (λ k. get_or pieces k []) (tag * 8 + i) [] (omega arith)) ∙ ap (λ (l : List (List ℕ)). get_or l (tag * 8 + i) []) (sym separators-are ∙ rows_are)
-    ∙ get_or-tab 128 (λ k. separator (get_or keys k [])) (tag * 8 + i) [] (omega arith))
+    (ap (λ (l : List (List ℕ)). get_or l (tag * 8 + i) []) rows_are ∙ get_or-tab 128 (λ k. separator (get_or keys k [])) (tag * 8 + i) [] (omega arith))
 
-names-are : tab 16 name_of ≡ tab 16 (λ t. get_or pieces (128 + t) [])
+separators-short : (k : ℕ) → length (get_or separators k []) ≤ 16
 unfolding computing
-names-are = refl
+separators-short k = word-short 16 separators k refl
 
-pub piece-name : (tag : ℕ) → tag < 16 → get_or pieces (128 + tag) [] ≡ name_of tag
-piece-name tag t =
-    sym (get_or-tab 16 (λ t. get_or pieces (128 + t) []) tag [] t) ∙ ap (λ (l : List (List ℕ)). get_or l tag []) (sym names-are) ∙ get_or-tab 16 name_of tag [] t
+pub separator-short : (tag i : ℕ) → tag < 16 → i < 8 → length (separator (key_of tag i)) ≤ 16
+separator-short tag i t h = omega (arith, separators-short (tag * 8 + i), ap length (separator-at tag i t h))
+
+-- ---- the names
+
+pub name-short : (tag : ℕ) → length (name_of tag) ≤ 16
+unfolding computing
+name-short tag = word-short 16 names tag refl

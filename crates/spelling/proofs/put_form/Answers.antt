@@ -1,18 +1,23 @@
 -- `spelling::put_form` meets its contract. Assumes nothing.
-use mathlib.Core.Path.{◌≡◌, ap, ◌∙◌}
-use mathlib.Core.List.{[]}
-use Prim.Native.Nat.{ℕ, ◌+◌}
+use mathlib.Core.Path.{ap}
 use native.Mathlib.Omega.{arith}
-use lib.ListN.{get_or, take}
+use lib.ListN.{length}
 use Rattle.forms.proofs.Puts.{put_as, put_then}
-use Rattle.spelling.specs.Words.{pieces, name_of}
-use Rattle.spelling.proofs.Tables.{piece-name}
+use Rattle.spelling.specs.Words.{name_of}
 use Rattle.spelling.specs.Text.{items_text}
+use Rattle.spelling.proofs.Tables.{name-short}
 use Rattle.spelling.proofs.put_form.Goals as goal
+
+pub put-a-requires : goal.put-a-requires
+put-a-requires c = omega (arith, ap length c.name.ensures, name-short c.args.tag)
 
 pub returns : goal.returns
 returns c =
     let a = c.args in
-    let e : get_or pieces (128 + c.place.result) [] ≡ name_of a.tag =
-    ap (λ (t : ℕ). get_or pieces (128 + t) []) c.place.ensures.0 ∙ piece-name a.tag c.requires.0 in
-    put_then (name_of a.tag) (items_text a.tag 0 (take a.count a.numbers)) (put_as 16 (omega arith) e c.put_piece-a.ensures) c.put_items.ensures
+    put_then (name_of a.tag) (items_text a.tag 0 a.numbers.now)
+    (put_as 16 (omega (arith, ap length c.name.ensures, name-short a.tag)) c.name.ensures c.put-a.ensures) c.put_items.ensures
+
+pub put_items-requires : goal.put_items-requires
+put_items-requires c =
+    let p = c.put-a.ensures in
+    (c.requires.0, c.requires.1, omega (arith, ap length c.name.ensures, name-short c.args.tag, p.behind, p.same))
