@@ -24,7 +24,7 @@ pub struct Case {
     pub book: Book,
 }
 
-// The answer to a call, and the case handed back.
+// The answer to a call, and the case handed back: a pair and no `Result`, since 01 has the calls "returning the new case and its answer number".
 #[derive(Clone, Copy)]
 pub struct Outcome {
     pub answer: u8,
@@ -43,13 +43,6 @@ pub struct Held {
 pub struct Applied {
     pub answer: u8,
     pub held: Held,
-}
-
-// What is read of what is held: an answer, and cents where it is 0.
-#[derive(Clone, Copy)]
-pub struct Reading {
-    pub answer: u8,
-    pub cents: u64,
 }
 
 // What is held after the fields at an input's front, the bytes that they took, and how many they are.
@@ -88,22 +81,16 @@ impl Held {
         }
     }
 
-    // The requirement, read from the sums that the case keeps and the two losses; "with no case the reading is declined by 2".
-    pub fn requirement(self) -> Reading
+    // The requirement in cents, read from the sums that the case keeps and the two losses; "with no case the reading is declined by 2".
+    pub fn requirement(self) -> Result<u64, u8>
         ensures { result ≡ reading_in self }
     {
         if self.present {
             let case = self.case;
             let book = case.book;
-            return Reading {
-                answer: 0,
-                cents: book.requirement(),
-            };
+            return Ok(book.requirement());
         }
-        Reading {
-            answer: 2,
-            cents: 0,
-        }
+        Err(2)
     }
 
     // The sum of the prices of a pool's units that have left the house, in cents.
@@ -114,7 +101,7 @@ impl Held {
             let case = self.case;
             let book = case.book;
             let units = book.units;
-            return difference(units.prices_in(pool) as u64, Units::ZERO_SUM as u64);
+            return difference(u64::from(units.prices_in(pool)), u64::from(Units::ZERO_SUM));
         }
         0
     }
@@ -645,14 +632,12 @@ pub fn replay(held: Held, bytes: &[u8], ends: &[usize], answers: &mut [u8]) -> H
     let mut present = held.present;
     let mut case = held.case;
     let mut at: usize = 0;
-    let mut k: usize = 0;
-    while k < ends.len() {
-        let end = input::cut_at(at, bytes.len(), ends[k]);
+    for (k, place) in ends.iter().enumerate() {
+        let end = input::cut_at(at, bytes.len(), *place);
         let call = wire::read_call(&bytes[at..end]);
         let answer = answer_to(present, case, call);
         put(answers, k, answer);
         at = end;
-        k += 1;
         if answer == 0 {
             present = true;
             case = after(case, call);
