@@ -3,7 +3,7 @@
 use mathlib.Core.Bool.{Bool, true, false, ◌&&◌, ◌||◌, false≢true}
 use mathlib.Core.Path.{◌≡◌, refl, sym, ap, ◌∙◌}
 use mathlib.Core.Logic.{◌⊎◌, inl, inr, ⊎_elim, ◌≢◌}
-use mathlib.Core.List.{◌∷◌, map}
+use mathlib.Core.List.{[], ◌∷◌, map}
 use Prim.Native.Nat.{ℕ, zero, suc, ◌+◌, ◌-◌, ◌*◌, ◌/◌, ◌%◌, ◌^◌, ◌≤◌, ◌<◌, max}
 use native.Mathlib.Nat.{zero-div, div-div-eq-div-mul, pow-succ', div-one, div_self, div-eq_of_lt, mul-div_cancel_left, max-zero}
 use native.Mathlib.Omega.{arith}
@@ -20,7 +20,7 @@ use Rattle.lists.proofs.Each.{Each, each_keep, each-kept, each_both, each-tab}
 use Rattle.lists.proofs.Counts.{any-kept}
 use Rattle.lists.proofs.Ascending.{Ascending, ascending-places}
 use Rattle.sets.specs.Set.{member, members, insert, with_member, head_or}
-use Rattle.sets.proofs.Bits.{bit-cases, least, or-inserts}
+use Rattle.sets.proofs.Bits.{bit-cases, least, or-inserts, members-none}
 
 -- ---- what is a member
 
@@ -180,6 +180,10 @@ pub record Taken (left j left' : ℕ) : Type 0 where
   pub shorter : length (members left') < length (members left)
   pub upwards : Each (λ k. j < k) (members left')
 
+-- the first of what is left is a member
+pub next-below : (left j : ℕ) → left ≢ 0 → left < 2 ^ 32 → j ≡ head_or 32 (members left) → j < 32
+next-below left j n h first = let r = least left n h in rw (first ∙ ap (head_or 32) r.first) r.below
+
 pub taken : (left j left' : ℕ) → left ≢ 0 → left < 2 ^ 32 → j ≡ head_or 32 (members left) → members left' ≡ drop 1 (members left) → Taken left j left'
 taken left j left' n h first rest =
     let r = least left n h in
@@ -193,3 +197,13 @@ taken left j left' n h first rest =
       shorter = rw all (omega arith);
       upwards = up.0;
     }
+
+-- ---- the same for a loop over the iterator `members_of`: its `next` gave j, and left left'
+
+pub given : (left j left' : ℕ) → left < 2 ^ 32 → members left ≡ j ∷ members left' → Taken left j left'
+given left j left' h cons =
+    taken left j left' (λ e. omega (arith, ap length (ap members e ∙ members-none), ap length cons)) h (sym (ap (head_or 32) cons)) (sym (ap (drop 1) cons))
+
+-- nothing is left but of the empty set
+pub given-none : (left : ℕ) → left < 2 ^ 32 → members left ≡ [] → left ≡ 0
+given-none left h e = members-ext left 0 h (omega arith) (e ∙ sym members-none)

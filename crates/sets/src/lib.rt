@@ -1,7 +1,8 @@
 // Sets of up to 32 members, as the bits of a u32: bit i is member i. Whether two sets are the same is `==` on the numbers.
 #![tactic(auto)]
 
-ghost use Rattle.std.specs.Prelude.{◌≡◌, length, drop};
+ghost use Rattle.std.specs.Prelude.{◌≡◌, ◌<◌, ◌^◌, length, drop};
+ghost use Rattle.std.specs.Iterator.{YieldsFirst, item_count};
 ghost use Rattle.sets.specs.Set.{member, members, with_member, head_or};
 
 // Whether i is in the set.
@@ -37,4 +38,36 @@ pub fn without_least(set: u32) -> u32
     ensures { members result ≡ drop 1 (members set) }
 {
     if set == 0 { 0 } else { set & (set - 1) }
+}
+
+// The members of a set that are left, in member order.
+#[derive(Clone, Copy)]
+pub struct Iter {
+    pub left: u32,
+    pub ghost fits: { left < 2 ^ 32 },
+}
+
+impl Iterator for Iter {
+    type Item = u8;
+
+    ghost next_gives = { YieldsFirst (λ s. members s.left) };
+
+    ghost remaining = { item_count (λ s. members s.left) };
+
+    // "trailing zeros finds the next member"
+    fn next(&mut self) -> Option<u8> {
+        if self.left == 0 {
+            return None;
+        }
+        let least = next(self.left) as u8;
+        self.left = without_least(self.left);
+        Some(least)
+    }
+}
+
+// The members of the set, in member order.
+pub fn members_of(set: u32) -> Iter
+    ensures { result.left ≡ set }
+{
+    Iter { left: set }
 }
