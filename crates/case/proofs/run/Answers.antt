@@ -1,4 +1,3 @@
--- `case::run` meets its contract. The invariant is `Going`; its laws begin, keep and end it. The measure is the number of bytes left. Assumes nothing.
 use mathlib.Core.Path.{refl, ap, ◌∙◌}
 use Prim.Native.Nat.{ℕ, ◌≤◌, ◌<◌}
 use native.Mathlib.Omega.{arith}
