@@ -1,14 +1,14 @@
 -- The numbers that are handed to `lines::write_line` are those of the lines. Assumes nothing.
+use Rattle.std.specs.Prelude.{Some, None, slice_get}
 use mathlib.Core.Path.{◌≡◌, refl, sym, ap, ◌∙◌}
 use mathlib.Core.Bool.{Bool, true, false}
 use mathlib.Core.List.{List, [], ◌∷◌, ◌++◌, map}
-use Prim.Native.Nat.{ℕ, zero, suc, ◌^◌, ◌≤◌, ◌<◌}
+use Prim.Native.Nat.{ℕ}
 use native.Mathlib.Omega.{arith}
 use lib.ListN.{length, get_or}
 use borrow.Author.Tests.{eq-eqb, ne_eqb}
 use Rattle.lists.specs.Lists.{when◌then◌else◌, tab}
-use Rattle.sets.specs.Set.{members, head_or}
-use Rattle.sets.proofs.Bits.{least, next-is}
+use Rattle.sets.specs.Set.{members}
 use Rattle.machine.specs.Printed.{Line, s_line}
 use Rattle.lines.specs.Placed.{line_of}
 use Rattle.units.specs.Shown.{count_of}
@@ -62,15 +62,15 @@ s-line tag n = refl
 
 -- ---- the lines of a field that is cut off
 
-pub cut-none : (s : List ℕ) → length s ≡ 0 → [] ≡ cut_lines s
+pub cut-none : (s : List ℕ) → None ≡ slice_get s 0 → [] ≡ cut_lines s
 unfolding cut_lines
-cut-none [] h = refl
-cut-none (x ∷ s) h = absurd (omega arith)
+cut-none [] e = refl
+cut-none (x ∷ s) e = absurd (cc)
 
-pub cut-some : (s : List ℕ) → (length s ≡ 0 → ⊥) → s_line (get_or s 0 0 ∷ []) 1 ∷ [] ≡ cut_lines s
+pub cut-some : (s : List ℕ) (tag : ℕ) → Some tag ≡ slice_get s 0 → s_line (tag ∷ []) 1 ∷ [] ≡ cut_lines s
 unfolding cut_lines
-cut-some [] h = absurd (h refl)
-cut-some (x ∷ s) h = refl
+cut-some [] tag e = absurd (cc)
+cut-some (x ∷ s) tag e = let same : tag ≡ x = cc in rw same
 
 -- ---- the lines of the end
 
@@ -96,13 +96,3 @@ held-some h e = sym (ap (λ (t : Bool). when t then present_lines h else []) e)
 pub held_none : (h : Held) → h.present ≡ false → [] ≡ held_lines h
 unfolding held_lines
 held_none h e = sym (ap (λ (t : Bool). when t then present_lines h else []) e)
-
--- the least member is one of the 32 places
-pub next_small : (set m : ℕ) → (set ≡ 0 → ⊥) → set < 2 ^ 32 → m ≡ head_or 32 (members set) → m < 32
-next_small set m h l e = omega (arith, next-is set l, (least set h l).below)
-
--- behind the end there is nothing
-pub past : (xs : List ℕ) (i : ℕ) → length xs ≤ i → 0 ≡ get_or xs i 0
-past [] i h = refl
-past (x ∷ xs) zero h = absurd (omega arith)
-past (x ∷ xs) (suc i) h = past xs i (omega arith)
