@@ -129,13 +129,11 @@ pub fn read_case(streams: Streams, buf: &mut [u8]) -> Rest
 pub fn question_of(count: usize, word: &[u8]) -> Question
     ensures { Asks count word.now result }
 {
-    if count != 1 {
-        return Question::Unknown;
+    if count == 1 && word == b"requirement".as_slice() {
+        Question::Requirement
+    } else {
+        Question::Unknown
     }
-    if check::same(word, b"requirement") {
-        return Question::Requirement;
-    }
-    Question::Unknown
 }
 
 // ---- texts

@@ -126,15 +126,15 @@ pub fn flush(streams: Streams, out: &[u8], at: usize, name: &[u8]) -> Result<(),
 pub fn word_count(rt: HostRuntime) -> usize {
     let mut first = [0u8; 1];
     for i in 0..usize::MAX {
-        match rt.arg(i, &mut first) {
-            Err(FillError::NotPresent) => return i,
-            _ => {}
+        if let Err(FillError::NotPresent) = rt.arg(i, &mut first) {
+            return i;
         }
     }
     usize::MAX
 }
 
-// The word with a number at the front of a buffer, and its length: 0 where there is no such word, or where it is longer than the buffer. It need not be text.
+// The word with a number at the front of a buffer, and its length: 0 where there is no such word, or where it is longer than the buffer, since the programs take
+// both as they take an empty word. It need not be text.
 pub fn read_word(rt: HostRuntime, i: usize, buf: &mut [u8]) -> usize
     ensures { result ≤ length buf.new }
 {

@@ -10,6 +10,7 @@ ghost use Rattle.to_fields.specs.Lines.{line_read};
 ghost use Rattle.to_fields.specs.Turns.{NoCall, IsLine, NextLine, WritesLines, WritesAllLines, TakesTurn, TakesInput, CutOff, Finishes, Ends};
 
 use feed::{Failed, Streams};
+use messages::Refusal;
 use notation::Read;
 use text_lines::LONGEST;
 use wire::Call;
@@ -238,21 +239,12 @@ fn tell(streams: Streams, message: &[u8]) {
 }
 
 // A line that is refused: told on standard error, and the fields end.
-fn refuse_line(
-    streams: Streams,
-    number: u64,
-    at: usize,
-    reason: u8,
-    tag: u8,
-    item: usize,
-    line: &[u8],
-    out: &mut [u8],
-) -> usize
+fn refuse_line(streams: Streams, number: u64, why: Refusal, line: &[u8], out: &mut [u8]) -> usize
     requires { 515 ≤ length out.old }
     ensures { CutOff out.new result }
 {
     let mut note = [0u8; 512];
-    let n = messages::write_message(&mut note, number, at, reason, tag, item, line).min(512);
+    let n = messages::write_message(&mut note, number, why, line).min(512);
     tell(streams, &note[..n]);
     put_end(&note[..n], out)
 }
@@ -278,16 +270,15 @@ fn refuse(streams: Streams, last: bool, lines: u64, text: &[u8], out: &mut [u8])
             reason,
             tag,
             item,
-        } => refuse_line(
-            streams,
-            lines.wrapping_add(1),
-            at,
-            reason,
-            tag,
-            item,
-            text,
-            out,
-        ),
+        } => {
+            let why = Refusal {
+                at,
+                reason,
+                tag,
+                item,
+            };
+            refuse_line(streams, lines.wrapping_add(1), why, text, out)
+        }
         _ => refuse_text(out),
     }
 }
