@@ -22,7 +22,7 @@ returns-then-turn c =
     let l = c.loop in
     let t = c.take_turn-turn in
     record {
-      fed = fed-turn _ l.buf _ _ _ _ l.lines l.len c.in_ok-more.more _ true t.result l.invariant c.read.ensures.front (λ k. search rules) t.ensures c.if-turn.true;
+      fed = fed-turn _ l.buf _ _ l.lines l.len c.in_ok-more.more _ _ true t.result l.invariant c.read.ensures.front (λ k. search rules) t.ensures c.if-turn.true;
       room = λ on. absurd (false≢true (sym on));
     }
 
@@ -30,4 +30,4 @@ pub loop-preserved : goal.loop-preserved
 loop-preserved c =
     let l = c.loop in
     let t = c.take_turn-turn in
-    fed-turn _ l.buf _ _ _ _ l.lines l.len c.in_ok-more.more _ false t.result l.invariant c.read.ensures.front (λ k. search rules) t.ensures c.if-turn.false
+    fed-turn _ l.buf _ _ l.lines l.len c.in_ok-more.more _ _ false t.result l.invariant c.read.ensures.front (λ k. search rules) t.ensures c.if-turn.false
