@@ -19,7 +19,7 @@ use Rattle.rows.specs.Days.{refused_day, record_of, day_size, WritesDays}
 use Rattle.positions.specs.Keeping.{Kept, no_days, Taken, taken, part_of}
 use Rattle.positions.proofs.Parts.{first-days, first_then, no-days}
 use Rattle.from_lines.specs.declared.Took.{Took}
-use Rattle.from_lines.specs.declared.Turn.{Turn}
+use Rattle.from_lines.specs.declared.Rest.{Rest}
 use Rattle.from_lines.specs.Turns.{records, good_lines, rest, stops_at, Counts, Leads, Holds, Adds, TakesDays, TakesAll, TakesTurn, After, FedTo}
 use Rattle.from_lines.proofs.Whole.{lines-whole}
 
@@ -177,7 +177,7 @@ module _ (n : ℕ) where
       fed-first (day_size n false) (good-most (refused_day n) false) (After n 0 x false) buf (record { counts = refl; holds = holds-none x some e; stops = refl })
 
   -- a turn over the bytes that are kept and those that came behind them
-  pub fed-turn : (buf next after : List ℕ) (lines len more : ℕ) (x y : Kept) (refused : Bool) (r : Turn) → FedTo n buf lines x false len
+  pub fed-turn : (buf next after : List ℕ) (lines len more : ℕ) (x y : Kept) (refused : Bool) (r : Rest) → FedTo n buf lines x false len
       → take len next ≡ take len buf → ((k : ℕ) → get_or next k 0 < 256) → TakesTurn n lines (take (len + more) next) x next after y r → r.refused ≡ refused
       → FedTo n after r.lines y refused r.len
   fed-turn buf next after lines len more x y refused r f same small turn told =

@@ -12,7 +12,6 @@ use Rattle.positions.specs.Days.{why_before, expected_units}
 use Rattle.positions.specs.Keeping.{Kept, keeping, no_days, part_of}
 use Rattle.from_lines.specs.declared.Days.{Days}
 use Rattle.from_lines.specs.declared.Took.{Took}
-use Rattle.from_lines.specs.declared.Turn.{Turn}
 use Rattle.from_lines.specs.declared.Rest.{Rest}
 
 -- how many members a set has
@@ -68,7 +67,7 @@ pub record TakesAll (n first : ℕ) (input : List ℕ) (x y : Kept) (r : Took) :
 
 -- A turn over some bytes at the front of the buffer: their lines are taken and counted, what is left of the bytes stands at the buffer's front, with the buffer's own
 -- bytes behind it, and it is known whether that begins with a line that is refused.
-pub record TakesTurn (n first : ℕ) (bytes : List ℕ) (x : Kept) (buf buf' : List ℕ) (y : Kept) (r : Turn) : Type 0 where
+pub record TakesTurn (n first : ℕ) (bytes : List ℕ) (x : Kept) (buf buf' : List ℕ) (y : Kept) (r : Rest) : Type 0 where
   pub keeps : Keeps (rest n) bytes buf buf' r.len
   pub lines : Counts r.lines (first + length (good_lines n bytes))
   pub adds : Adds n x (good_lines n bytes) y

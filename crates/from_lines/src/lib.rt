@@ -30,15 +30,7 @@ struct Took {
     refused: bool,
 }
 
-// How many bytes are kept at the buffer's front after a turn, the number of lines, and whether the next line is refused.
-#[derive(Clone, Copy)]
-struct Turn {
-    len: usize,
-    lines: u64,
-    refused: bool,
-}
-
-// How many bytes are kept at the buffer's front when the input has ended or a line is refused, the number of lines, and whether a line is refused.
+// How many bytes are kept at the buffer's front after a turn or after all turns, the number of lines, and whether the next line is refused.
 #[derive(Clone, Copy)]
 struct Rest {
     len: usize,
@@ -98,13 +90,13 @@ fn take_turn(
     end: usize,
     out: &mut [u8],
     days: &mut Days,
-) -> Turn
+) -> Rest
     requires { (end ≤ length buf.old) × (128 ≤ length out.old) }
     ensures { TakesTurn (count set) lines (take end buf.old) (kept_in days.old) buf.old buf.new (kept_in days.new) result }
 {
     let took = take_all(set, lines, &buf[..end], out, days);
     let used = took.used;
-    Turn {
+    Rest {
         len: feed::slide(buf, used, end),
         lines: took.lines,
         refused: took.refused,
@@ -137,11 +129,7 @@ fn take_input(
         len = turn.len;
         lines = turn.lines;
         if turn.refused {
-            return Ok(Rest {
-                len,
-                lines,
-                refused: true,
-            });
+            return Ok(turn);
         }
     }
     Err(Failed)
