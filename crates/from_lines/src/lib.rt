@@ -95,9 +95,8 @@ fn take_turn(
     ensures { TakesTurn (count set) lines (take end buf.old) (kept_in days.old) buf.old buf.new (kept_in days.new) result }
 {
     let took = take_all(set, lines, &buf[..end], out, days);
-    let used = took.used;
     Rest {
-        len: feed::slide(buf, used, end),
+        len: feed::slide(buf, took.used, end),
         lines: took.lines,
         refused: took.refused,
     }

@@ -130,8 +130,7 @@ pub fn take_some(last: bool, input: &[u8], out: &mut [u8]) -> Part
     let mut to: usize = 0;
     let mut line = next_line(last, input, out.len());
     while line.size != 0 {
-        let call = line.call;
-        to = forms::write_call(call, out, to);
+        to = forms::write_call(line.call, out, to);
         used += line.size;
         count += 1;
         line = next_line(last, &input[used..], out.len() - to);
@@ -181,9 +180,8 @@ fn take_turn(
     ensures { IfOk result (λ turn. TakesTurn lines (take end buf.old) buf.old buf.new turn) }
 {
     let wrote = write_all(streams, lines, &buf[..end], out)?;
-    let used = wrote.used;
     Ok(Turn {
-        len: feed::slide(buf, used, end),
+        len: feed::slide(buf, wrote.used, end),
         lines: wrote.lines,
         refused: wrote.refused,
     })
@@ -263,8 +261,7 @@ fn refuse(streams: Streams, last: bool, lines: u64, text: &[u8], out: &mut [u8])
     ensures { CutOff out.new result }
 {
     let size = text_lines::line_size(last, text);
-    let read = read_piece(&text[..size]);
-    match read {
+    match read_piece(&text[..size]) {
         Read::Refused {
             at,
             reason,
@@ -313,8 +310,7 @@ fn run_to_end(streams: Streams, buf: &mut [u8], out: &mut [u8]) -> Result<Ending
     ensures { Ends out.new result }
 {
     let rest = take_input(streams, buf, out)?;
-    let len = rest.len;
-    Ok(finish(streams, rest.ended, rest.lines, &buf[..len], out))
+    Ok(finish(streams, rest.ended, rest.lines, &buf[..rest.len], out))
 }
 
 // The whole run over two lent buffers: whether every line was read and written. Nothing is read where the first has less than the 65,537 bytes that tell a line that
