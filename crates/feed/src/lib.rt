@@ -1,6 +1,8 @@
 // What the programs share: a read behind the bytes that are kept, a write that is whole or failed, and the bytes that are kept moved to the
 // buffer's front. No contract can say what is read or written; these say which bytes of the lent buffers may change. A read or a write that fails is told on
 // standard error, behind a name that is handed over.
+// Each program has its own loop around `read`. What it holds between two reads is its own, and one loop over a closure would ask each of them for the same
+// invariant, about what the closure changes, and so would be no plainer.
 #![tactic(auto)]
 
 ghost use Rattle.std.specs.Prelude.{◌≡◌, ◌-◌, ◌≤◌, ◌<◌, IfOk, IsErr, is_ok, length, take};
