@@ -18,11 +18,10 @@ fn read_words(rt: HostRuntime) -> Question {
 
 // The answer on standard output, or why there is none on standard error.
 fn print(streams: Streams, told: Told, out: &[u8]) {
-    let n = told.len;
     if told.good {
-        let _wrote = feed::flush(streams, out, n, b"ask: standard output");
-    } else if n <= out.len() {
-        feed::tell(streams, &out[..n]);
+        let _wrote = feed::flush(streams, out, told.len, b"ask: standard output");
+    } else if told.len <= out.len() {
+        feed::tell(streams, &out[..told.len]);
     }
 }
 

@@ -79,11 +79,9 @@ fn take_turn(held: Held, buf: &mut [u8], end: usize) -> Turn
     ensures { (result.held ≡ ledger_after held (whole (take end buf.old))) × Keeps rest (take end buf.old) buf.old buf.new result.len }
 {
     let taken = take_part(held, &buf[..end]);
-    let used = taken.used;
-    let next = taken.held;
     Turn {
-        held: next,
-        len: feed::slide(buf, used, end),
+        held: taken.held,
+        len: feed::slide(buf, taken.used, end),
     }
 }
 
@@ -129,13 +127,11 @@ pub fn read_case(streams: Streams, buf: &mut [u8]) -> Rest
 pub fn question_of(count: usize, word: &[u8]) -> Question
     ensures { Asks count word.now result }
 {
-    if count != 1 {
-        return Question::Unknown;
+    if count == 1 && word == b"requirement".as_slice() {
+        Question::Requirement
+    } else {
+        Question::Unknown
     }
-    if check::same(word, b"requirement") {
-        return Question::Requirement;
-    }
-    Question::Unknown
 }
 
 // ---- texts
@@ -235,9 +231,8 @@ pub fn answer(question: Question, rest: Rest, out: &mut [u8]) -> Told
             out,
         );
     }
-    let held = rest.held;
     match question {
-        Question::Requirement => tell_reading(held.requirement(), out),
+        Question::Requirement => tell_reading(rest.held.requirement(), out),
         Question::Unknown => tell_usage(out),
     }
 }

@@ -1,6 +1,8 @@
 // What the programs share: a read behind the bytes that are kept, a write that is whole or failed, and the bytes that are kept moved to the
 // buffer's front. No contract can say what is read or written; these say which bytes of the lent buffers may change. A read or a write that fails is told on
 // standard error, behind a name that is handed over.
+// Each program has its own loop around `read`. What it holds between two reads is its own, and one loop over a closure would ask each of them for the same
+// invariant, about what the closure changes, and so would be no plainer.
 #![tactic(auto)]
 
 ghost use Rattle.std.specs.Prelude.{◌≡◌, ◌-◌, ◌≤◌, ◌<◌, IfOk, IsErr, is_ok, length, take};
@@ -126,15 +128,15 @@ pub fn flush(streams: Streams, out: &[u8], at: usize, name: &[u8]) -> Result<(),
 pub fn word_count(rt: HostRuntime) -> usize {
     let mut first = [0u8; 1];
     for i in 0..usize::MAX {
-        match rt.arg(i, &mut first) {
-            Err(FillError::NotPresent) => return i,
-            _ => {}
+        if let Err(FillError::NotPresent) = rt.arg(i, &mut first) {
+            return i;
         }
     }
     usize::MAX
 }
 
-// The word with a number at the front of a buffer, and its length: 0 where there is no such word, or where it is longer than the buffer. It need not be text.
+// The word with a number at the front of a buffer, and its length: 0 where there is no such word, or where it is longer than the buffer, since the programs take
+// both as they take an empty word. It need not be text.
 pub fn read_word(rt: HostRuntime, i: usize, buf: &mut [u8]) -> usize
     ensures { result ≤ length buf.new }
 {

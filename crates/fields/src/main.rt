@@ -12,37 +12,20 @@ enum Task {
     Unknown,
 }
 
-// Whether an argument is `--text`.
-fn is_text(arg: &[u8]) -> bool {
-    if arg.len() != 6 {
-        return false;
-    }
-    let a = lists::both(arg[0] == b'-', arg[1] == b'-');
-    let b = lists::both(arg[2] == b't', arg[3] == b'e');
-    let c = lists::both(arg[4] == b'x', arg[5] == b't');
-    lists::both(a, lists::both(b, c))
-}
-
 // Whether the first argument is `--text`.
 fn first_is_text(rt: HostRuntime) -> bool {
     let mut arg = [0u8; 16];
     let n = feed::read_word(rt, 1, &mut arg);
-    is_text(&arg[..n])
+    &arg[..n] == b"--text".as_slice()
 }
 
 // No argument or `--text` alone; the program's own name counts as one.
 fn asked(rt: HostRuntime) -> Task {
-    let count = feed::word_count(rt);
-    if count < 2 {
-        return Task::ToFields;
+    match feed::word_count(rt) {
+        0 | 1 => Task::ToFields,
+        2 if first_is_text(rt) => Task::ToText,
+        _ => Task::Unknown,
     }
-    if 2 < count {
-        return Task::Unknown;
-    }
-    if first_is_text(rt) {
-        return Task::ToText;
-    }
-    Task::Unknown
 }
 
 // Text to fields.
@@ -66,8 +49,7 @@ fn tell_usage(streams: Streams) {
 
 fn main(rt: HostRuntime) {
     let streams = feed::streams_of(rt);
-    let task = asked(rt);
-    match task {
+    match asked(rt) {
         Task::ToFields => write_fields(streams),
         Task::ToText => write_text(streams),
         Task::Unknown => tell_usage(streams),

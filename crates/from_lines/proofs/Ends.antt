@@ -16,11 +16,11 @@ use Rattle.text_lines.proofs.Parts.{good-most, taken-good, each-good, last-size,
 use Rattle.rows.specs.declared.Part.{Part}
 use Rattle.rows.specs.Days.{refused_day, record_of, day_size, WritesDays}
 use Rattle.positions.specs.Days.{days_of, in_range, why_before, why_run, expected_units}
-use Rattle.positions.specs.Keeping.{Kept, no_days, Taken, taken, part_of, ended, keeping}
+use Rattle.positions.specs.Keeping.{Kept, no_days, Taken, taken, ended}
 use Rattle.positions.proofs.Parts.{first-days}
 use Rattle.positions.proofs.Records.{taken-bad}
 use Rattle.positions.proofs.Whole.{ready-some, used-is, why-none, whole-end}
-use Rattle.from_lines.specs.Turns.{count, records, good_lines, rest, Holds, FedTo, any_refused, Given, nothing_or, lines_give, Finishes, Gives}
+use Rattle.from_lines.specs.Turns.{TakesDays, count, records, good_lines, rest, Holds, FedTo, any_refused, Given, nothing_or, lines_give, Finishes, Gives}
 use Rattle.from_lines.proofs.Turning.{leads-whole, holds-some, holds_then}
 
 module _ (set units : ℕ) where
@@ -88,12 +88,11 @@ module _ (set units : ℕ) where
         ap (λ (b : Bool). nothing_or b set units (run ++ records n (lines_of left)) shares) (sym bad)
 
     -- it is taken
-    pub finish-done : (bytes ring sums shares shares' : List ℕ) (x : Kept) (row used answer a : ℕ) → why_before (count set) units ≡ 0 → r.used ≡ length left
-        → bytes ≡ take r.written new → record { kept = keeping row ring sums; used = used; answer = answer } ≡ part_of (count set) x bytes
-        → ◌≡◌ {A = Answer} (a, shares') (ended set units 0 sums shares) → Finishes set units left x shares shares' (eqb a 0)
+    pub finish-done : (bytes shares shares' : List ℕ) (x y : Kept) (a : ℕ) → why_before (count set) units ≡ 0 → r.used ≡ length left
+        → bytes ≡ take r.written new → TakesDays (count set) x bytes y
+        → ◌≡◌ {A = Answer} (a, shares') (ended set units 0 y.sums shares) → Finishes set units left x shares shares' (eqb a 0)
     unfolding pieces any
-    finish-done bytes ring sums shares shares' x row used answer a ready all-used lent took e run h =
-        let y = keeping row ring sums in
+    finish-done bytes shares shares' x y a ready all-used lent took e run h =
         let none_left : drop (bytes_of ps) left ≡ [] = ap (λ (k : ℕ). drop k left) (sym w.bytes ∙ all-used) ∙ drop-length left in
         let same : all_pieces good left ≡ ps =
         fields-chunk good (good-most (refused_day n) true) r.count left ∙ ap (λ (l : List ℕ). ps ++ all_pieces good l) none_left ∙ append-nil ps in
@@ -103,7 +102,7 @@ module _ (set units : ℕ) where
         let none-bad : any_refused n left ≡ false =
         any-then (refused_day n) true left
         ∙ ap (λ (l : List ℕ). any_refused n l) (ap (λ (qs : List (List ℕ)). drop (bytes_of qs) left) same ∙ none_left) in
-        let leads = leads-whole n row used answer x bytes ring sums ps is (each-good (refused_day n) true r.count left) took (holds-some n run x h) in
+        let leads = leads-whole n x y bytes ps is (each-good (refused_day n) true r.count left) took (holds-some n run x h) in
         holds-given (run ++ bytes) shares y ready (holds_then n run bytes x y h leads) a shares' e
         ∙ ap (λ (s : List ℕ). (true, (expected_units set units (run ++ s) shares).1)) (is ∙ ap (records n) (sym lines))
         ∙ ap (λ (b : Bool). nothing_or b set units (run ++ records n (lines_of left)) shares) (sym none-bad)

@@ -16,11 +16,11 @@ use Rattle.text_lines.specs.Lines.{length_to, line_size}
 use Rattle.text_lines.proofs.Parts.{good-most, each-good, lines-apart, rest_then, rest-short}
 use Rattle.rows.specs.declared.Part.{Part}
 use Rattle.rows.specs.Days.{refused_day, record_of, day_size, WritesDays}
-use Rattle.positions.specs.Keeping.{Kept, no_days, Taken, taken, part_of, keeping}
+use Rattle.positions.specs.Keeping.{Kept, no_days, Taken, taken, part_of}
 use Rattle.positions.proofs.Parts.{first-days, first_then, no-days}
 use Rattle.from_lines.specs.declared.Took.{Took}
-use Rattle.from_lines.specs.declared.Turn.{Turn}
-use Rattle.from_lines.specs.Turns.{records, good_lines, rest, stops_at, Counts, Leads, Holds, Adds, TakesAll, TakesTurn, After, FedTo}
+use Rattle.from_lines.specs.declared.Rest.{Rest}
+use Rattle.from_lines.specs.Turns.{records, good_lines, rest, stops_at, Counts, Leads, Holds, Adds, TakesDays, TakesAll, TakesTurn, After, FedTo}
 use Rattle.from_lines.proofs.Whole.{lines-whole}
 
 -- ---- numbers
@@ -47,16 +47,16 @@ counts-more first lines next a b k e was is =
 -- ---- records behind records
 
 -- the records of lines that are not refused are all taken
-pub leads-whole : (n row used answer : ℕ) (x : Kept) (bytes ring sums : List ℕ) (ps : List (List ℕ)) → bytes ≡ records n ps
-    → Each (λ line. refused_day n line ≡ false) ps → record { kept = keeping row ring sums; used = used; answer = answer } ≡ part_of n x bytes → 1 ≤ n
-    → Leads n x bytes (keeping row ring sums)
-leads-whole n row used answer x bytes ring sums ps is good e some =
+pub leads-whole : (n : ℕ) (x y : Kept) (bytes : List ℕ) (ps : List (List ℕ)) → bytes ≡ records n ps → Each (λ line. refused_day n line ≡ false) ps
+    → TakesDays n x bytes y → 1 ≤ n → Leads n x bytes y
+leads-whole n x y bytes ps is good e some =
     let w = lines-whole n some x ps good in
-    let a : answer ≡ 0 = ap (λ (t : Taken). t.answer) e ∙ ap (λ (s : List ℕ). (part_of n x s).answer) is ∙ w.0 in
-    let u : used ≡ length bytes = ap (λ (t : Taken). t.used) e ∙ ap (λ (s : List ℕ). (part_of n x s).used) is ∙ w.1 ∙ ap length (sym is) in
-    sym e
-    ∙ ap (λ (k : ℕ). record { kept = keeping row ring sums; used = k; answer = answer }) u
-    ∙ ap (λ (k : ℕ). record { kept = keeping row ring sums; used = length bytes; answer = k }) a
+    let t = part_of n x bytes in
+    let a : t.answer ≡ 0 = ap (λ (s : List ℕ). (part_of n x s).answer) is ∙ w.0 in
+    let u : t.used ≡ length bytes = ap (λ (s : List ℕ). (part_of n x s).used) is ∙ w.1 ∙ ap length (sym is) in
+    ap (λ (k : Kept). record { kept = k; used = t.used; answer = t.answer }) (sym e)
+    ∙ ap (λ (k : ℕ). record { kept = y; used = k; answer = t.answer }) u
+    ∙ ap (λ (k : ℕ). record { kept = y; used = length bytes; answer = k }) a
 
 module _ (n : ℕ) where
   -- a run that was taken has members
@@ -123,9 +123,9 @@ module _ (n : ℕ) where
     passed-some =
         part-some (day_size n false) (good-most (refused_day n) false) after [] input g.done used g.passes (record_of n) _ part old new r.count r.used r.written lends w
 
-    pub passed-goes : (bytes ring sums : List ℕ) (row days answer next : ℕ) → next ≡ (lines + r.count) % 2 ^ 64 → bytes ≡ take r.written new
-        → record { kept = keeping row ring sums; used = days; answer = answer } ≡ part_of n y bytes → Passed first input x (keeping row ring sums) next (used + r.used)
-    passed-goes bytes ring sums row days answer next e lent took =
+    pub passed-goes : (bytes : List ℕ) (z : Kept) (next : ℕ) → next ≡ (lines + r.count) % 2 ^ 64 → bytes ≡ take r.written new
+        → TakesDays n y bytes z → Passed first input x z next (used + r.used)
+    passed-goes bytes z next e lent took =
         let ps = pieces (day_size n false) r.count part in
         let is : bytes ≡ records n ps = lent ∙ put_front (records n ps) old new r.written w.put in
         record {
@@ -137,35 +137,35 @@ module _ (n : ℕ) where
               counts-more first lines next (length g.done) (length (g.done ++ ps)) r.count e g.counts
               (length-append g.done ps ∙ ap (λ (k : ℕ). length g.done + k) w.there);
           adds =
-              adds-more x y (keeping row ring sums) g.done ps g.adds
+              adds-more x y z g.done ps g.adds
               (λ some.
-              subst (λ (s : List ℕ). Leads n y s (keeping row ring sums)) is
-              (leads-whole n row days answer y bytes ring sums ps is (each-good (refused_day n) false r.count part) took some));
+              subst (λ (s : List ℕ). Leads n y s z) is
+              (leads-whole n y z bytes ps is (each-good (refused_day n) false r.count part) took some));
         }
 
-    pub passed-all : (row : ℕ) (ring sums : List ℕ) → y ≡ keeping row ring sums → 128 ≤ length old → r.count ≡ 0 → (next : ℕ) → next ≡ line_size false part
-        → TakesAll n first input x ring sums (record { used = used; lines = lines; row = row; refused = not (eqb next 0) })
-    passed-all row ring sums same room none-there next is =
+    pub passed-all : 128 ≤ length old → r.count ≡ 0 → (next : ℕ) → next ≡ line_size false part
+        → TakesAll n first input x y (record { used = used; lines = lines; refused = not (eqb next 0) })
+    passed-all room none-there next is =
         let e =
         part-ends (day_size n false) (good-most (refused_day n) false) after [] input g.done used g.passes (record_of n) _ part old new r.count r.used r.written lends w room none-there in
         let all : g.done ≡ good_lines n input = sym (append-nil g.done) ∙ e.0 in
         record {
           took = record { within = g.passes.place; all = λ z. e.1 };
           lines = g.counts ∙ ap (λ (ps : List (List ℕ)). (first + length ps) % 2 ^ 64) all;
-          adds = subst (λ (ps : List (List ℕ)). Adds n x ps (keeping row ring sums)) all (subst (Adds n x g.done) same g.adds);
+          adds = subst (λ (ps : List (List ℕ)). Adds n x ps y) all g.adds;
           refused = ap (λ (k : ℕ). not (eqb k 0)) (is ∙ ap (line_size false) (lends ∙ ap (λ (k : ℕ). drop k input) e.1));
         }
 
   -- ---- a turn
 
-  pub turns : (first : ℕ) (buf buf' part : List ℕ) (x : Kept) (ring sums : List ℕ) (end k : ℕ) (r : Took) → end ≤ length buf → part ≡ take end buf
-      → TakesAll n first part x ring sums r → Slides r.used end buf buf' k
-      → TakesTurn n first (take end buf) x buf buf' ring sums (record { len = k; lines = r.lines; row = r.row; refused = r.refused })
-  turns first buf buf' part x ring sums end k r inside lends took slid =
+  pub turns : (first : ℕ) (buf buf' part : List ℕ) (x y : Kept) (end k : ℕ) (r : Took) → end ≤ length buf → part ≡ take end buf
+      → TakesAll n first part x y r → Slides r.used end buf buf' k
+      → TakesTurn n first (take end buf) x buf buf' y (record { len = k; lines = r.lines; refused = r.refused })
+  turns first buf buf' part x y end k r inside lends took slid =
       record {
         keeps = turn-keeps (day_size n false) (good-most (refused_day n) false) buf buf' part end r.used k false inside lends took.took slid refl;
         lines = took.lines ∙ ap (λ (s : List ℕ). (first + length (good_lines n s)) % 2 ^ 64) lends;
-        adds = subst (λ (s : List ℕ). Adds n x (good_lines n s) (keeping r.row ring sums)) lends took.adds;
+        adds = subst (λ (s : List ℕ). Adds n x (good_lines n s) y) lends took.adds;
         refused = took.refused ∙ ap (stops_at n) lends;
       }
 
@@ -177,11 +177,11 @@ module _ (n : ℕ) where
       fed-first (day_size n false) (good-most (refused_day n) false) (After n 0 x false) buf (record { counts = refl; holds = holds-none x some e; stops = refl })
 
   -- a turn over the bytes that are kept and those that came behind them
-  pub fed-turn : (buf next after ring sums : List ℕ) (lines len more : ℕ) (x : Kept) (refused : Bool) (r : Turn) → FedTo n buf lines x false len
-      → take len next ≡ take len buf → ((k : ℕ) → get_or next k 0 < 256) → TakesTurn n lines (take (len + more) next) x next after ring sums r → r.refused ≡ refused
-      → FedTo n after r.lines (keeping r.row ring sums) refused r.len
-  fed-turn buf next after ring sums lines len more x refused r f same small turn told =
-      turn-fed (rest n) (After n lines x false) (After n r.lines (keeping r.row ring sums) refused) (rest_then (refused_day n)) buf next after len more
+  pub fed-turn : (buf next after : List ℕ) (lines len more : ℕ) (x y : Kept) (refused : Bool) (r : Rest) → FedTo n buf lines x false len
+      → take len next ≡ take len buf → ((k : ℕ) → get_or next k 0 < 256) → TakesTurn n lines (take (len + more) next) x next after y r → r.refused ≡ refused
+      → FedTo n after r.lines y refused r.len
+  fed-turn buf next after lines len more x y refused r f same small turn told =
+      turn-fed (rest n) (After n lines x false) (After n r.lines y refused) (rest_then (refused_day n)) buf next after len more
       r.len f same small turn.keeps
       (λ s t was e.
       let all : good_lines n (s ++ t) ≡ good_lines n s ++ good_lines n (take (len + more) next) =
@@ -189,7 +189,7 @@ module _ (n : ℕ) where
       record {
         counts = omega (arith, turn.lines, was.counts, ap length all, length-append (good_lines n s) (good_lines n (take (len + more) next)));
         holds =
-            subst (λ (bytes : List ℕ). Holds n bytes (keeping r.row ring sums))
+            subst (λ (bytes : List ℕ). Holds n bytes y)
             (sym (joined-map-two (record_of n) (good_lines n s) (good_lines n (take (len + more) next))) ∙ ap (records n) (sym all))
             (turn.adds (records n (good_lines n s)) was.holds);
         stops =

@@ -10,8 +10,8 @@ use Rattle.text_lines.specs.Lines.{line_size, lines_of}
 use Rattle.rows.specs.Days.{refused_day, record_of, day_size}
 use Rattle.positions.specs.Days.{why_before, expected_units}
 use Rattle.positions.specs.Keeping.{Kept, keeping, no_days, part_of}
+use Rattle.from_lines.specs.declared.Days.{Days}
 use Rattle.from_lines.specs.declared.Took.{Took}
-use Rattle.from_lines.specs.declared.Turn.{Turn}
 use Rattle.from_lines.specs.declared.Rest.{Rest}
 
 -- how many members a set has
@@ -50,19 +50,27 @@ Holds n bytes x = Leads n no_days bytes x
 abbrev pub Adds : ℕ → Kept → List (List ℕ) → Kept → Type 0
 Adds n x lines y = (run : List ℕ) → Holds n run x → Holds n (run ++ records n lines) y
 
+-- what is kept of the days
+abbrev pub kept_in : Days → Kept
+kept_in days = keeping days.row days.ring days.sums
+
+-- the contract of `take_days`
+abbrev pub TakesDays : ℕ → Kept → List ℕ → Kept → Type 0
+TakesDays n x bytes y = y ≡ (part_of n x bytes).kept
+
 -- the contract of `take_all`: all lines are taken, up to the first that is refused or not all there, and counted
-pub record TakesAll (n first : ℕ) (input : List ℕ) (x : Kept) (ring sums : List ℕ) (r : Took) : Type 0 where
+pub record TakesAll (n first : ℕ) (input : List ℕ) (x y : Kept) (r : Took) : Type 0 where
   pub took : WritesAll (day_size n false) input r.used false
   pub lines : Counts r.lines (first + length (good_lines n input))
-  pub adds : Adds n x (good_lines n input) (keeping r.row ring sums)
+  pub adds : Adds n x (good_lines n input) y
   pub refused : r.refused ≡ stops_at n input
 
 -- A turn over some bytes at the front of the buffer: their lines are taken and counted, what is left of the bytes stands at the buffer's front, with the buffer's own
 -- bytes behind it, and it is known whether that begins with a line that is refused.
-pub record TakesTurn (n first : ℕ) (bytes : List ℕ) (x : Kept) (buf buf' ring sums : List ℕ) (r : Turn) : Type 0 where
+pub record TakesTurn (n first : ℕ) (bytes : List ℕ) (x : Kept) (buf buf' : List ℕ) (y : Kept) (r : Rest) : Type 0 where
   pub keeps : Keeps (rest n) bytes buf buf' r.len
   pub lines : Counts r.lines (first + length (good_lines n bytes))
-  pub adds : Adds n x (good_lines n bytes) (keeping r.row ring sums)
+  pub adds : Adds n x (good_lines n bytes) y
   pub refused : r.refused ≡ stops_at n bytes
 
 -- the lines of a text are counted, this is kept after their records, and it is known whether the next line is refused
@@ -77,14 +85,14 @@ abbrev pub FedTo : ℕ → List ℕ → ℕ → Kept → Bool → ℕ → Type 0
 FedTo n buf lines x refused len = Fed (rest n) (After n lines x refused) buf len
 
 -- where the input ended or a line is refused
-pub record StopsAt (n : ℕ) (buf ring sums : List ℕ) (rest : Rest) : Type 0 where
-  pub fed : FedTo n buf rest.lines (keeping rest.row ring sums) rest.refused rest.len
+pub record StopsAt (n : ℕ) (buf : List ℕ) (x : Kept) (rest : Rest) : Type 0 where
+  pub fed : FedTo n buf rest.lines x rest.refused rest.len
   pub room : rest.refused ≡ false → rest.len ≤ 65536
 
 -- The contract of `take_input`. Where the input ended, at most 65,536 bytes are kept, so that a buffer of 65,537 bytes has room for a further read, and the read
 -- that brought nothing is the input's end.
-abbrev pub TakesInput : ℕ → List ℕ → List ℕ → List ℕ → Result Rest Failed → Type 0
-TakesInput n buf ring sums r = IfOk r (StopsAt n buf ring sums)
+abbrev pub TakesInput : ℕ → List ℕ → Kept → Result Rest Failed → Type 0
+TakesInput n buf x r = IfOk r (StopsAt n buf x)
 
 -- ---- what is given
 

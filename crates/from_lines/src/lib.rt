@@ -8,37 +8,33 @@ ghost use Rattle.std.specs.Prelude.{◌≡◌, ◌≤◌, false, length, take};
 ghost use Rattle.text_lines.specs.Lines.{line_size};
 ghost use Rattle.rows.specs.Days.{WritesDays};
 ghost use Rattle.positions.specs.Days.{why_before};
-ghost use Rattle.positions.specs.Keeping.{no_days, keeping};
-ghost use Rattle.from_lines.specs.Turns.{count, TakesAll, TakesTurn, TakesInput, Finishes, Gives};
+ghost use Rattle.positions.specs.Keeping.{no_days};
+ghost use Rattle.from_lines.specs.Turns.{count, kept_in, TakesDays, TakesAll, TakesTurn, TakesInput, Finishes, Gives};
 
 use feed::{Failed, Streams};
 use rows::Part;
 
-// The bytes of the lines that were taken, the number of lines up to then, the row of the ring that the next day takes, and whether the next line is refused.
+// What is kept of the days: the row of the ring that the next day takes, the last 66 days, and their sums.
+#[derive(Drop)]
+struct Days {
+    row: usize,
+    ring: [u32; 2112],
+    sums: [u64; 32],
+}
+
+// The bytes of the lines that were taken, the number of lines up to then, and whether the next line is refused.
 #[derive(Clone, Copy)]
 struct Took {
     used: usize,
     lines: u64,
-    row: usize,
     refused: bool,
 }
 
-// How many bytes are kept at the buffer's front after a turn, the number of lines, the row that the next day takes, and whether the next line is refused.
-#[derive(Clone, Copy)]
-struct Turn {
-    len: usize,
-    lines: u64,
-    row: usize,
-    refused: bool,
-}
-
-// How many bytes are kept at the buffer's front when the input has ended or a line is refused, the number of lines, the row that the next day takes, and whether a
-// line is refused.
+// How many bytes are kept at the buffer's front after a turn or after all turns, the number of lines, and whether the next line is refused.
 #[derive(Clone, Copy)]
 struct Rest {
     len: usize,
     lines: u64,
-    row: usize,
     refused: bool,
 }
 
@@ -54,21 +50,20 @@ fn take_some(last: bool, set: u32, input: &[u8], out: &mut [u8]) -> Part
 
 // ---- the loop
 
+// Records taken, behind the days before them.
+fn take_days(days: &mut Days, set: u32, bytes: &[u8])
+    ensures { TakesDays (count set) (kept_in days.old) bytes.now (kept_in days.new) }
+{
+    let part = positions::take_days(&mut days.ring, &mut days.sums, days.row, set, bytes);
+    days.row = part.row;
+}
+
 // Every line at the front of some bytes taken, a part at a time, up to the first that is refused or not all there.
-fn take_all(
-    set: u32,
-    first: u64,
-    from: usize,
-    input: &[u8],
-    out: &mut [u8],
-    ring: &mut [u32; 2112],
-    sums: &mut [u64; 32],
-) -> Took
+fn take_all(set: u32, first: u64, input: &[u8], out: &mut [u8], days: &mut Days) -> Took
     requires { 128 ≤ length out.old }
-    ensures { TakesAll (count set) first input.now (keeping from ring.old sums.old) ring.new sums.new result }
+    ensures { TakesAll (count set) first input.now (kept_in days.old) (kept_in days.new) result }
 {
     let mut lines = first;
-    let mut row = from;
     let mut used: usize = 0;
     loop {
         let part = take_some(false, set, &input[used..], out);
@@ -78,15 +73,12 @@ fn take_all(
             return Took {
                 used,
                 lines,
-                row,
                 refused: next != 0,
             };
         }
         used += part.used;
         lines = lines.wrapping_add(count as u64);
-        let n = part.written;
-        let days = positions::take_days(ring, sums, row, set, &out[..n]);
-        row = days.row;
+        take_days(days, set, &out[..part.written]);
     }
 }
 
@@ -94,22 +86,18 @@ fn take_all(
 fn take_turn(
     set: u32,
     lines: u64,
-    row: usize,
     buf: &mut [u8],
     end: usize,
     out: &mut [u8],
-    ring: &mut [u32; 2112],
-    sums: &mut [u64; 32],
-) -> Turn
+    days: &mut Days,
+) -> Rest
     requires { (end ≤ length buf.old) × (128 ≤ length out.old) }
-    ensures { TakesTurn (count set) lines (take end buf.old) (keeping row ring.old sums.old) buf.old buf.new ring.new sums.new result }
+    ensures { TakesTurn (count set) lines (take end buf.old) (kept_in days.old) buf.old buf.new (kept_in days.new) result }
 {
-    let took = take_all(set, lines, row, &buf[..end], out, ring, sums);
-    let used = took.used;
-    Turn {
-        len: feed::slide(buf, used, end),
+    let took = take_all(set, lines, &buf[..end], out, days);
+    Rest {
+        len: feed::slide(buf, took.used, end),
         lines: took.lines,
-        row: took.row,
         refused: took.refused,
     }
 }
@@ -120,14 +108,12 @@ fn take_input(
     set: u32,
     buf: &mut [u8],
     out: &mut [u8],
-    ring: &mut [u32; 2112],
-    sums: &mut [u64; 32],
+    days: &mut Days,
 ) -> Result<Rest, Failed>
-    requires { (1 ≤ count set) × (128 ≤ length out.old) × (keeping 0 ring.old sums.old ≡ no_days) }
-    ensures { TakesInput (count set) buf.new ring.new sums.new result }
+    requires { (1 ≤ count set) × (128 ≤ length out.old) × (kept_in days.old ≡ no_days) }
+    ensures { TakesInput (count set) buf.new (kept_in days.new) result }
 {
     let mut lines: u64 = 0;
-    let mut row: usize = 0;
     let mut len: usize = 0;
     for _ in 0..u64::MAX {
         let more = feed::read(streams, buf, len, b"expected: standard input")?;
@@ -135,21 +121,14 @@ fn take_input(
             return Ok(Rest {
                 len,
                 lines,
-                row,
                 refused: false,
             });
         }
-        let turn = take_turn(set, lines, row, buf, len + more, out, ring, sums);
+        let turn = take_turn(set, lines, buf, len + more, out, days);
         len = turn.len;
         lines = turn.lines;
-        row = turn.row;
         if turn.refused {
-            return Ok(Rest {
-                len,
-                lines,
-                row,
-                refused: true,
-            });
+            return Ok(turn);
         }
     }
     Err(Failed)
@@ -173,24 +152,21 @@ fn finish(
     set: u32,
     units: u64,
     lines: u64,
-    row: usize,
     rest: &[u8],
     out: &mut [u8],
-    ring: &mut [u32; 2112],
-    sums: &mut [u64; 32],
+    days: &mut Days,
     shares: &mut [u64; 32],
 ) -> bool
     requires { (why_before (count set) units ≡ 0) × (128 ≤ length out.old) × (line_size false rest.now ≡ 0) }
-    ensures { Finishes set units rest.now (keeping row ring.old sums.old) shares.old shares.new result }
+    ensures { Finishes set units rest.now (kept_in days.old) shares.old shares.new result }
 {
     let part = take_some(true, set, rest, out);
     if part.used != rest.len() {
         tell_refused(streams, true, set, lines, rest);
         return false;
     }
-    let end = part.written;
-    positions::take_days(ring, sums, row, set, &out[..end]);
-    positions::end(sums, set, units, 0, shares) == 0
+    take_days(days, set, &out[..part.written]);
+    positions::end(&days.sums, set, units, 0, shares) == 0
 }
 
 // The run for a set with members and units within their limits.
@@ -205,9 +181,12 @@ fn run_to_end(
     requires { (why_before (count set) units ≡ 0) × (1 ≤ count set) × (128 ≤ length out.old) }
     ensures { Gives set units shares.old shares.new result }
 {
-    let mut ring = [0u32; 2112];
-    let mut sums = [0u64; 32];
-    let Ok(rest) = take_input(streams, set, buf, out, &mut ring, &mut sums) else {
+    let mut days = Days {
+        row: 0,
+        ring: [0; 2112],
+        sums: [0; 32],
+    };
+    let Ok(rest) = take_input(streams, set, buf, out, &mut days) else {
         return None;
     };
     let left = &buf[..rest.len];
@@ -216,7 +195,7 @@ fn run_to_end(
         return Some(false);
     }
     Some(finish(
-        streams, set, units, rest.lines, rest.row, left, out, &mut ring, &mut sums, shares,
+        streams, set, units, rest.lines, left, out, &mut days, shares,
     ))
 }
 

@@ -58,11 +58,10 @@ fn take_turn(
     ensures { TakesTurn (length (members set)) (keeping row ring.old sums.old) (take end buf.old) buf.old buf.new (keeping result.row ring.new sums.new) result }
 {
     let part = positions::take_days(ring, sums, row, set, &buf[..end]);
-    let used = part.used;
     Turn {
         row: part.row,
-        len: feed::slide(buf, used, end),
-        days: days_in(set, used),
+        len: feed::slide(buf, part.used, end),
+        days: days_in(set, part.used),
         answer: part.answer,
     }
 }

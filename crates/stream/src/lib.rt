@@ -31,11 +31,9 @@ fn take_turn(held: Held, buf: &mut [u8], end: usize, out: &mut [u8]) -> Turn
     ensures { TakesTurn held (take end buf.old) buf.old buf.new out.old out.new result }
 {
     let taken = report::take_part(held, &buf[..end], out);
-    let used = taken.used;
-    let next = taken.held;
     Turn {
-        held: next,
-        len: feed::slide(buf, used, end),
+        held: taken.held,
+        len: feed::slide(buf, taken.used, end),
         written: taken.written,
     }
 }
@@ -74,8 +72,7 @@ fn run_to_end(streams: Streams, buf: &mut [u8], out: &mut [u8]) -> Result<usize,
     ensures { Ends out.new result }
 {
     let rest = take_input(streams, buf, out)?;
-    let len = rest.len;
-    Ok(last_text(rest.held, &buf[..len], out))
+    Ok(last_text(rest.held, &buf[..rest.len], out))
 }
 
 // The whole run over two lent buffers: whether the input ended and all was written. Nothing is read where the first has less than the 65,538 bytes of the

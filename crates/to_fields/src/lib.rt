@@ -10,6 +10,7 @@ ghost use Rattle.to_fields.specs.Lines.{line_read};
 ghost use Rattle.to_fields.specs.Turns.{NoCall, IsLine, NextLine, WritesLines, WritesAllLines, TakesTurn, TakesInput, CutOff, Finishes, Ends};
 
 use feed::{Failed, Streams};
+use messages::Refusal;
 use notation::Read;
 use text_lines::LONGEST;
 use wire::Call;
@@ -129,8 +130,7 @@ pub fn take_some(last: bool, input: &[u8], out: &mut [u8]) -> Part
     let mut to: usize = 0;
     let mut line = next_line(last, input, out.len());
     while line.size != 0 {
-        let call = line.call;
-        to = forms::write_call(call, out, to);
+        to = forms::write_call(line.call, out, to);
         used += line.size;
         count += 1;
         line = next_line(last, &input[used..], out.len() - to);
@@ -180,9 +180,8 @@ fn take_turn(
     ensures { IfOk result (λ turn. TakesTurn lines (take end buf.old) buf.old buf.new turn) }
 {
     let wrote = write_all(streams, lines, &buf[..end], out)?;
-    let used = wrote.used;
     Ok(Turn {
-        len: feed::slide(buf, used, end),
+        len: feed::slide(buf, wrote.used, end),
         lines: wrote.lines,
         refused: wrote.refused,
     })
@@ -238,21 +237,12 @@ fn tell(streams: Streams, message: &[u8]) {
 }
 
 // A line that is refused: told on standard error, and the fields end.
-fn refuse_line(
-    streams: Streams,
-    number: u64,
-    at: usize,
-    reason: u8,
-    tag: u8,
-    item: usize,
-    line: &[u8],
-    out: &mut [u8],
-) -> usize
+fn refuse_line(streams: Streams, number: u64, why: Refusal, line: &[u8], out: &mut [u8]) -> usize
     requires { 515 ≤ length out.old }
     ensures { CutOff out.new result }
 {
     let mut note = [0u8; 512];
-    let n = messages::write_message(&mut note, number, at, reason, tag, item, line).min(512);
+    let n = messages::write_message(&mut note, number, why, line).min(512);
     tell(streams, &note[..n]);
     put_end(&note[..n], out)
 }
@@ -271,23 +261,21 @@ fn refuse(streams: Streams, last: bool, lines: u64, text: &[u8], out: &mut [u8])
     ensures { CutOff out.new result }
 {
     let size = text_lines::line_size(last, text);
-    let read = read_piece(&text[..size]);
-    match read {
+    match read_piece(&text[..size]) {
         Read::Refused {
             at,
             reason,
             tag,
             item,
-        } => refuse_line(
-            streams,
-            lines.wrapping_add(1),
-            at,
-            reason,
-            tag,
-            item,
-            text,
-            out,
-        ),
+        } => {
+            let why = Refusal {
+                at,
+                reason,
+                tag,
+                item,
+            };
+            refuse_line(streams, lines.wrapping_add(1), why, text, out)
+        }
         _ => refuse_text(out),
     }
 }
@@ -322,8 +310,7 @@ fn run_to_end(streams: Streams, buf: &mut [u8], out: &mut [u8]) -> Result<Ending
     ensures { Ends out.new result }
 {
     let rest = take_input(streams, buf, out)?;
-    let len = rest.len;
-    Ok(finish(streams, rest.ended, rest.lines, &buf[..len], out))
+    Ok(finish(streams, rest.ended, rest.lines, &buf[..rest.len], out))
 }
 
 // The whole run over two lent buffers: whether every line was read and written. Nothing is read where the first has less than the 65,537 bytes that tell a line that

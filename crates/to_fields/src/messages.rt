@@ -1,91 +1,34 @@
 // Why a line is refused, in words: the place, what was expected, and how it is written.
-use text_lines::put_line;
-use words::number;
+use words::{number, put};
 
-// The numbers of the pieces that the messages are made of.
-const LINE: usize = 0;
-
-const COLUMN: usize = 1;
-
-const COLON: usize = 2;
-
-const NO_NAME: usize = 3;
-
-const COMPLETE: usize = 4;
-
-const COMMA: usize = 5;
-
-const RETURN: usize = 6;
-
-const LONG: usize = 7;
-
-const LARGE: usize = 8;
-
-const EARLY: usize = 9;
-
-const EXPECTED: usize = 10;
-
-const SPACE: usize = 11;
-
-const LIST: usize = 12;
-
-const KEY: usize = 13;
-
-const MINUS: usize = 14;
-
-const WHOLE: usize = 15;
-
-const MEMBERS: usize = 16;
-
-const MONEY: usize = 17;
-
-const PRICE: usize = 18;
-
-const MOST: usize = 18;
-
-// A piece by its number. The last ones are the largest numbers, by kind.
-fn put(out: &mut [u8], at: usize, k: usize) -> usize {
-    let pieces = b"line \n\
-        \x20column \n\
-        : \n\
-        not the name of a call; a comment begins with #\n\
-        the call is complete; a comment begins with #\n\
-        a comma stands directly behind a number of a list\n\
-        a carriage return stands only at the line's end\n\
-        the line is longer than 65536 bytes\n\
-        the number is too large, at most \n\
-        the line ends before the call does; \n\
-        expected \n\
-        , then a space\n\
-        a comma and \n\
-        the key\n\
-        ; the minus sign is -\n\
-        a whole number\n\
-        members by commas, as in 0,1,2\n\
-        an amount of money with a point and two digits behind it, as in 12500.00\n\
-        a price with a point and two digits behind it, as in 12500.00 or -20.00\n\
-        255\n\
-        65535\n\
-        31\n\
-        42949672.95\n\
-        21474836.47, and -21474836.48 below zero\n";
-    put_line(out, at, pieces, k)
+// Where a line is refused, and why: a reason by its number in `Reading`, and the number of a call that was expected there.
+#[derive(Clone, Copy)]
+pub struct Refusal {
+    pub at: usize,
+    pub reason: u8,
+    pub tag: u8,
+    pub item: usize,
 }
 
-// What a number of a kind looks like.
-fn kind_piece(kind: u8) -> usize {
-    if kind == 3 {
-        return MEMBERS;
+// What a number of a kind looks like; kinds are 1 to 5.
+fn looks_of(kind: u8) -> &'static [u8] {
+    match kind {
+        3 => b"members by commas, as in 0,1,2",
+        4 => b"an amount of money with a point and two digits behind it, as in 12500.00",
+        5 => b"a price with a point and two digits behind it, as in 12500.00 or -20.00",
+        _ => b"a whole number",
     }
-    if kind == 4 {
-        return MONEY;
-    }
-    if kind == 5 { PRICE } else { WHOLE }
 }
 
-// The largest number of a kind; kinds are 1 to 5.
-fn most_piece(kind: u8) -> usize {
-    MOST + usize::from(kind)
+// The largest number of a kind.
+fn most_of(kind: u8) -> &'static [u8] {
+    match kind {
+        1 => b"255",
+        2 => b"65535",
+        3 => b"31",
+        4 => b"42949672.95",
+        _ => b"21474836.47, and -21474836.48 below zero",
+    }
 }
 
 // A word without the space behind it, and nothing where there is none.
@@ -96,7 +39,7 @@ fn put_word(out: &mut [u8], at: usize, word: &[u8], n: usize) -> usize {
     if word.len() < n {
         return at;
     }
-    words::put(out, at, &word[..n - 1])
+    put(out, at, &word[..n - 1])
 }
 
 // What comes before a number: its key, or a comma and a number of its kind.
@@ -104,10 +47,10 @@ fn put_next(out: &mut [u8], at: usize, tag: u8, item: usize) -> usize {
     let mut word = [0u8; 16];
     let n = spelling::write_key(tag, item, &mut word);
     if n < 2 {
-        let to = put(out, at, LIST);
-        return put(out, to, kind_piece(forms::kind(tag, item)));
+        let to = put(out, at, b"a comma and ");
+        return put(out, to, looks_of(forms::kind(tag, item)));
     }
-    let to = put(out, at, KEY);
+    let to = put(out, at, b"the key");
     put_word(out, to, &word, n)
 }
 
@@ -137,75 +80,63 @@ fn dash_at(line: &[u8], at: usize) -> bool {
 }
 
 // A reason that names what was expected.
-fn put_expected(out: &mut [u8], at: usize, reason: u8, tag: u8, item: usize) -> usize {
-    let to = put(out, at, EXPECTED);
-    if reason == 3 || reason == 9 {
-        return put(out, to, kind_piece(forms::kind(tag, item)));
+fn put_expected(out: &mut [u8], at: usize, why: Refusal) -> usize {
+    let to = put(out, at, b"expected ");
+    if why.reason == 3 || why.reason == 9 {
+        return put(out, to, looks_of(forms::kind(why.tag, why.item)));
     }
-    let next = put_next(out, to, tag, item);
-    if reason == 8 {
-        return put(out, next, SPACE);
+    let next = put_next(out, to, why.tag, why.item);
+    if why.reason == 8 {
+        return put(out, next, b", then a space");
     }
     next
 }
 
-// The piece that says a reason alone, by the reason's number in `Reading`; a number above those is a line that is too long, and LINE is none.
-fn reason_piece(reason: u8) -> usize {
-    if reason == 1 {
-        return NO_NAME;
+// What is said of a reason alone, by the reason's number in `Reading`; a number above those is a line that is too long. The others name what was expected.
+fn words_of(reason: u8) -> Option<&'static [u8]> {
+    match reason {
+        1 => Some(b"not the name of a call; a comment begins with #"),
+        5 => Some(b"the call is complete; a comment begins with #"),
+        7 => Some(b"a comma stands directly behind a number of a list"),
+        10 => Some(b"a carriage return stands only at the line's end"),
+        11.. => Some(b"the line is longer than 65536 bytes"),
+        _ => None,
     }
-    if reason == 5 {
-        return COMPLETE;
-    }
-    if reason == 7 {
-        return COMMA;
-    }
-    if reason == 10 {
-        return RETURN;
-    }
-    if 10 < reason { LONG } else { LINE }
 }
 
 // A reason.
-fn put_reason(out: &mut [u8], at: usize, reason: u8, tag: u8, item: usize) -> usize {
-    let piece = reason_piece(reason);
-    if piece != LINE {
-        return put(out, at, piece);
+fn put_reason(out: &mut [u8], at: usize, why: Refusal) -> usize {
+    if let Some(words) = words_of(why.reason) {
+        return put(out, at, words);
     }
-    if reason == 4 {
-        let to = put(out, at, LARGE);
-        return put(out, to, most_piece(forms::kind(tag, item)));
+    match why.reason {
+        4 => {
+            let to = put(out, at, b"the number is too large, at most ");
+            put(out, to, most_of(forms::kind(why.tag, why.item)))
+        }
+        6 | 9 => {
+            let to = put(out, at, b"the line ends before the call does; ");
+            put_expected(out, to, why)
+        }
+        _ => put_expected(out, at, why),
     }
-    if reason == 6 || reason == 9 {
-        let to = put(out, at, EARLY);
-        return put_expected(out, to, reason, tag, item);
-    }
-    put_expected(out, at, reason, tag, item)
 }
 
 // "line L column C: " at the front of a buffer, with the first column as 1.
 fn put_place(out: &mut [u8], line: u64, place: usize) -> usize {
-    let a = put(out, 0, LINE);
+    let a = put(out, 0, b"line ");
     let b = number(out, a, line);
-    let c = put(out, b, COLUMN);
+    let c = put(out, b, b" column ");
     let d = number(out, c, (place as u64).wrapping_add(1));
-    put(out, d, COLON)
+    put(out, d, b": ")
 }
 
 // The place and the reason at the front of a buffer, and their length.
-pub fn write_message(
-    out: &mut [u8],
-    line: u64,
-    place: usize,
-    reason: u8,
-    tag: u8,
-    item: usize,
-    text: &[u8],
-) -> usize {
-    let a = put_place(out, line, place);
-    let b = put_reason(out, a, reason, tag, item);
-    if reason == 3 && dash_at(text, place) {
-        return put(out, b, MINUS);
+pub fn write_message(out: &mut [u8], line: u64, why: Refusal, text: &[u8]) -> usize {
+    let a = put_place(out, line, why.at);
+    let b = put_reason(out, a, why);
+    if why.reason == 3 && dash_at(text, why.at) {
+        return put(out, b, b"; the minus sign is -");
     }
     b
 }

@@ -1,5 +1,5 @@
 -- `from_lines::finish` meets its contract. Assumes nothing.
-use Rattle.std.proofs.Common.{refl, arith}
+use Rattle.std.proofs.Common.{refl}
 use Rattle.from_lines.proofs.Ends.{finish-not, finish-done}
 use Rattle.from_lines.proofs.finish.Goals as goal
 
@@ -8,10 +8,7 @@ returns-then-part-rest c =
     let t = c.take_some-part in
     finish-not _ _ _ _ _ t.result t.ensures _ _ c.requires.2 c.requires.1 c.if-part-rest.true
 
-pub slice_bounds-take_days-end : goal.slice_bounds-take_days-end
-slice_bounds-take_days-end c = let p = c.take_some-part.ensures.put in omega (arith, p.behind, p.short, p.same)
-
 pub returns : goal.returns
 returns c =
     let t = c.take_some-part in
-    finish-done _ _ _ _ _ t.result t.ensures _ _ _ _ _ _ _ _ _ _ c.requires.0 c.if-part-rest.false refl c.take_days.ensures c.end.ensures
+    finish-done _ _ _ _ _ t.result t.ensures _ _ _ _ _ _ c.requires.0 c.if-part-rest.false refl c.take_days.ensures c.end.ensures

@@ -1,5 +1,5 @@
 -- `from_lines::take_input` meets its contract. Assumes nothing.
-use Rattle.std.proofs.Common.{true, false, sym, refl, rules}
+use Rattle.std.proofs.Common.{◌∙◌, false, sym, refl, rules}
 use mathlib.Core.Bool.{false≢true}
 use Rattle.feed.proofs.Turning.{fed-read}
 use Rattle.from_lines.specs.Turns.{rest}
@@ -22,12 +22,12 @@ returns-then-turn c =
     let l = c.loop in
     let t = c.take_turn-turn in
     record {
-      fed = fed-turn _ l.buf _ _ _ _ l.lines l.len c.in_ok-more.more _ true t.result l.invariant c.read.ensures.front (λ k. search rules) t.ensures c.if-turn.true;
-      room = λ on. absurd (false≢true (sym on));
+      fed = fed-turn _ l.buf _ _ l.lines l.len c.in_ok-more.more _ _ _ t.result l.invariant c.read.ensures.front (λ k. search rules) t.ensures refl;
+      room = λ on. absurd (false≢true (sym on ∙ c.if-turn.true));
     }
 
 pub loop-preserved : goal.loop-preserved
 loop-preserved c =
     let l = c.loop in
     let t = c.take_turn-turn in
-    fed-turn _ l.buf _ _ _ _ l.lines l.len c.in_ok-more.more _ false t.result l.invariant c.read.ensures.front (λ k. search rules) t.ensures c.if-turn.false
+    fed-turn _ l.buf _ _ l.lines l.len c.in_ok-more.more _ _ false t.result l.invariant c.read.ensures.front (λ k. search rules) t.ensures c.if-turn.false
