@@ -4,4 +4,4 @@ use Rattle.book.proofs.Book.limits.Goals as goal
 
 pub returns : goal.returns
 unfolding limits_in
-returns c = simp (c.amounts-paid.ensures.0, c.contributions-funds.ensures)
+returns c = simp (c.from.ensures, c.from-2.ensures, c.from-house.ensures, c.amounts.ensures.0, c.contributions.ensures)

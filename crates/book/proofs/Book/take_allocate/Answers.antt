@@ -5,7 +5,7 @@ use Rattle.book.proofs.Book.take_allocate.Goals as goal
 pub returns : goal.returns
 unfolding allocate_book
 returns c = simp (
-  c.allocate-given.ensures,
-  c.allocate-ever.ensures,
+  c.allocate-2.ensures,
+  c.allocate.ensures,
   c.allocation-shares.ensures,
 )

@@ -4,4 +4,4 @@ use Rattle.book.proofs.Book.take_bid.Goals as goal
 
 pub returns : goal.returns
 unfolding bid_book
-returns c = simp c.put-more.ensures
+returns c = simp c.put.ensures

@@ -4,4 +4,4 @@ use Rattle.book.proofs.Book.take_call.Goals as goal
 
 pub returns : goal.returns
 unfolding call_book
-returns c = simp (c.call-called.ensures, c.calls.ensures)
+returns c = simp (c.call.ensures, c.calls.ensures)

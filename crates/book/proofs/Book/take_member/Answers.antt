@@ -4,4 +4,4 @@ use Rattle.book.proofs.Book.take_member.Goals as goal
 
 pub returns : goal.returns
 unfolding member_book
-returns c = simp c.put-more.ensures
+returns c = simp c.put.ensures

@@ -4,4 +4,4 @@ use Rattle.book.proofs.Book.take_miss.Goals as goal
 
 pub returns : goal.returns
 unfolding miss_book
-returns c = simp c.miss-torn.ensures
+returns c = simp c.miss.ensures

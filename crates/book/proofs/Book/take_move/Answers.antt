@@ -5,7 +5,7 @@ use Rattle.book.proofs.Book.take_move.Goals as goal
 pub returns : goal.returns
 unfolding move_book
 returns c = simp (
-  c.move_to-passed.ensures,
-  c.move_out-out.ensures,
+  c.move_to.ensures,
+  c.move_out.ensures,
   c.owes-owed.ensures,
 )

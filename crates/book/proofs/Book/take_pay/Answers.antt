@@ -4,4 +4,4 @@ use Rattle.book.proofs.Book.take_pay.Goals as goal
 
 pub returns : goal.returns
 unfolding pay_book
-returns c = simp c.pay-paid.ensures
+returns c = simp c.pay.ensures

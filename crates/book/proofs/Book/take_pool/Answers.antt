@@ -4,4 +4,4 @@ use Rattle.book.proofs.Book.take_pool.Goals as goal
 
 pub returns : goal.returns
 unfolding pool_book
-returns c = simp (c.put_up-more.ensures, c.put-given.ensures)
+returns c = simp (c.put_up.ensures, c.put.ensures)

@@ -4,4 +4,4 @@ use Rattle.book.proofs.Book.take_sale.Goals as goal
 
 pub returns : goal.returns
 unfolding sale_book
-returns c = simp c.sell_pool-sold.ensures
+returns c = simp c.sell_pool.ensures

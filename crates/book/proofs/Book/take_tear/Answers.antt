@@ -4,4 +4,4 @@ use Rattle.book.proofs.Book.take_tear.Goals as goal
 
 pub returns : goal.returns
 unfolding tear_book
-returns c = simp c.tear-torn.ensures
+returns c = simp c.tear.ensures

@@ -4,4 +4,4 @@ use Rattle.book.proofs.Book.take_withdraw.Goals as goal
 
 pub returns : goal.returns
 unfolding withdraw_book
-returns c = simp c.withdraw-marked.ensures
+returns c = simp c.withdraw.ensures
