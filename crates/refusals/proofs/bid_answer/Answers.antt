@@ -1,20 +1,33 @@
 -- `refusals::bid_answer` meets its contract. The tests stand in the order of their numbers. Assumes nothing.
+use borrow.Author.Rules.{rules}
 use Rattle.lists.specs.Tests.{first_of}
 use Rattle.refusals.specs.Answers.{bid_answer}
 use Rattle.refusals.proofs.bid_answer.Goals as goal
 
+pub returns-in_err-decline_if : goal.returns-in_err-decline_if
+unfolding bid_answer first_of
+returns-in_err-decline_if c = search rules
+
+pub returns-in_err-decline_if-2 : goal.returns-in_err-decline_if-2
+unfolding bid_answer first_of
+returns-in_err-decline_if-2 c = search rules
+
+pub returns-in_err-decline_if-3 : goal.returns-in_err-decline_if-3
+unfolding bid_answer first_of
+returns-in_err-decline_if-3 c = search rules
+
+pub returns-in_err-decline_if-4 : goal.returns-in_err-decline_if-4
+unfolding bid_answer first_of
+returns-in_err-decline_if-4 c = search rules
+
+pub returns-in_err-decline_if-5 : goal.returns-in_err-decline_if-5
+unfolding bid_answer first_of
+returns-in_err-decline_if-5 c = search rules
+
+pub returns-in_err-decline_if-6 : goal.returns-in_err-decline_if-6
+unfolding bid_answer first_of
+returns-in_err-decline_if-6 c = search rules
+
 pub returns : goal.returns
 unfolding bid_answer first_of
-returns c = simp (
-  c.decline_if.ensures,
-  c.decline_if-a3.ensures,
-  c.decline_if-a4.ensures,
-  c.decline_if-a5.ensures,
-  c.decline_if-a6.ensures,
-  c.decline_if-a7.ensures,
-  c.decline_if-a8.ensures,
-  c.bid_ok-ok.ensures,
-  c.open_units-open.ensures,
-  c.has-in_set.ensures,
-  c.letter-letter.ensures,
-)
+returns c = search rules

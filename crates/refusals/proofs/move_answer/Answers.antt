@@ -1,15 +1,17 @@
 -- `refusals::move_answer` meets its contract. The tests stand in the order of their numbers. Assumes nothing.
+use borrow.Author.Rules.{rules}
 use Rattle.lists.specs.Tests.{first_of}
 use Rattle.refusals.specs.Answers.{move_answer}
 use Rattle.refusals.proofs.move_answer.Goals as goal
 
+pub returns-in_err-decline_if : goal.returns-in_err-decline_if
+unfolding move_answer first_of
+returns-in_err-decline_if c = search rules
+
+pub returns-in_err-decline_if-2 : goal.returns-in_err-decline_if-2
+unfolding move_answer first_of
+returns-in_err-decline_if-2 c = search rules
+
 pub returns : goal.returns
 unfolding move_answer first_of
-returns c = simp (
-  c.decline_if.ensures,
-  c.decline_if-a4.ensures,
-  c.decline_if-a14.ensures,
-  c.owes-owed.ensures,
-  c.has-in_set.ensures,
-  c.letter-letter.ensures,
-)
+returns c = search rules

@@ -1,17 +1,21 @@
 -- `refusals::pay_answer` meets its contract. The tests stand in the order of their numbers. Assumes nothing.
+use borrow.Author.Rules.{rules}
 use Rattle.lists.specs.Tests.{first_of}
 use Rattle.refusals.specs.Answers.{pay_answer}
 use Rattle.refusals.proofs.pay_answer.Goals as goal
 
+pub returns-in_err-decline_if : goal.returns-in_err-decline_if
+unfolding pay_answer first_of
+returns-in_err-decline_if c = search rules
+
+pub returns-in_err-decline_if-2 : goal.returns-in_err-decline_if-2
+unfolding pay_answer first_of
+returns-in_err-decline_if-2 c = search rules
+
+pub returns-in_err-decline_if-3 : goal.returns-in_err-decline_if-3
+unfolding pay_answer first_of
+returns-in_err-decline_if-3 c = search rules
+
 pub returns : goal.returns
 unfolding pay_answer first_of
-returns c = simp (
-  c.decline_if.ensures,
-  c.decline_if-a4.ensures,
-  c.decline_if-a5.ensures,
-  c.decline_if-a14.ensures,
-  c.payment_ok-ok.ensures,
-  c.owes-owed.ensures,
-  c.has-in_set.ensures,
-  c.letter-letter.ensures,
-)
+returns c = search rules

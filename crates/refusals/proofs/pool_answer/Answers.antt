@@ -1,15 +1,21 @@
 -- `refusals::pool_answer` meets its contract. The tests stand in the order of their numbers. Assumes nothing.
+use borrow.Author.Rules.{rules}
 use Rattle.lists.specs.Tests.{first_of}
 use Rattle.refusals.specs.Answers.{pool_answer}
 use Rattle.refusals.proofs.pool_answer.Goals as goal
 
+pub returns-in_err-decline_if : goal.returns-in_err-decline_if
+unfolding pool_answer first_of
+returns-in_err-decline_if c = search rules
+
+pub returns-in_err-decline_if-2 : goal.returns-in_err-decline_if-2
+unfolding pool_answer first_of
+returns-in_err-decline_if-2 c = search rules
+
+pub returns-in_err-decline_if-3 : goal.returns-in_err-decline_if-3
+unfolding pool_answer first_of
+returns-in_err-decline_if-3 c = search rules
+
 pub returns : goal.returns
 unfolding pool_answer first_of
-returns c = simp (
-  c.decline_if.ensures,
-  c.decline_if-a3.ensures,
-  c.either.ensures,
-  c.decline_if-a5.ensures,
-  c.pool_ok-ok.ensures,
-  c.letter-letter.ensures,
-)
+returns c = search rules

@@ -1,22 +1,29 @@
 -- `refusals::round_answer` meets its contract. The tests stand in the order of their numbers. Assumes nothing.
+use borrow.Author.Rules.{rules}
 use Rattle.lists.specs.Tests.{first_of}
 use Rattle.refusals.specs.Answers.{round_answer}
 use Rattle.refusals.proofs.round_answer.Goals as goal
 
+pub returns-in_err-decline_if : goal.returns-in_err-decline_if
+unfolding round_answer first_of
+returns-in_err-decline_if c = search rules
+
+pub returns-in_err-decline_if-2 : goal.returns-in_err-decline_if-2
+unfolding round_answer first_of
+returns-in_err-decline_if-2 c = search rules
+
+pub returns-in_err-decline_if-3 : goal.returns-in_err-decline_if-3
+unfolding round_answer first_of
+returns-in_err-decline_if-3 c = search rules
+
+pub returns-in_err-decline_if-4 : goal.returns-in_err-decline_if-4
+unfolding round_answer first_of
+returns-in_err-decline_if-4 c = search rules
+
+pub returns-in_err-decline_if-5 : goal.returns-in_err-decline_if-5
+unfolding round_answer first_of
+returns-in_err-decline_if-5 c = search rules
+
 pub returns : goal.returns
 unfolding round_answer first_of
-returns c = simp (
-  c.decline_if.ensures,
-  c.decline_if-a2.ensures,
-  c.either-may.ensures,
-  c.both-2.ensures,
-  c.decline_if-a5.ensures,
-  c.decline_if-a8.ensures,
-  c.both.ensures,
-  c.decline_if-a10.ensures,
-  c.either.ensures,
-  c.reserves_ok-ok.ensures,
-  c.any_open-any_open.ensures,
-  c.round_of-round.ensures,
-  c.letter-letter.ensures,
-)
+returns c = search rules
