@@ -33,7 +33,7 @@ use Rattle.case.specs.declared.Held.{Held}
 use Rattle.case.specs.declared.Ran.{Ran}
 use Rattle.case.specs.View.{view}
 use Rattle.case.specs.Cases.{case_after, case_answer_to, first_answer_to, answer_to, after_asked, take_asked, applied, no_held}
-use Rattle.case.specs.Readings.{pool_prices_in, reading_in, called_in, owed_in, seen}
+use Rattle.case.specs.Readings.{pool_prices_in, reading_in, as_read, called_in, owed_in, seen}
 use Rattle.case.specs.Claim.{Read, Agrees, ledger_from, outside_in}
 use Rattle.case.specs.Input.{Runs, ledger_after, ledger_answers}
 use Rattle.case.proofs.Steps.{next-shown, head-shown}
@@ -148,10 +148,10 @@ sums-seen h none t pool = none_left h t pool
 sums-seen h (some c) t pool =
     with-case h (λ s. pool_prices_in h pool ≡ left_sum (M.the_case s) pool) (λ x u. pool-sum-read h.case x.roll u.sound u.ok h u.present refl pool) c t
 
-pub requirement-seen : (h : Held) (s : M.State) → Tied h s → ◌≡◌ {A = ℕ × ℕ} ((reading_in h).answer, (reading_in h).cents) (reading_of s)
+pub requirement-seen : (h : Held) (s : M.State) → Tied h s → ◌≡◌ {A = ℕ × ℕ} (as_read (reading_in h)) (reading_of s)
 requirement-seen h none t = none_read h t
 requirement-seen h (some c) t =
-    with-case h (λ s. ◌≡◌ {A = ℕ × ℕ} ((reading_in h).answer, (reading_in h).cents) (reading_of s)) (λ x u. requirement-read h.case x.roll u.sound u.ok h u.present refl) c t
+    with-case h (λ s. ◌≡◌ {A = ℕ × ℕ} (as_read (reading_in h)) (reading_of s)) (λ x u. requirement-read h.case x.roll u.sound u.ok h u.present refl) c t
 
 -- ---- document 02, C-17: all that is seen outside the house
 

@@ -29,7 +29,7 @@ use Rattle.book.proofs.Sound.{Sound}
 use Rattle.case.specs.declared.Case.{Case}
 use Rattle.case.specs.declared.Held.{Held}
 use Rattle.case.specs.View.{view}
-use Rattle.case.specs.Readings.{counts_in, holding_in, sum_of_prices_in, pool_prices_in, reading_in, called_in, owed_in, member_result_in, shown_result, seen}
+use Rattle.case.specs.Readings.{counts_in, holding_in, sum_of_prices_in, pool_prices_in, reading_in, as_read, called_in, owed_in, member_result_in, shown_result, seen}
 use Rattle.book.proofs.Shown.{listed, requirement-shown, pool-sum-shown, sum-of-prices-shown, debt-shown}
 use Rattle.book.proofs.ResultShown.{loss-shown, charges-shown, uncovered-shown, rank-shown, on-contribution-shown, on-payments-shown}
 
@@ -70,7 +70,7 @@ module _ (c : Case) (roll : List R.Entry) (sound : Sound c.stage c.book roll) (o
   unfolding pool_prices_in
   pool-sum-read h present is pool = rw (present, is) (pool-sum-shown c.stage c.book roll sound ok pool)
 
-  pub requirement-read : (h : Held) → h.present ≡ true → h.case ≡ c → ◌≡◌ {A = ℕ × ℕ} ((reading_in h).answer, (reading_in h).cents) (0, requirement (view c roll))
+  pub requirement-read : (h : Held) → h.present ≡ true → h.case ≡ c → ◌≡◌ {A = ℕ × ℕ} (as_read (reading_in h)) (0, requirement (view c roll))
   unfolding reading_in
   requirement-read h present is = rw (present, is) (λ i. (0, requirement-shown c.stage c.book roll sound ok i))
 
@@ -136,7 +136,7 @@ pub none_left : (h : Held) → h.present ≡ false → (pool : ℕ) → pool_pri
 unfolding pool_prices_in left_sum left_prices keep sum_cents
 none_left h absent pool = rw absent
 
-pub none_read : (h : Held) → h.present ≡ false → ◌≡◌ {A = ℕ × ℕ} ((reading_in h).answer, (reading_in h).cents) (2, 0)
+pub none_read : (h : Held) → h.present ≡ false → ◌≡◌ {A = ℕ × ℕ} (as_read (reading_in h)) (2, 0)
 unfolding reading_in
 none_read h absent = rw absent
 

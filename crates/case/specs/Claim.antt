@@ -6,6 +6,7 @@
 -- `requires`. So whoever starts with `Held::none` and calls `apply` in turn gets what `ledger_from` iterates. The function `run` does so over
 -- the fields of a whole input, and its contract says it for the code itself. The contracts of the methods are `r ≡ outcome_of self call`,
 -- and of HEAD `r ≡ head_outcome head`. Prices are cents + 1,000,000 throughout.
+use Rattle.std.specs.Prelude as R
 use Rattle.std.specs.Prelude.{◌≡◌, true, List, [], ◌∷◌, map, ℕ, ◌+◌, ◌≤◌, ◌<◌, ◌^◌, pos, ◌-ℤ◌, length, get_or, take}
 use Rattle.std.proofs.Math.Option.{none, some}
 use Rattle.lists.specs.Lists.{sum, count, Each, Bytes}
@@ -31,9 +32,8 @@ use Rattle.book.specs.declared.Book.{Book}
 use Rattle.book.specs.Results.{limits_in, result_in}
 use Rattle.case.specs.declared.Case.{Case}
 use Rattle.case.specs.declared.Held.{Held}
-use Rattle.case.specs.declared.Reading.{Reading}
 use Rattle.case.specs.Cases.{applied, no_held, head_outcome, outcome_of}
-use Rattle.case.specs.Readings.{sum_of_prices_in, pool_prices_in, reading_in, called_in, owed_in, shown_result, seen}
+use Rattle.case.specs.Readings.{sum_of_prices_in, pool_prices_in, reading_in, as_read, called_in, owed_in, shown_result, seen}
 use Rattle.case.specs.Input.{ledger_answers, ledger_after}
 
 -- what is observed after each call of a list, from what is held
@@ -142,10 +142,10 @@ KeepsSums = (calls : List (List ℕ)) → Each Bytes calls → (pool : ℕ) → 
 
 -- what is read of the requirement: as it is read from the running sums and the two losses; "After any list of calls that begins with no case and makes one, the
 -- reading equals the full addition over the roll"; "with no case the reading is declined by 2"
-pub record Reads (r : Reading) (calls : List (List ℕ)) : Type 0 where
-  pub running : ◌≡◌ {A = ℕ × ℕ} (r.answer, r.cents) (reading (kept_from nothing_kept calls))
-  pub full : (c : M.Case) → run_from none calls ≡ some c → ◌≡◌ {A = ℕ × ℕ} (r.answer, r.cents) (0, requirement c)
-  pub declined : run_from none calls ≡ none → ◌≡◌ {A = ℕ × ℕ} (r.answer, r.cents) (2, 0)
+pub record Reads (r : R.Result ℕ ℕ) (calls : List (List ℕ)) : Type 0 where
+  pub running : as_read r ≡ reading (kept_from nothing_kept calls)
+  pub full : (c : M.Case) → run_from none calls ≡ some c → ◌≡◌ {A = ℕ × ℕ} (as_read r) (0, requirement c)
+  pub declined : run_from none calls ≡ none → ◌≡◌ {A = ℕ × ℕ} (as_read r) (2, 0)
 
 abbrev pub ReadsRequirement : Type 0
 ReadsRequirement = (calls : List (List ℕ)) → Each Bytes calls → Reads (reading_in (ledger_after no_held calls)) calls
@@ -154,7 +154,7 @@ ReadsRequirement = (calls : List (List ℕ)) → Each Bytes calls → Reads (rea
 
 -- what is seen outside the house of what is held: all but the ranks and the members' parts of the contribution layer
 unfoldable pub outside_in : Held → Outside
-outside_in h = let r = reading_in h in outside_of (seen 0 h) (pool_prices_in h) (r.answer, r.cents) (called_in h) (owed_in h)
+outside_in h = outside_of (seen 0 h) (pool_prices_in h) (as_read (reading_in h)) (called_in h) (owed_in h)
 
 -- after every list of calls it is what is seen of the machine
 abbrev pub ShowsOutside : Type 0

@@ -1,10 +1,12 @@
 -- What outsiders read of the program's case.
-use Rattle.std.specs.Prelude.{List, [], map, ℕ, eqb, ℤ, pos, get_or}
+use Rattle.std.specs.Prelude as R
+use Rattle.std.specs.Prelude.{Ok, Err, List, [], map, ℕ, eqb, ℤ, pos, get_or}
 use Rattle.std.proofs.Math.Option.{none, some}
 use Rattle.std.proofs.Math.IntN.{sub_ℕ}
 use Rattle.lists.specs.Lists.{when◌then◌else◌, tab}
 use Rattle.sets.specs.Set.{members}
 use Rattle.machine.specs.Run.{MemberResult, Result, Observed}
+use Rattle.machine.specs.Running.{Reading}
 use Rattle.units.specs.Steps.{zero_sum}
 use Rattle.units.specs.Shown.{count_of, holding_of, sum_of, zero_prices}
 use Rattle.accounts.specs.Members.{owes_of}
@@ -14,7 +16,6 @@ use Rattle.book.specs.Results.{result_in}
 use Rattle.book.specs.declared.Book.{Book}
 use Rattle.case.specs.declared.Case.{Case}
 use Rattle.case.specs.declared.Held.{Held}
-use Rattle.case.specs.declared.Reading.{Reading}
 
 -- the five counts of a pool
 unfoldable pub counts_in : Case → ℕ → List ℕ
@@ -33,8 +34,13 @@ unfoldable pub pool_prices_in : Held → ℕ → ℤ
 pool_prices_in h pool = when h.present then sub_ℕ (sum_of h.case.book.units pool) zero_sum else pos 0
 
 -- the requirement, "read from this sum and the two losses alone; with no case the reading is declined by 2"
-unfoldable pub reading_in : Held → Reading
-reading_in h = when h.present then record { answer = 0; cents = requirement_in h.case.book } else record { answer = 2; cents = 0 }
+unfoldable pub reading_in : Held → R.Result ℕ ℕ
+reading_in h = when h.present then Ok (requirement_in h.case.book) else Err 2
+
+-- a reading as the machine gives it: an answer, and cents where it is 0
+abbrev pub as_read : R.Result ℕ ℕ → Reading
+as_read (Ok cents) = (0, cents)
+as_read (Err n) = (n, 0)
 
 -- document 02, C-17: "every call on a member", and what each owes, in member order; none where no case is held
 unfoldable pub called_in : Held → List ℕ

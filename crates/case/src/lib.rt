@@ -24,7 +24,7 @@ pub struct Case {
     pub book: Book,
 }
 
-// The answer to a call, and the case handed back.
+// The answer to a call, and the case handed back: a pair and no `Result`, since 01 has the calls "returning the new case and its answer number".
 #[derive(Clone, Copy)]
 pub struct Outcome {
     pub answer: u8,
@@ -43,13 +43,6 @@ pub struct Held {
 pub struct Applied {
     pub answer: u8,
     pub held: Held,
-}
-
-// What is read of what is held: an answer, and cents where it is 0.
-#[derive(Clone, Copy)]
-pub struct Reading {
-    pub answer: u8,
-    pub cents: u64,
 }
 
 // What is held after the fields at an input's front, the bytes that they took, and how many they are.
@@ -88,22 +81,14 @@ impl Held {
         }
     }
 
-    // The requirement, read from the sums that the case keeps and the two losses; "with no case the reading is declined by 2".
-    pub fn requirement(self) -> Reading
+    // The requirement in cents, read from the sums that the case keeps and the two losses; "with no case the reading is declined by 2".
+    pub fn requirement(self) -> Result<u64, u8>
         ensures { result ≡ reading_in self }
     {
         if self.present {
-            let case = self.case;
-            let book = case.book;
-            return Reading {
-                answer: 0,
-                cents: book.requirement(),
-            };
+            return Ok(self.case.book.requirement());
         }
-        Reading {
-            answer: 2,
-            cents: 0,
-        }
+        Err(2)
     }
 
     // The sum of the prices of a pool's units that have left the house, in cents.
@@ -111,10 +96,10 @@ impl Held {
         ensures { result ≡ pool_prices_in self pool }
     {
         if self.present {
-            let case = self.case;
-            let book = case.book;
-            let units = book.units;
-            return difference(units.prices_in(pool) as u64, Units::ZERO_SUM as u64);
+            return difference(
+                u64::from(self.case.book.units.prices_in(pool)),
+                u64::from(Units::ZERO_SUM),
+            );
         }
         0
     }
@@ -134,11 +119,9 @@ fn reserves_answer(case: Case, n: u8, p: u32, q: u32, r: u32, s: u32) -> u8
     ensures { result ≡ reserves_answer case n p q r s }
 {
     if lists::both(1 <= n, n <= 4) {
-        let book = case.book;
-        let stage = case.stage;
         return refusals::round_answer(
-            book,
-            stage,
+            case.book,
+            case.stage,
             n,
             reserve_if(n, 0, p),
             reserve_if(n, 1, q),
@@ -154,9 +137,8 @@ impl Case {
     fn new(head: Head) -> Case
         ensures { result ≡ new_case head }
     {
-        let stage = Stage::Setup;
         Case {
-            stage,
+            stage: Stage::Setup,
             book: Book::new(head),
         }
     }
@@ -172,8 +154,10 @@ impl Case {
     fn accepted(stage: Stage, book: Book) -> Outcome
         ensures { result ≡ record { answer = 0; case = record { stage = stage; book = book } } }
     {
-        let case = Case { stage, book };
-        Outcome { answer: 0, case }
+        Outcome {
+            answer: 0,
+            case: Case { stage, book },
+        }
     }
 
     // HEAD: "an associated function makes a new case". Where its numbers are out of range no case is held.
@@ -195,39 +179,36 @@ impl Case {
     pub fn pool(self, pool: u8, units: u16, mark: u8) -> Outcome
         ensures { result ≡ outcome_of self (some (POOL pool units mark)) }
     {
-        let stage = self.stage;
-        let book = self.book;
-        let answer = refusals::pool_answer(book, stage, pool, units, mark);
+        let answer = refusals::pool_answer(self.book, self.stage, pool, units, mark);
         if answer != 0 {
             return self.declined(answer);
         }
-        Case::accepted(stage, book.take_pool(pool, units, mark))
+        Case::accepted(self.stage, self.book.take_pool(pool, units, mark))
     }
 
     pub fn member(self, m: u8, contribution: u32, p: u16, q: u16, r: u16, s: u16) -> Outcome
         ensures { result ≡ outcome_of self (some (MEMBER m contribution (p ∷ q ∷ r ∷ s ∷ []))) }
     {
-        let stage = self.stage;
-        let book = self.book;
-        let answer = refusals::member_answer(book, stage, m, contribution, p, q, r, s);
+        let answer = refusals::member_answer(self.book, self.stage, m, contribution, p, q, r, s);
         if answer != 0 {
             return self.declined(answer);
         }
-        Case::accepted(stage, book.take_member(m, contribution, p, q, r, s))
+        Case::accepted(
+            self.stage,
+            self.book.take_member(m, contribution, p, q, r, s),
+        )
     }
 
     // ROUND, of which the first n reserves count.
     pub fn round(self, n: u8, p: u32, q: u32, r: u32, s: u32) -> Outcome
         ensures { result ≡ outcome_of self (asked (Round n p q r s)) }
     {
-        let stage = self.stage;
-        let book = self.book;
         let answer = reserves_answer(self, n, p, q, r, s);
         if answer != 0 {
             return self.declined(answer);
         }
-        let next = Stage::Bidding(book::next_round(book::round_of(stage)));
-        let more = book.take_round(
+        let next = Stage::Bidding(book::next_round(book::round_of(self.stage)));
+        let more = self.book.take_round(
             reserve_if(n, 0, p),
             reserve_if(n, 1, q),
             reserve_if(n, 2, r),
@@ -239,130 +220,110 @@ impl Case {
     pub fn bid(self, pool: u8, m: u8, units: u16, price: u32) -> Outcome
         ensures { result ≡ outcome_of self (some (BID pool m units price)) }
     {
-        let stage = self.stage;
-        let book = self.book;
-        let answer = refusals::bid_answer(book, stage, pool, m, units, price);
+        let answer = refusals::bid_answer(self.book, self.stage, pool, m, units, price);
         if answer != 0 {
             return self.declined(answer);
         }
-        let round = book::round_of(stage);
-        Case::accepted(stage, book.take_bid(round, pool, m, units, price))
+        let round = book::round_of(self.stage);
+        Case::accepted(self.stage, self.book.take_bid(round, pool, m, units, price))
     }
 
     pub fn close(self) -> Outcome
         ensures { result ≡ outcome_of self (some CLOSE) }
     {
-        let stage = self.stage;
-        let book = self.book;
-        let answer = refusals::close_answer(stage);
+        let answer = refusals::close_answer(self.stage);
         if answer != 0 {
             return self.declined(answer);
         }
-        let round = book::round_of(stage);
+        let round = book::round_of(self.stage);
         let next = Stage::After(round);
-        Case::accepted(next, book.take_close(round))
+        Case::accepted(next, self.book.take_close(round))
     }
 
     pub fn allocate(self, pool: u8, price: u32) -> Outcome
         ensures { result ≡ outcome_of self (some (ALLOCATE pool price)) }
     {
-        let stage = self.stage;
-        let book = self.book;
-        let answer = refusals::allocate_answer(book, stage, pool, price);
+        let answer = refusals::allocate_answer(self.book, self.stage, pool, price);
         if answer != 0 {
             return self.declined(answer);
         }
-        Case::accepted(stage, book.take_allocate(pool, price))
+        Case::accepted(self.stage, self.book.take_allocate(pool, price))
     }
 
     pub fn tear(self, pool: u8, price: u32) -> Outcome
         ensures { result ≡ outcome_of self (some (TEAR pool price)) }
     {
-        let stage = self.stage;
-        let book = self.book;
-        let answer = refusals::tear_answer(book, stage, pool, price);
+        let answer = refusals::tear_answer(self.book, self.stage, pool, price);
         if answer != 0 {
             return self.declined(answer);
         }
-        Case::accepted(stage, book.take_tear(pool, price))
+        Case::accepted(self.stage, self.book.take_tear(pool, price))
     }
 
     pub fn call(self) -> Outcome
         ensures { result ≡ outcome_of self (some CALL) }
     {
-        let stage = self.stage;
-        let book = self.book;
-        let answer = refusals::call_answer(book, stage);
+        let answer = refusals::call_answer(self.book, self.stage);
         if answer != 0 {
             return self.declined(answer);
         }
         let next = Stage::CallsOut;
-        Case::accepted(next, book.take_call())
+        Case::accepted(next, self.book.take_call())
     }
 
     pub fn pay(self, m: u8, amount: u32) -> Outcome
         ensures { result ≡ outcome_of self (some (PAY m amount)) }
     {
-        let stage = self.stage;
-        let book = self.book;
-        let answer = refusals::pay_answer(book, stage, m, amount);
+        let answer = refusals::pay_answer(self.book, self.stage, m, amount);
         if answer != 0 {
             return self.declined(answer);
         }
-        Case::accepted(stage, book.take_pay(m, amount))
+        Case::accepted(self.stage, self.book.take_pay(m, amount))
     }
 
     // MOVE; `move` is a word of the language.
     pub fn move_units(self, m: u8) -> Outcome
         ensures { result ≡ outcome_of self (some (MOVE m)) }
     {
-        let stage = self.stage;
-        let book = self.book;
-        let answer = refusals::move_answer(book, stage, m);
+        let answer = refusals::move_answer(self.book, self.stage, m);
         if answer != 0 {
             return self.declined(answer);
         }
-        Case::accepted(stage, book.take_move(m))
+        Case::accepted(self.stage, self.book.take_move(m))
     }
 
     pub fn miss(self, m: u8, price: u32) -> Outcome
         ensures { result ≡ outcome_of self (some (MISS m price)) }
     {
-        let stage = self.stage;
-        let book = self.book;
-        let answer = refusals::miss_answer(book, stage, m, price);
+        let answer = refusals::miss_answer(self.book, self.stage, m, price);
         if answer != 0 {
             return self.declined(answer);
         }
-        Case::accepted(stage, book.take_miss(m, price))
+        Case::accepted(self.stage, self.book.take_miss(m, price))
     }
 
     pub fn finish(self) -> Outcome
         ensures { result ≡ outcome_of self (some FINISH) }
     {
-        let stage = self.stage;
-        let book = self.book;
-        let answer = refusals::finish_answer(book, stage);
+        let answer = refusals::finish_answer(self.book, self.stage);
         if answer != 0 {
             return self.declined(answer);
         }
         let next = Stage::Finished;
-        Case::accepted(next, book)
+        Case::accepted(next, self.book)
     }
 
     // SALE: "If no unit is open afterwards the stage becomes A1".
     pub fn sale(self, pool: u8, m: u8, price: u32) -> Outcome
         ensures { result ≡ outcome_of self (some (SALE pool m price)) }
     {
-        let stage = self.stage;
-        let book = self.book;
-        let answer = refusals::sale_answer(book, stage, pool, m, price);
+        let answer = refusals::sale_answer(self.book, self.stage, pool, m, price);
         if answer != 0 {
             return self.declined(answer);
         }
-        let sold = book.take_sale(pool, m, price);
+        let sold = self.book.take_sale(pool, m, price);
         if sold.any_open() {
-            return Case::accepted(stage, sold);
+            return Case::accepted(self.stage, sold);
         }
         let next = Stage::After(1);
         Case::accepted(next, sold)
@@ -371,13 +332,11 @@ impl Case {
     pub fn withdraw(self, m: u8, n: u16) -> Outcome
         ensures { result ≡ outcome_of self (some (WITHDRAW m n)) }
     {
-        let stage = self.stage;
-        let book = self.book;
-        let answer = refusals::withdraw_answer(book, stage, m, n);
+        let answer = refusals::withdraw_answer(self.book, self.stage, m, n);
         if answer != 0 {
             return self.declined(answer);
         }
-        Case::accepted(stage, book.take_withdraw(n))
+        Case::accepted(self.stage, self.book.take_withdraw(n))
     }
 
     // ---- what is read of a case
@@ -386,32 +345,28 @@ impl Case {
     pub fn count(self, pool: u8, kind: u8) -> u64
         ensures { result ≡ count_of self.book.units self.book.bids.pool pool kind }
     {
-        let book = self.book;
-        let bids = book.bids;
-        let pools = bids.pool;
-        let units = book.units;
-        units.count(pool, kind, &pools)
+        self.book.units.count(pool, kind, &self.book.bids.pool)
     }
 
     // The units of a pool that a member holds at a price.
     pub fn holding(self, m: u8, pool: u8, price: u32) -> u64
         ensures { result ≡ holding_in self m pool price }
     {
-        let book = self.book;
-        let bids = book.bids;
-        let members = bids.member;
-        let pools = bids.pool;
-        let prices = bids.price;
-        let units = book.units;
-        units.holding(m, pool, price, &members, &pools, &prices)
+        self.book.units.holding(
+            m,
+            pool,
+            price,
+            &self.book.bids.member,
+            &self.book.bids.pool,
+            &self.book.bids.price,
+        )
     }
 
     // The sum of the prices of the units not open, in cents.
     pub fn sum_of_prices(self) -> i64
         ensures { result ≡ sum_of_prices_in self }
     {
-        let book = self.book;
-        difference(book.prices(), Units::ZERO_PRICES)
+        difference(self.book.prices(), Units::ZERO_PRICES)
     }
 }
 
@@ -442,52 +397,20 @@ fn first_answer(call: Call) -> u8
 {
     match call {
         Call::Head(head) => refusals::head_answer(head),
-        Call::Pool {
-            pool: _,
-            units: _,
-            mark: _,
-        } => 2,
-        Call::Member {
-            member: _,
-            contribution: _,
-            a: _,
-            b: _,
-            c: _,
-            d: _,
-        } => 2,
-        Call::Round {
-            count,
-            a: _,
-            b: _,
-            c: _,
-            d: _,
-        } => lists::decline_if(!lists::both(1 <= count, count <= 4), 1, 2),
-        Call::Bid {
-            pool: _,
-            member: _,
-            units: _,
-            price: _,
-        } => 2,
+        Call::Round { count, .. } => lists::decline_if(!lists::both(1 <= count, count <= 4), 1, 2),
+        Call::Pool { .. } => 2,
+        Call::Member { .. } => 2,
+        Call::Bid { .. } => 2,
         Call::Close => 2,
-        Call::Allocate { pool: _, price: _ } => 2,
-        Call::Tear { pool: _, price: _ } => 2,
+        Call::Allocate { .. } => 2,
+        Call::Tear { .. } => 2,
         Call::Call => 2,
-        Call::Pay {
-            member: _,
-            amount: _,
-        } => 2,
-        Call::Move { member: _ } => 2,
-        Call::Miss {
-            member: _,
-            price: _,
-        } => 2,
+        Call::Pay { .. } => 2,
+        Call::Move { .. } => 2,
+        Call::Miss { .. } => 2,
         Call::Finish => 2,
-        Call::Sale {
-            pool: _,
-            member: _,
-            price: _,
-        } => 2,
-        Call::Withdraw { member: _, bid: _ } => 2,
+        Call::Sale { .. } => 2,
+        Call::Withdraw { .. } => 2,
         Call::Unknown => 1,
     }
 }
@@ -542,7 +465,7 @@ pub fn after(case: Case, call: Call) -> Case
 {
     match call {
         Call::Head(head) => Case::new(head),
-        Call::Pool { pool, units, mark } => case_of(case.pool(pool, units, mark)),
+        Call::Pool { pool, units, mark } => case.pool(pool, units, mark).case,
         Call::Member {
             member,
             contribution,
@@ -550,36 +473,36 @@ pub fn after(case: Case, call: Call) -> Case
             b,
             c,
             d,
-        } => case_of(case.member(member, contribution, a, b, c, d)),
-        Call::Round { count, a, b, c, d } => case_of(case.round(count, a, b, c, d)),
+        } => case.member(member, contribution, a, b, c, d).case,
+        Call::Round { count, a, b, c, d } => case.round(count, a, b, c, d).case,
         Call::Bid {
             pool,
             member,
             units,
             price,
-        } => case_of(case.bid(pool, member, units, price)),
+        } => case.bid(pool, member, units, price).case,
         Call::Close => {
             let held = case;
-            case_of(held.close())
+            held.close().case
         }
         Call::Allocate { pool, price } => {
             let held = case;
-            case_of(held.allocate(pool, price))
+            held.allocate(pool, price).case
         }
-        Call::Tear { pool, price } => case_of(case.tear(pool, price)),
-        Call::Call => case_of(case.call()),
-        Call::Pay { member, amount } => case_of(case.pay(member, amount)),
+        Call::Tear { pool, price } => case.tear(pool, price).case,
+        Call::Call => case.call().case,
+        Call::Pay { member, amount } => case.pay(member, amount).case,
         Call::Move { member } => {
             let held = case;
-            case_of(held.move_units(member))
+            held.move_units(member).case
         }
         Call::Miss { member, price } => {
             let held = case;
-            case_of(held.miss(member, price))
+            held.miss(member, price).case
         }
         Call::Finish => {
             let held = case;
-            case_of(held.finish())
+            held.finish().case
         }
         Call::Sale {
             pool,
@@ -587,18 +510,11 @@ pub fn after(case: Case, call: Call) -> Case
             price,
         } => {
             let held = case;
-            case_of(held.sale(pool, member, price))
+            held.sale(pool, member, price).case
         }
-        Call::Withdraw { member, bid } => case_of(case.withdraw(member, bid)),
+        Call::Withdraw { member, bid } => case.withdraw(member, bid).case,
         Call::Unknown => case,
     }
-}
-
-// The case of an outcome.
-fn case_of(outcome: Outcome) -> Case
-    ensures { result ≡ outcome.case }
-{
-    outcome.case
 }
 
 // A call taken: "Each gives its number and the unchanged case (none where there was none); 0 is accepted."
@@ -629,12 +545,12 @@ pub fn apply(held: Held, bytes: &[u8]) -> Applied
 
 // ---- many calls
 
-// Writes an answer, where there is room.
-fn put(answers: &mut [u8], k: usize, answer: u8)
-    ensures { answers.new ≡ set answers.old k answer }
+// Writes at a place, where there is one.
+pub fn put<T: Copy>(run: &mut [T], k: usize, x: T)
+    ensures { run.new ≡ set run.old k x }
 {
-    if k < answers.len() {
-        answers[k] = answer;
+    if k < run.len() {
+        run[k] = x;
     }
 }
 
@@ -645,14 +561,12 @@ pub fn replay(held: Held, bytes: &[u8], ends: &[usize], answers: &mut [u8]) -> H
     let mut present = held.present;
     let mut case = held.case;
     let mut at: usize = 0;
-    let mut k: usize = 0;
-    while k < ends.len() {
-        let end = input::cut_at(at, bytes.len(), ends[k]);
+    for (k, place) in ends.iter().enumerate() {
+        let end = input::cut_at(at, bytes.len(), *place);
         let call = wire::read_call(&bytes[at..end]);
         let answer = answer_to(present, case, call);
         put(answers, k, answer);
         at = end;
-        k += 1;
         if answer == 0 {
             present = true;
             case = after(case, call);

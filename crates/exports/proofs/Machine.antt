@@ -25,10 +25,10 @@ use Rattle.book.proofs.Sound.{Sound}
 use Rattle.book.proofs.Shown.{requirement-shown, prefunded-shown, debt-shown}
 use Rattle.case.specs.declared.Case.{Case}
 use Rattle.case.specs.declared.Held.{Held}
-use Rattle.case.specs.declared.Reading as C
+use Rattle.std.specs.Prelude as R
 use Rattle.case.specs.View.{view}
 use Rattle.case.specs.Cases.{no_held}
-use Rattle.case.specs.Readings.{counts_in, pool_prices_in, reading_in, seen}
+use Rattle.case.specs.Readings.{counts_in, pool_prices_in, reading_in, as_read, seen}
 use Rattle.input.specs.Strings.{strings_in, in_front}
 use Rattle.case.specs.Input.{Replays, ledger_after}
 use Rattle.lists.specs.Lists.{Bytes}
@@ -95,7 +95,11 @@ unfolding shown_of shown_by
 shown_by_lem h none t = rw t
 shown_by_lem h (some c) t = rw t.present (shown-in h.case c.roll t.sound t.ok ∙ ap shown_in t.shows)
 
-read-by : (h : Held) (s : M.State) → Tied h s → ◌≡◌ {A = Reading} (record { answer = (reading_in h).answer; cents = (reading_in h).cents }) (read_by s)
+-- a pair as what is shown
+abbrev pub shown_reading : ℕ × ℕ → Reading
+shown_reading p = record { answer = p.0; cents = p.1 }
+
+read-by : (h : Held) (s : M.State) → Tied h s → ◌≡◌ {A = Reading} (shown_reading (as_read (reading_in h))) (read_by s)
 unfolding read_by
 read-by h none t = let e = requirement-seen h none t in λ i. record { answer = (e i).0; cents = (e i).1 }
 read-by h (some c) t = let e = requirement-seen h (some c) t in λ i. record { answer = (e i).0; cents = (e i).1 }
@@ -123,7 +127,7 @@ module _ (bytes ends : List ℕ) (given : Bytes bytes) where
     held_after members pools prices units given_back e = e ∙ ap (λ (f : ℕ → ℕ → ℕ → ℕ). in_front (asks f members pools prices) units) holds
 
     -- document 02, C-16
-    pub requirement-after : (r : C.Reading) → r ≡ reading_in h → ◌≡◌ {A = Reading} (record { answer = r.answer; cents = r.cents }) (read_by (run_from none (strings_in bytes ends)))
+    pub requirement-after : (r : R.Result ℕ ℕ) → r ≡ reading_in h → ◌≡◌ {A = Reading} (shown_reading (as_read r)) (read_by (run_from none (strings_in bytes ends)))
     requirement-after r e = rw (e, after) (read-by _ (run_from none (strings_in bytes ends)) (ledger-tied (strings_in bytes ends) each))
 
     pub prices-after : (pool : ℕ) → pool_prices_in h pool ≡ left_sum (M.the_case (run_from none (strings_in bytes ends))) pool

@@ -18,6 +18,7 @@ ghost use Rattle.exports.specs.Promises.{Called, holdings_after};
 
 use book::{Book, Result};
 use case::{Case, Held};
+use std::array;
 
 // What is shown of a case. Where none is held every number is 0; so is the result before an accepted FINISH. Bids are numbered from 0 as accepted, so the next
 // one gets the number `bids`. The counts are open, sold, allocated, moved and torn of pool 0, then of pools 1 to 3. Money and prices are in cents.
@@ -61,50 +62,26 @@ pub struct Printed {
 
 // ---- what is shown
 
-// Writes units, where there is room.
-fn put_units(units: &mut [u64], k: usize, n: u64)
-    ensures { units.new ≡ set units.old k n }
-{
-    if k < units.len() {
-        units[k] = n;
-    }
-}
-
 // The five counts of each pool.
 fn counts(case: Case) -> [u64; 20]
     ensures { result ≡ count_table case }
 {
-    let mut out = [0u64; 20];
-    let mut k: u8 = 0;
-    while k < 20 {
-        out[k as usize] = case.count(k / 5, k % 5);
-        k += 1;
-    }
-    out
+    array::from_fn(|k| case.count(k as u8 / 5, k as u8 % 5))
 }
 
 // What each member owes.
 fn owes(book: Book) -> [u64; 32]
     ensures { result ≡ owes_table book }
 {
-    let members = book.members;
-    let mut out = [0u64; 32];
-    let mut m: u8 = 0;
-    while m < 32 {
-        out[m as usize] = members.owes(m);
-        m += 1;
-    }
-    out
+    array::from_fn(|m| book.members.owes(m as u8))
 }
 
 // What FINISH gave, and zeros before it.
 fn result(case: Case) -> Result
     ensures { result ≡ result_shown case }
 {
-    let stage = case.stage;
-    let book = case.book;
-    if book::letter(stage) == 5 {
-        return book.result();
+    if book::letter(case.stage) == 5 {
+        return case.book.result();
     }
     Result {
         loss: 0,
@@ -147,9 +124,7 @@ fn show_case(case: Case) -> Shown
 {
     let stage = case.stage;
     let book = case.book;
-    let pools = book.pools;
-    let bids = book.bids;
-    let stands = bids.stands;
+    let stands = book.bids.stands;
     let counts = counts(case);
     let owes = owes(book);
     let given = result(case);
@@ -161,8 +136,8 @@ fn show_case(case: Case) -> Shown
         present: true,
         stage: book::letter(stage),
         round: book::round_of(stage),
-        pools: pools.given,
-        bids: bids.kept,
+        pools: book.pools.given,
+        bids: book.bids.kept,
         stands,
         counts,
         prices: case.sum_of_prices(),
@@ -193,29 +168,22 @@ fn holding(held: Held, m: u8, pool: u8, price: u32) -> u64
     ensures { result ≡ holding_shown held m pool price }
 {
     if held.present {
-        let case = held.case;
-        return case.holding(m, pool, price);
+        return held.case.holding(m, pool, price);
     }
     0
-}
-
-// The number of questions: as many as all four runs have.
-fn least(a: usize, b: usize) -> usize
-    ensures { result ≡ min a b }
-{
-    if a < b { a } else { b }
 }
 
 // What members hold, asked by member, pool and price.
 fn ask(held: Held, members: &[u8], pools: &[u8], prices: &[u32], units: &mut [u64])
     ensures { units.new ≡ in_front (holdings_of held members.now pools.now prices.now) units.old }
 {
-    let n = least(least(members.len(), pools.len()), prices.len());
-    let mut k: usize = 0;
-    while k < n {
-        let x = holding(held, members[k], pools[k], prices[k]);
-        put_units(units, k, x);
-        k += 1;
+    let n = units
+        .len()
+        .min(members.len())
+        .min(pools.len())
+        .min(prices.len());
+    for k in 0..n {
+        units[k] = holding(held, members[k], pools[k], prices[k]);
     }
 }
 
@@ -234,8 +202,7 @@ pub fn ledger_run(input: &[u8], answers: &mut [u8]) -> usize
     ensures value { result ≡ length (fields_in (length answers.old) input.now) }
     ensures answers_after { answers.new ≡ map (λ (o : Observed). o.answer) (machine_run (fields_in (length answers.old) input.now)) ++ drop result answers.old }
 {
-    let ran = case::run(input, answers);
-    ran.count
+    case::run(input, answers).count
 }
 
 // Calls of any kind taken in turn, from no case on, and what is shown then. Call k is the bytes from ends[k - 1] on, below ends[k]. The answers
@@ -243,8 +210,7 @@ pub fn ledger_run(input: &[u8], answers: &mut [u8]) -> usize
 pub fn ledger_calls(bytes: &[u8], ends: &[usize], answers: &mut [u8]) -> Shown
     ensures { Called (strings_in bytes.now ends.now) answers.old answers.new result }
 {
-    let held = case::replay(Held::none(), bytes, ends, answers);
-    show(held)
+    show(case::replay(Held::none(), bytes, ends, answers))
 }
 
 // After the same calls: for question k, the units of pool pools[k] that member members[k] holds at the price prices[k], which is cents +
@@ -259,19 +225,16 @@ pub fn ledger_holdings(
 )
     ensures { units.new ≡ in_front (holdings_after (strings_in bytes.now ends.now) members.now pools.now prices.now) units.old }
 {
-    let held = held_after(bytes, ends);
-    ask(held, members, pools, prices, units)
+    ask(held_after(bytes, ends), members, pools, prices, units)
 }
 
 // After the same calls: the requirement, read from the running sums and the two losses; declined by 2 where there is no case.
 pub fn ledger_requirement(bytes: &[u8], ends: &[usize]) -> Reading
     ensures { result ≡ read_by (run_from none (strings_in bytes.now ends.now)) }
 {
-    let held = held_after(bytes, ends);
-    let read = held.requirement();
-    Reading {
-        answer: read.answer,
-        cents: read.cents,
+    match held_after(bytes, ends).requirement() {
+        Ok(cents) => Reading { answer: 0, cents },
+        Err(answer) => Reading { answer, cents: 0 },
     }
 }
 
@@ -279,18 +242,17 @@ pub fn ledger_requirement(bytes: &[u8], ends: &[usize]) -> Reading
 pub fn ledger_pool_prices(bytes: &[u8], ends: &[usize], pool: u8) -> i64
     ensures { result ≡ left_sum (the_case (run_from none (strings_in bytes.now ends.now))) pool }
 {
-    let held = held_after(bytes, ends);
-    held.prices_in(pool)
+    held_after(bytes, ends).prices_in(pool)
 }
 
 // The text of a whole input, as the program `ledger` prints it, at the front of the buffer. A buffer with less than four times the input's bytes
 // and 4,096 is untouched.
 pub fn ledger_print(input: &[u8], out: &mut [u8]) -> Printed
-    ensures { Prints input.now out.old out.new (record { whole = result.whole; len = result.len }) }
+    ensures { Prints input.now out.old out.new result.whole result.len }
 {
     let written = report::print(input, out);
     Printed {
-        whole: written.whole,
-        len: written.len,
+        whole: written.is_some(),
+        len: written.unwrap_or(0),
     }
 }

@@ -68,7 +68,7 @@ pub extern "C" fn ledger_pool_prices(bytes: &[u8], ends: &[usize], pool: u8) -> 
 // and 4,096 is untouched.
 #[unsafe(no_mangle)]
 pub extern "C" fn ledger_print(input: &[u8], out: &mut [u8]) -> Printed
-    ensures { Prints input.now out.old out.new (record { whole = result.whole; len = result.len }) }
+    ensures { Prints input.now out.old out.new result.whole result.len }
 {
     exports::ledger_print(input, out)
 }

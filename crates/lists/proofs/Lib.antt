@@ -14,3 +14,4 @@ pub mod Pass
 pub mod Passed
 pub mod Adding
 pub mod Ascending
+pub mod Made

@@ -2,13 +2,12 @@
 use mathlib.Core.Path.{◌≡◌, refl, sym, ap, ◌∙◌}
 use mathlib.Core.Bool.{Bool, true, false}
 use mathlib.Core.List.{List, [], ◌∷◌, ◌++◌, map}
-use Prim.Native.Nat.{ℕ, zero, suc, ◌^◌, ◌≤◌, ◌<◌}
+use Prim.Native.Nat.{ℕ}
 use native.Mathlib.Omega.{arith}
 use lib.ListN.{length, get_or}
 use borrow.Author.Tests.{eq-eqb, ne_eqb}
 use Rattle.lists.specs.Lists.{when◌then◌else◌, tab}
-use Rattle.sets.specs.Set.{members, head_or}
-use Rattle.sets.proofs.Bits.{least, next-is}
+use Rattle.sets.specs.Set.{members}
 use Rattle.machine.specs.Printed.{Line, s_line}
 use Rattle.lines.specs.Placed.{line_of}
 use Rattle.units.specs.Shown.{count_of}
@@ -96,13 +95,3 @@ held-some h e = sym (ap (λ (t : Bool). when t then present_lines h else []) e)
 pub held_none : (h : Held) → h.present ≡ false → [] ≡ held_lines h
 unfolding held_lines
 held_none h e = sym (ap (λ (t : Bool). when t then present_lines h else []) e)
-
--- the least member is one of the 32 places
-pub next_small : (set m : ℕ) → (set ≡ 0 → ⊥) → set < 2 ^ 32 → m ≡ head_or 32 (members set) → m < 32
-next_small set m h l e = omega (arith, next-is set l, (least set h l).below)
-
--- behind the end there is nothing
-pub past : (xs : List ℕ) (i : ℕ) → length xs ≤ i → 0 ≡ get_or xs i 0
-past [] i h = refl
-past (x ∷ xs) zero h = absurd (omega arith)
-past (x ∷ xs) (suc i) h = past xs i (omega arith)

@@ -106,7 +106,7 @@ module _ (input : List ℕ) (bytes : Bytes input) where
 -- ---- the contract of `print`
 
 -- a buffer that is too small is untouched
-pub prints-none : (input old : List ℕ) → length old < 4 * length input + 4096 → Prints input old old (record { whole = false; len = 0 })
+pub prints-none : (input old : List ℕ) → length old < 4 * length input + 4096 → Prints input old old false 0
 prints-none input old h = record { whole = sym (lt-leb (4 * length input + 4096) (length old) h); len = refl; text = refl }
 
 -- the s lines of the whole fields
@@ -141,7 +141,7 @@ module _ (input old mid new last : List ℕ) (t : Taken) (to len : ℕ) (bytes :
 
   pub prints : ◌≡◌ {A = Placed} (to, new) (placed_lines (cut_lines (drop t.used input)) mid t.written)
       → ◌≡◌ {A = Placed} (len, last) (placed_lines (held_lines t.held) new to)
-      → Prints input old last (record { whole = true; len = len })
+      → Prints input old last true len
   prints e f =
       let n : t.written ≡ length (text (lines input)) = ap (λ (p : PartTaken). p.0.written) is in
       let e' : ◌≡◌ {A = Placed} (to, new) (placed_lines (cut_lines (rest input)) mid t.written) =

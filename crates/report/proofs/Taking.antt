@@ -12,7 +12,8 @@ use borrow.Author.Tests.{le-leb, lt-leb, leb-true, eqb-true, eqb-false}
 use Rattle.lists.specs.Lists.{tab}
 use Rattle.lists.proofs.Bools.{cases, and_left}
 use Rattle.lists.proofs.Each.{Each, each_at, each_take, each-drop}
-use Rattle.lists.proofs.Places.{tab-of}
+use Rattle.std.proofs.lemmas.List.{get_or-take, length-take-le}
+use Rattle.lists.proofs.Places.{tab-of, tab-ext}
 use Rattle.machine.specs.Printed.{Line, s_line, text}
 use Rattle.lines.specs.Placed.{Placed, line_text}
 use Rattle.lists.proofs.Stores.{sets_then}
@@ -148,6 +149,20 @@ module _ (h : Held) (input : List ℕ) (n : ℕ) (ends answers ends' answers' : 
       ∙ ap₂ (λ (tag : ℕ) (a : ℕ). s_line (tag ∷ []) a)
       (tag_at input n 0 k l ∙ ap (λ (p : ℕ). get_or input p 0) (start-at k l))
       (sym (ap (λ (xs : List ℕ). get_or xs k 0) taken.told ∙ front_at (ledger_answers h fs) answers k (omega (arith, answers-long h fs)) (omega (arith, answers-long h fs))))))
+
+-- no more are taken than were asked for
+pub counted : (h : Held) (s : List ℕ) (n : ℕ) (ends answers ends' answers' : List ℕ) (front : Front) → FieldsTaken h (whole_fields n s) ends answers ends' answers' front → front.count ≤ n
+counted h s n ends answers ends' answers' front taken = rw taken.count (fields-most (front_size false) (front-most false) n s)
+
+-- so are those of the places and answers in front alone
+pub lines_front : (n : ℕ) (input ends answers : List ℕ) → n ≤ length ends
+    → tab (length (take n ends)) (answer_line input (take n ends) (take n answers)) ≡ tab n (answer_line input ends answers)
+unfolding answer_line
+lines_front n input ends answers h = rw (length-take-le n ends h) (tab-ext n _ _ (λ k l. ap₂ (λ (p a : ℕ). s_line (get_or input p 0 ∷ []) a) (start k l) (get_or-take n answers k 0 l)))
+  where
+    start : (k : ℕ) → k < n → start_of (take n ends) k ≡ start_of ends k
+    start zero l = refl
+    start (suc k) l = get_or-take n ends k 0 (omega arith)
 
 -- an s line has fewer bytes than four times its field
 lines-short : (h : Held) (fs : List (List ℕ)) → Each (λ f. 3 ≤ length f) fs → Each Bytes fs → length (text (ledger_lines h fs)) ≤ 4 * bytes_of fs

@@ -1,6 +1,6 @@
 -- The printed text of the program's run, over its own structs: the lines of document 01 (`machine.specs.Printed`) of what is held, the s lines of
 -- a part of an input, and what a lent buffer holds after lines are put into it.
-use Rattle.std.specs.Prelude.{◌≡◌, List, [], ◌∷◌, ◌++◌, map, ℕ, zero, suc, ◌+◌, ◌*◌, ◌≤◌, leb, eqb, length, get_or}
+use Rattle.std.specs.Prelude.{◌≡◌, Bool, List, [], ◌∷◌, ◌++◌, map, ℕ, zero, suc, ◌+◌, ◌*◌, ◌≤◌, leb, eqb, length, get_or}
 use Rattle.std.proofs.lemmas.List.Edits.{sets}
 use Rattle.lists.specs.Lists.{when◌then◌else◌, tab}
 use Rattle.sets.specs.Set.{members}
@@ -17,7 +17,6 @@ use Rattle.input.specs.Strings.{bytes_of}
 use Rattle.input.specs.Fields.{whole}
 use Rattle.case.specs.Input.{ledger_after}
 use Rattle.report.specs.declared.Taken.{Taken}
-use Rattle.report.specs.declared.Written.{Written}
 
 -- ---- lines
 
@@ -104,8 +103,8 @@ pub record TakesPart (h : Held) (input old new : List ℕ) (r : Taken) : Type 0 
 abbrev pub enough : ℕ → ℕ
 enough n = 4 * n + 4096
 
--- the printed text of the machine's run over the input, at the front of the buffer; a buffer with less than enough is untouched
-pub record Prints (input old new : List ℕ) (r : Written) : Type 0 where
-  pub whole : r.whole ≡ leb (enough (length input)) (length old)
-  pub len : r.len ≡ (when r.whole then length (printed input) else 0)
-  pub text : new ≡ (when r.whole then sets old 0 (printed input) else old)
+-- the printed text of the machine's run over the input, at the front of the buffer, whether it is whole there, and its length; a buffer with less than enough is untouched
+pub record Prints (input old new : List ℕ) (is_whole : Bool) (n : ℕ) : Type 0 where
+  pub whole : is_whole ≡ leb (enough (length input)) (length old)
+  pub len : n ≡ (when is_whole then length (printed input) else 0)
+  pub text : new ≡ (when is_whole then sets old 0 (printed input) else old)

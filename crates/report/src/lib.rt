@@ -2,7 +2,8 @@
 // member, rank, charge on contribution, on payments", in decimal, into a lent buffer.
 #![tactic(auto)]
 
-ghost use Rattle.std.specs.Prelude.{◌≡◌, [], ◌∷◌, map, ◌<◌, get_or};
+ghost use Rattle.std.specs.Prelude.{◌≡◌, [], ◌∷◌, map, length, is_some};
+ghost use Rattle.std.specs.Option.{unwrap_or};
 ghost use Rattle.lists.specs.Lists.{tab};
 ghost use Rattle.sets.specs.Set.{members};
 ghost use Rattle.machine.specs.Printed.{s_line};
@@ -21,13 +22,6 @@ pub struct Taken {
     pub written: usize,
 }
 
-// Whether a whole text was written, and its length.
-#[derive(Clone, Copy)]
-pub struct Written {
-    pub whole: bool,
-    pub len: usize,
-}
-
 // ---- lines
 
 // The p line of a pool.
@@ -35,7 +29,7 @@ pub fn write_pool(case: Case, pool: u8, out: &mut [u8], at: usize) -> usize
     ensures { ◌≡◌ {A = Placed} (result, out.new) (placed (line_text (p_line_of case pool)) out.old at) }
 {
     let numbers = [
-        pool as u64,
+        u64::from(pool),
         case.count(pool, 0),
         case.count(pool, 1),
         case.count(pool, 2),
@@ -65,20 +59,6 @@ pub fn write_loss(res: Result, out: &mut [u8], at: usize) -> usize
     lines::write_line(out, at, b'l', 8, numbers)
 }
 
-// The number at one of 32 places, and 0 behind them.
-fn number_at(numbers: [u64; 32], m: u8) -> u64
-    ensures { result ≡ get_or numbers m 0 }
-{
-    if m < 32 { numbers[m as usize] } else { 0 }
-}
-
-// The rank at one of 32 places, and 0 behind them.
-fn rank_at(ranks: [u8; 32], m: u8) -> u64
-    ensures { result ≡ get_or ranks m 0 }
-{
-    if m < 32 { ranks[m as usize] as u64 } else { 0 }
-}
-
 // The m line of a member.
 pub fn write_member(res: Result, m: u8, out: &mut [u8], at: usize) -> usize
     ensures { ◌≡◌ {A = Placed} (result, out.new) (placed (line_text (m_line_of res m)) out.old at) }
@@ -86,11 +66,12 @@ pub fn write_member(res: Result, m: u8, out: &mut [u8], at: usize) -> usize
     let ranks = res.ranks;
     let contributions = res.contributions;
     let payments = res.payments;
+    let place = usize::from(m);
     let numbers = [
-        m as u64,
-        rank_at(ranks, m),
-        number_at(contributions, m),
-        number_at(payments, m),
+        u64::from(m),
+        u64::from(ranks.get(place).copied().unwrap_or(0)),
+        contributions.get(place).copied().unwrap_or(0),
+        payments.get(place).copied().unwrap_or(0),
         0,
         0,
         0,
@@ -103,7 +84,7 @@ pub fn write_member(res: Result, m: u8, out: &mut [u8], at: usize) -> usize
 fn write_answer(tag: u8, answer: u8, out: &mut [u8], at: usize) -> usize
     ensures { ◌≡◌ {A = Placed} (result, out.new) (placed (line_text (s_line (tag ∷ []) answer)) out.old at) }
 {
-    let numbers = [tag as u64, answer as u64, 0, 0, 0, 0, 0, 0];
+    let numbers = [u64::from(tag), u64::from(answer), 0, 0, 0, 0, 0, 0];
     lines::write_line(out, at, b's', 2, numbers)
 }
 
@@ -115,12 +96,9 @@ fn write_pools(case: Case, out: &mut [u8], at: usize) -> usize
 {
     let book = case.book;
     let pools = book.pools;
-    let given = pools.given;
     let mut to = at;
-    let mut pool: u8 = 0;
-    while pool < given {
+    for pool in 0..pools.given {
         to = write_pool(case, pool, out, to);
-        pool += 1;
     }
     to
 }
@@ -130,10 +108,7 @@ fn write_members(res: Result, set: u32, out: &mut [u8], at: usize) -> usize
     ensures { ◌≡◌ {A = Placed} (result, out.new) (placed_lines (map (m_line_of res) (members set)) out.old at) }
 {
     let mut to = at;
-    let mut left = set;
-    while left != 0 {
-        let m = sets::next(left) as u8;
-        left = sets::without_least(left);
+    for m in sets::members_of(set) {
         to = write_member(res, m, out, to);
     }
     to
@@ -174,38 +149,16 @@ pub fn write_end(held: Held, out: &mut [u8], at: usize) -> usize
 
 // ---- a part of an input
 
-// The byte at a place, and 0 behind the last.
-fn byte_at(bytes: &[u8], at: usize) -> u8
-    ensures { result ≡ get_or bytes.now at 0 }
-{
-    if at < bytes.len() { bytes[at] } else { 0 }
-}
-
-// The number at a place, and 0 behind the last.
-fn end_at(ends: &[usize], at: usize) -> usize
-    ensures { result ≡ get_or ends.now at 0 }
-{
-    if at < ends.len() { ends[at] } else { 0 }
-}
-
-// The s lines of the first n fields of an input, from where they end and their answers.
-fn write_answers(
-    input: &[u8],
-    ends: &[usize],
-    answers: &[u8],
-    n: usize,
-    out: &mut [u8],
-    at: usize,
-) -> usize
-    ensures { ◌≡◌ {A = Placed} (result, out.new) (placed_lines (tab n (answer_line input.now ends.now answers.now)) out.old at) }
+// The s lines of the fields at an input's front, from where they end and their answers.
+fn write_answers(input: &[u8], ends: &[usize], answers: &[u8], out: &mut [u8], at: usize) -> usize
+    requires { length ends.now ≡ length answers.now }
+    ensures { ◌≡◌ {A = Placed} (result, out.new) (placed_lines (tab (length ends.now) (answer_line input.now ends.now answers.now)) out.old at) }
 {
     let mut to = at;
-    let mut start: usize = 0;
-    let mut k: usize = 0;
-    while k < n {
-        to = write_answer(byte_at(input, start), byte_at(answers, k), out, to);
-        start = end_at(ends, k);
-        k += 1;
+    let mut start = 0;
+    for (k, end) in ends.iter().enumerate() {
+        to = write_answer(input.get(start).copied().unwrap_or(0), answers[k], out, to);
+        start = *end;
     }
     to
 }
@@ -234,7 +187,7 @@ pub fn take_part(held: Held, input: &[u8], out: &mut [u8]) -> Taken
         if n == 0 {
             break;
         }
-        written = write_answers(rest, &ends, &answers, n, out, written);
+        written = write_answers(rest, &ends[..n], &answers[..n], out, written);
         next = front.held;
         used += front.used;
     }
@@ -257,28 +210,17 @@ pub fn write_cut(rest: &[u8], out: &mut [u8], at: usize) -> usize
     write_answer(rest[0], 1, out, at)
 }
 
-// The text of a whole input at the front of the buffer. A buffer with less than four times the input's bytes and 4,096 is untouched.
-pub fn print(input: &[u8], out: &mut [u8]) -> Written
-    ensures { Prints input.now out.old out.new result }
+// The text of a whole input at the front of the buffer, and its length. A buffer with less than four times the input's bytes and 4,096 is untouched.
+pub fn print(input: &[u8], out: &mut [u8]) -> Option<usize>
+    ensures { Prints input.now out.old out.new (is_some result) (unwrap_or result 0) }
 {
-    if out.len() < 4096 {
-        return Written {
-            whole: false,
-            len: 0,
-        };
-    }
-    if (out.len() - 4096) / 4 < input.len() {
-        return Written {
-            whole: false,
-            len: 0,
-        };
+    let room = out.len().checked_sub(4096)?;
+    if room / 4 < input.len() {
+        return None;
     }
     let taken = take_part(Held::none(), input, out);
     let used = taken.used;
     let held = taken.held;
     let to = write_cut(&input[used..], out, taken.written);
-    Written {
-        whole: true,
-        len: write_end(held, out, to),
-    }
+    Some(write_end(held, out, to))
 }

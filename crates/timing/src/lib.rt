@@ -1,7 +1,7 @@
 // A call timed by itself: the calls before it are taken once, and then it is taken again and again from the case that they lead to (bench/src/bin/calls.rs).
 #![tactic(auto)]
 
-ghost use Rattle.std.specs.Prelude.{◌≡◌, map, set};
+ghost use Rattle.std.specs.Prelude.{◌≡◌, map};
 ghost use Rattle.case.specs.Cases.{no_held};
 ghost use Rattle.case.specs.Input.{ledger_after};
 ghost use Rattle.input.specs.Strings.{strings_in, in_front};
@@ -10,33 +10,15 @@ ghost use Rattle.timing.specs.Numbers.{reading_of, number_of};
 use book::Book;
 use case::Held;
 
-// An answer as a wider number.
-fn wide(answer: u8) -> u64
-    ensures { result ≡ answer }
-{
-    answer as u64
-}
-
 // What is read of a book: the open units of pool 0; of the result, the smaller of the two charges of member 0.
 fn reading(book: Book, res: bool) -> u64
     ensures { result ≡ reading_of book res }
 {
     if res {
         let given = book.result();
-        let contributions = given.contributions;
-        let payments = given.payments;
-        return lists::smaller(contributions[0], payments[0]);
+        return given.contributions[0].min(given.payments[0]);
     }
-    lists::wide16(book.open_units(0))
-}
-
-// Writes a number, where there is room.
-fn put(numbers: &mut [u64], k: usize, n: u64)
-    ensures { numbers.new ≡ set numbers.old k n }
-{
-    if k < numbers.len() {
-        numbers[k] = n;
-    }
+    u64::from(book.open_units(0))
 }
 
 // Byte strings, each taken as a call from the same case: of a call that is declined the answer, and else a reading of the case after it. The loop is that of
@@ -48,21 +30,17 @@ fn each(held: Held, bytes: &[u8], ends: &[usize], res: bool, numbers: &mut [u64]
     let kept = held.case;
     let mut case = held.case;
     let mut at: usize = 0;
-    let mut k: usize = 0;
-    while k < ends.len() {
-        let end = input::cut_at(at, bytes.len(), ends[k]);
+    for (k, place) in ends.iter().enumerate() {
+        let end = input::cut_at(at, bytes.len(), *place);
         let call = wire::read_call(&bytes[at..end]);
         let answer = case::answer_to(present, case, call);
-        let place = k;
         at = end;
-        k += 1;
         if answer == 0 {
             case = case::after(case, call);
-            let book = case.book;
-            put(numbers, place, reading(book, res));
+            case::put(numbers, k, reading(case.book, res));
             case = kept;
         } else {
-            put(numbers, place, wide(answer));
+            case::put(numbers, k, u64::from(answer));
         }
     }
 }

@@ -1,13 +1,14 @@
--- `case::replay` meets its contract. The invariant is `Going`; its laws begin, keep and end it. Assumes nothing.
 use mathlib.Core.Path.{sym, ◌∙◌}
 use Prim.Native.Nat.{◌≤◌}
 use native.Mathlib.Omega.{arith}
 use lib.ListN.{length, get_or}
 use Rattle.input.proofs.Strings.{cut-from, cut-to}
+use Rattle.case.specs.declared.Held.{Held}
 use Rattle.case.proofs.Running.{asked-declined, asked-accepted}
 use Rattle.case.proofs.Replaying.{starts, goes, replays}
 use borrow.Author.Rules.{rules}
 use Rattle.case.proofs.replay.Goals as goal
+use Rattle.case.proofs.replay.Goals.{then-answer-eq0, else-answer-eq0}
 
 pub loop-k-init : goal.loop-k-init
 loop-k-init c = starts _ _ _ _
@@ -21,14 +22,19 @@ slice_bounds-read_call-start c = let s = c.args in let l = c.loop-k in let w : l
 pub slice_bounds-read_call-end : goal.slice_bounds-read_call-end
 slice_bounds-read_call-end c = let s = c.args in let l = c.loop-k in let w : c.cut_at-end.result ≤ length s.bytes.now = omega (arith, cut-to l.at (length s.bytes.now) (get_or s.ends.now l.k 0) l.invariant.place, c.cut_at-end.ensures) in search (rules, w)
 
-pub overflow_add-k : goal.overflow_add-k
-overflow_add-k c = omega (arith, c.loop-k.invariant.turns)
-
-pub loop-k-preserved-then-answer-eq0 : goal.loop-k-preserved-then-answer-eq0
-loop-k-preserved-then-answer-eq0 c = let l = c.loop-k in goes _ _ _ _ _ _ _ _ l.invariant c.loop-k-test.true _ c.cut_at-end.ensures _ (asked-accepted (record { present = l.present; case = l.case }) _ _ _ c.answer_to-answer.ensures c.read_call-call.ensures c.if-answer-eq0.true _ (c.after-case.ensures l.present (sym c.answer_to-answer.ensures ∙ c.if-answer-eq0.true))) _ c.put.ensures
-
 pub loop-k-preserved : goal.loop-k-preserved
-loop-k-preserved c = let l = c.loop-k in goes _ _ _ _ _ _ _ _ l.invariant c.loop-k-test.true _ c.cut_at-end.ensures _ (asked-declined (record { present = l.present; case = l.case }) _ _ _ c.answer_to-answer.ensures c.read_call-call.ensures c.if-answer-eq0.false) _ c.put.ensures
+loop-k-preserved c =
+    let l = c.loop-k in
+    let held : Held = record { present = l.present; case = l.case } in
+    elim c.if-answer-eq0.branch [
+      | then-answer-eq0 w ↦ rw (w.present-is, w.case-is)
+          (goes _ _ _ _ _ _ _ _ l.invariant c.loop-k-test.true _ c.cut_at-end.ensures _
+          (asked-accepted held _ _ _ c.answer_to-answer.ensures c.read_call-call.ensures w.if-answer-eq0.true _ (w.after-case.ensures l.present (sym c.answer_to-answer.ensures ∙ w.if-answer-eq0.true))) _
+          c.put.ensures)
+      | else-answer-eq0 w ↦ rw (w.present-is, w.case-is)
+          (goes _ _ _ _ _ _ _ _ l.invariant c.loop-k-test.true _ c.cut_at-end.ensures _
+          (asked-declined held _ _ _ c.answer_to-answer.ensures c.read_call-call.ensures w.if-answer-eq0.false) _ c.put.ensures)
+    ]
 
 pub shape_of-answers : goal.shape_of-answers
 shape_of-answers c = c.loop-k.invariant.size

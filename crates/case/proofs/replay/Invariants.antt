@@ -1,11 +1,6 @@
 -- `case::replay` meets its contract. The invariant is `Going`; its laws begin, keep and end it. Assumes nothing.
-use Prim.Native.Nat.{◌-◌}
-use lib.ListN.{length}
 use Rattle.case.proofs.Replaying.{Going}
 use Rattle.case.proofs.replay.Given as goal
 
 abbrev pub invariant-loop-k : goal.invariant-loop-k
 invariant-loop-k l = Going (record { present = l.initial.present; case = l.initial.case }) l.bytes l.ends l.initial.answers l.answers (record { present = l.present; case = l.case }) l.at l.k
-
-abbrev pub decreases-loop-k : goal.decreases-loop-k
-decreases-loop-k l = length l.ends - l.k

@@ -1,4 +1,3 @@
--- `case::run` meets its contract. The invariant is `Going`; its laws begin, keep and end it. The measure is the number of bytes left. Assumes nothing.
 use mathlib.Core.Path.{refl, ap, ◌∙◌}
 use Prim.Native.Nat.{ℕ, ◌≤◌, ◌<◌}
 use native.Mathlib.Omega.{arith}
@@ -47,7 +46,7 @@ returns-after-loop-at c =
     let a = c.args in
     let l = c.loop-at in
     let stop = none-behind a.input.now a.answers.now l.at l.count c.loop-at-test.false in
-    runs _ _ _ _ (each_of (λ (b : ℕ). b < 256) a.input.now 0 (λ i h. omega (arith, c.shared_slice_known-1.given i)))
+    runs _ _ _ _ (each_of (λ (b : ℕ). b < 256) a.input.now 0 (λ i h. omega (arith, c.type_inv.input i)))
     (counts_all _ _ _ _ _ _ l.invariant.0 stop) (answers-all _ _ _ _ _ _ l.invariant.0 stop) (holds-all _ _ _ _ _ _ l.invariant.0 stop)
 
 pub shape_of-answers-then-front-eq0 : goal.shape_of-answers-then-front-eq0
@@ -63,5 +62,5 @@ returns-then-front-eq0 c =
     let taken = taken-rest _ _ _ _ _ _ l.invariant.0 _ _ _ _ c.take_fields-front.ensures in
     let stop = none-taken _ _ _ _ _ _ l.invariant.0 _ _ _ _ taken (omega (arith, l.invariant.1)) c.if-front-eq0.true in
     rw (none_written _ _ _ _ _ _ l.invariant.0 _ _ _ _ taken c.if-front-eq0.true)
-    (runs _ _ _ _ (each_of (λ (b : ℕ). b < 256) a.input.now 0 (λ i h. omega (arith, c.shared_slice_known-1.given i)))
+    (runs _ _ _ _ (each_of (λ (b : ℕ). b < 256) a.input.now 0 (λ i h. omega (arith, c.type_inv.input i)))
     (counts_all _ _ _ _ _ _ l.invariant.0 stop) (answers-all _ _ _ _ _ _ l.invariant.0 stop) (holds-all _ _ _ _ _ _ l.invariant.0 stop))

@@ -1,10 +1,6 @@
 -- `exports::ask` meets its contract. The invariant: the questions passed are answered in front. Assumes nothing.
-use Prim.Native.Nat.{◌-◌}
 use Rattle.exports.proofs.Asking.{Asking}
 use Rattle.exports.proofs.ask.Given as goal
 
 abbrev pub invariant-loop-k : goal.invariant-loop-k
 invariant-loop-k l = Asking l.held l.members l.pools l.prices l.initial.units l.units l.n l.k
-
-abbrev pub decreases-loop-k : goal.decreases-loop-k
-decreases-loop-k l = l.n - l.k

@@ -9,5 +9,5 @@ pub returns : goal.returns
 returns c =
     let a = c.args in
     called a.bytes.now a.ends.now
-    (each_of (λ (b : ℕ). b < 256) a.bytes.now 0 (λ i h. omega (arith, c.shared_slice_known-1.given i)))
-    _ _ _ (rw c.none.ensures at c.replay-held.ensures) _ c.show.ensures
+    (each_of (λ (b : ℕ). b < 256) a.bytes.now 0 (λ i h. omega (arith, c.type_inv.bytes i)))
+    _ _ _ (rw c.none.ensures at c.replay.ensures) _ c.show.ensures

@@ -9,5 +9,5 @@ pub returns : goal.returns
 returns c =
     let a = c.args in
     held_after a.bytes.now a.ends.now
-    (each_of (λ (b : ℕ). b < 256) a.bytes.now 0 (λ i h. omega (arith, c.shared_slice_known-1.given i)))
-    _ c.held_after-held.ensures a.members.now a.pools.now a.prices.now a.units.now _ c.ask.ensures
+    (each_of (λ (b : ℕ). b < 256) a.bytes.now 0 (λ i h. omega (arith, c.type_inv.bytes i)))
+    _ c.held_after.ensures a.members.now a.pools.now a.prices.now a.units.now _ c.ask.ensures

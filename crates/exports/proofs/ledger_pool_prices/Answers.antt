@@ -14,5 +14,5 @@ returns c =
     to_z-of_z {w = w64} {z = c.prices_in.result} (record { sfits = c.prices_in.type_inv })
     ∙ c.prices_in.ensures
     ∙ prices-after a.bytes.now a.ends.now
-    (each_of (λ (b : ℕ). b < 256) a.bytes.now 0 (λ i h. omega (arith, c.shared_slice_known-1.given i)))
-    _ c.held_after-held.ensures a.pool
+    (each_of (λ (b : ℕ). b < 256) a.bytes.now 0 (λ i h. omega (arith, c.type_inv.bytes i)))
+    _ c.held_after.ensures a.pool

@@ -6,11 +6,8 @@ use Rattle.input.proofs.Fronts.{rest_all}
 use Rattle.report.proofs.Printing.{prints-none, prints}
 use Rattle.report.proofs.print.Goals as goal
 
-pub returns-then-out-lt4096 : goal.returns-then-out-lt4096
-returns-then-out-lt4096 c = prints-none _ _ (omega arith)
-
-pub returns-then-out-input : goal.returns-then-out-input
-returns-then-out-input c = prints-none _ _ (omega arith)
+pub returns-then-room-input : goal.returns-then-room-input
+returns-then-room-input c = prints-none _ _ (omega (arith, c.in_ok-room.ensures))
 
 pub returns : goal.returns
 returns c =
@@ -18,8 +15,8 @@ returns c =
     let input = a.input.now in
     let t = c.take_part-taken in
     prints input a.out.now _ _ _ t.result c.write_cut-to.result _
-    (each_of (λ (b : ℕ). b < 256) input 0 (λ i h. omega (arith, c.shared_slice_known-1.given i)))
-    (omega (arith, c.if-out-lt4096.false, c.if-out-input.false))
+    (each_of (λ (b : ℕ). b < 256) input 0 (λ i h. omega (arith, c.type_inv.input i)))
+    (omega (arith, c.in_ok-room.ensures, c.if-room-input.false))
     (rw c.none.ensures at t.ensures)
     (rw (rest_all input t.result.used) at c.write_cut-to.ensures)
     c.write_end.ensures

@@ -8,5 +8,5 @@ use Rattle.report.proofs.write_answer.Goals as goal
 pub returns : goal.returns
 returns c =
     let a = c.args in
-    c.write_line.ensures
+    rw (c.from.ensures, c.from-2.ensures) at c.write_line.ensures
     ∙ ap (λ (l : Line). placed (line_text l) a.out.now a.at) (s-line a.tag a.answer)

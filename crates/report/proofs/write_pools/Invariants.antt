@@ -1,6 +1,5 @@
 -- `report::write_pools` meets its contract. The invariant: the lines left, put behind those that are put, give the whole. Assumes nothing.
 use mathlib.Core.Path.{◌≡◌}
-use Prim.Native.Nat.{◌-◌, ◌≤◌}
 use lib.ListN.{length}
 use Rattle.report.proofs.Placing.{tab_from}
 use Rattle.lists.specs.Lists.{tab}
@@ -9,8 +8,5 @@ use Rattle.report.proofs.write_pools.Given as goal
 
 abbrev pub invariant-loop-pool : goal.invariant-loop-pool
 invariant-loop-pool l =
-    (l.pool ≤ l.given) × (length l.out ≡ length l.initial.out)
-    × (placed_lines (tab_from l.pool l.given (p_line_of l.case)) l.out l.to ≡ placed_lines (tab l.given (p_line_of l.case)) l.initial.out l.at)
-
-abbrev pub decreases-loop-pool : goal.decreases-loop-pool
-decreases-loop-pool l = l.given - l.pool
+    (length l.out ≡ length l.initial.out)
+    × (placed_lines (tab_from l.pool l.pool-end (p_line_of l.case)) l.out l.to ≡ placed_lines (tab l.pool-end (p_line_of l.case)) l.initial.out l.at)

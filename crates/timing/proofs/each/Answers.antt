@@ -7,6 +7,7 @@ use Rattle.input.proofs.Strings.{cut-from, cut-to}
 use Rattle.timing.proofs.Turns.{declined, accepted, starts, goes, all_told}
 use borrow.Author.Rules.{rules}
 use Rattle.timing.proofs.each.Goals as goal
+use Rattle.timing.proofs.each.Goals.{then-answer-eq0, else-answer-eq0}
 
 pub loop-k-init : goal.loop-k-init
 loop-k-init c = starts _ _ _ _ _
@@ -31,21 +32,18 @@ slice_bounds-read_call-end c =
     let w : c.cut_at-end.result ≤ length a.bytes.now = omega (arith, cut-to l.at (length a.bytes.now) (get_or a.ends.now l.k 0) l.invariant.place, c.cut_at-end.ensures) in
     search (rules, w)
 
-pub overflow_add-k : goal.overflow_add-k
-overflow_add-k c = omega (arith, c.loop-k.invariant.turns)
-
-pub loop-k-preserved-then-answer-eq0 : goal.loop-k-preserved-then-answer-eq0
-loop-k-preserved-then-answer-eq0 c =
-    let l = c.loop-k in
-    goes _ _ _ _ _ _ _ _ _ l.invariant c.loop-k-test.true _ c.cut_at-end.ensures _
-    (accepted _ _ _ l.invariant.same _ _ _ c.answer_to-answer.ensures c.read_call-call.ensures _ c.if-answer-eq0.true _
-    (c.after-case.ensures _ (sym c.answer_to-answer.ensures ∙ c.if-answer-eq0.true)) c.reading.ensures) _ c.put.ensures _ refl
-
 pub loop-k-preserved : goal.loop-k-preserved
 loop-k-preserved c =
     let l = c.loop-k in
-    goes _ _ _ _ _ _ _ _ _ l.invariant c.loop-k-test.true _ c.cut_at-end.ensures _
-    (declined _ _ _ l.invariant.same _ _ _ c.answer_to-answer.ensures c.read_call-call.ensures _ c.if-answer-eq0.false c.wide.ensures) _ c.put-else-answer-eq0.ensures _ l.invariant.same
+    elim c.if-answer-eq0.branch [
+      | then-answer-eq0 w ↦ rw w.case-is
+          (goes _ _ _ _ _ _ _ _ _ l.invariant c.loop-k-test.true _ c.cut_at-end.ensures _
+          (accepted _ _ _ l.invariant.same _ _ _ c.answer_to-answer.ensures c.read_call-call.ensures _ w.if-answer-eq0.true _
+          (w.after-case.ensures _ (sym c.answer_to-answer.ensures ∙ w.if-answer-eq0.true)) w.reading.ensures) _ (w.numbers-is ∙ w.put.ensures) _ refl)
+      | else-answer-eq0 w ↦ rw w.case-is
+          (goes _ _ _ _ _ _ _ _ _ l.invariant c.loop-k-test.true _ c.cut_at-end.ensures _
+          (declined _ _ _ l.invariant.same _ _ _ c.answer_to-answer.ensures c.read_call-call.ensures _ w.if-answer-eq0.false w.from.ensures) _ (w.numbers-is ∙ w.put-else-answer-eq0.ensures) _ l.invariant.same)
+    ]
 
 pub shape_of-numbers : goal.shape_of-numbers
 shape_of-numbers c = c.loop-k.invariant.size

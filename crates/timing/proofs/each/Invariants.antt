@@ -1,11 +1,6 @@
 -- `timing::each` meets its contract. The invariant is `Going`; its laws begin, keep and end it. Assumes nothing.
-use Prim.Native.Nat.{◌-◌}
-use lib.ListN.{length}
 use Rattle.timing.proofs.Turns.{Going}
 use Rattle.timing.proofs.each.Given as goal
 
 abbrev pub invariant-loop-k : goal.invariant-loop-k
 invariant-loop-k l = Going (record { present = l.present; case = l.kept }) l.res l.bytes l.ends l.initial.numbers l.numbers l.case l.at l.k
-
-abbrev pub decreases-loop-k : goal.decreases-loop-k
-decreases-loop-k l = length l.ends - l.k

@@ -12,7 +12,7 @@ use Rattle.case.proofs.Held.prices_in.Goals as goal
 pub returns-then-self : goal.returns-then-self
 unfolding pool_prices_in
 returns-then-self c =
-    ap (λ (z : ℤ). to_z w64 (of_z w64 z)) c.difference.ensures
+    ap (λ (z : ℤ). to_z w64 (of_z w64 z)) (rw (c.from.ensures, c.from-then-self.ensures) at c.difference.ensures)
     ∙ to_z-of_z (sub-fits c.prices_in.result 1_000_000_000 (omega arith) (omega arith))
     ∙ rw (c.if-self.true, c.prices_in.ensures)
 
