@@ -20,221 +20,178 @@ pub const UNIT_LIMIT: u64 = 1_000;
 
 pub const PRICE_LIMIT: u32 = 2_000_000;
 
-// The units of the bid at place i, if its price is t or above, and 0 if it is not.
-fn counted_at(units: &[u64], prices: &[u32], t: u32, i: usize) -> u64
-    requires { (i < length units.now) × (i < length prices.now) }
-    ensures { result ≡ counted_at units.now prices.now t i }
-{
-    lists::number_if(t <= prices[i], units[i])
-}
-
-// The units bid from the price t on.
-fn units_from(units: &[u64], prices: &[u32], t: u32) -> u64
-    requires { BidsFit units.now prices.now }
-    ensures { result ≡ from units.now prices.now t }
-{
-    let mut sum: u64 = 0;
-    let mut i: usize = 0;
-    while i < units.len() {
-        sum += counted_at(units, prices, t, i);
-        i += 1;
-    }
-    sum
-}
-
-// The edge, found by halving the range of prices.
-fn edge(open_units: u64, reserve: u32, units: &[u64], prices: &[u32]) -> u32
-    requires { Ready open_units reserve units.now prices.now }
-    ensures { Edge open_units reserve units.now prices.now result }
-{
-    let mut low = reserve;
-    let mut high = PRICE_LIMIT + 1;
-    while low < high {
-        let mid = low + (high - low) / 2;
-        if units_from(units, prices, mid) <= open_units {
-            high = mid;
-        } else {
-            low = mid + 1;
-        }
-    }
-    low
-}
-
-// The units of the bid at place i, if it is valid and its price is one below t, and 0 if it is not.
-fn below_at(reserve: u32, units: &[u64], prices: &[u32], t: u32, i: usize) -> u64
-    requires { (i < length units.now) × (i < length prices.now) × (get_or prices.now i 0 ≤ price_limit) }
-    ensures { result ≡ below_at reserve units.now prices.now t i }
-{
-    let price = prices[i];
-    lists::number_if(lists::both(reserve <= price, price + 1 == t), units[i])
-}
-
-// Writes the weights by which the balance is split.
-fn weigh(reserve: u32, units: &[u64], prices: &[u32], t: u32, weights: &mut [u64])
-    requires bids_fit { BidsFit units.now prices.now }
-    requires weights_len { length weights.old ≡ length units.now }
-    ensures { weights.new ≡ below reserve units.now prices.now t }
-{
-    let mut i: usize = 0;
-    while i < units.len() {
-        weights[i] = below_at(reserve, units, prices, t, i);
-        i += 1;
-    }
-}
-
-// The units of the bid at place i, if its price is t or above, and its share if it is not.
-fn settled_at(units: &[u64], prices: &[u32], t: u32, i: usize, share: u64) -> u64
-    requires { (i < length units.now) × (i < length prices.now) }
-    ensures { result ≡ cond (leb t (get_or prices.now i 0)) (get_or units.now i 0) share }
-{
-    if t <= prices[i] { units[i] } else { share }
-}
-
-// Gives the bids at the price t and above all their units; the others keep their shares.
-fn settle(units: &[u64], prices: &[u32], t: u32, won: &mut [u64])
-    requires { (length prices.now ≡ length units.now) × (length won.old ≡ length units.now) }
-    ensures { won.new ≡ settled units.now prices.now t won.old }
-{
-    let mut i: usize = 0;
-    while i < units.len() {
-        won[i] = settled_at(units, prices, t, i, won[i]);
-        i += 1;
-    }
-}
-
-// Writes what each bid wins, with room for the weights lent by the caller.
-fn allot_with(
-    open_units: u64,
-    reserve: u32,
-    units: &[u64],
-    prices: &[u32],
-    weights: &mut [u64],
-    won: &mut [u64],
-)
-    requires ready { Ready open_units reserve units.now prices.now }
-    requires weights_len { (length weights.old ≡ length units.now) × (length won.old ≡ length units.now) }
-    ensures { won.new ≡ allot open_units reserve units.now prices.now }
-{
-    let t = edge(open_units, reserve, units, prices);
-    let balance = open_units - units_from(units, prices, t);
-    weigh(reserve, units, prices, t, weights);
-    splitting::split(balance, weights, won);
-    settle(units, prices, t, won);
-}
-
-// Writes what each bid wins, within the limits.
-fn allot_within(open_units: u64, reserve: u32, units: &[u64], prices: &[u32], won: &mut [u64])
-    requires ready { Ready open_units reserve units.now prices.now }
-    requires won_len { length won.old ≡ length units.now }
-    ensures { won.new ≡ allot open_units reserve units.now prices.now }
-{
-    let n = units.len();
-    let mut weights = [0u64; PLACE_LIMIT];
-    allot_with(open_units, reserve, units, prices, &mut weights[..n], won);
-}
-
 // Whether each bid has from `least` to UNIT_LIMIT units.
 fn units_fit(least: u64, units: &[u64]) -> bool
     ensures { result ≡ all (between least unit_limit) units.now }
 {
-    let mut i: usize = 0;
-    while i < units.len() {
-        let fits = lists::both(least <= units[i], units[i] <= UNIT_LIMIT);
-        if !fits {
-            return false;
-        }
-        i += 1;
-    }
-    true
+    units.iter().all(|n| least <= *n && *n <= UNIT_LIMIT)
 }
 
 // Whether each price is within its limit.
 fn prices_fit(prices: &[u32]) -> bool
     ensures { result ≡ all price_ok prices.now }
 {
-    let mut i: usize = 0;
-    while i < prices.len() {
-        if PRICE_LIMIT < prices[i] {
-            return false;
+    prices.iter().all(|p| *p <= PRICE_LIMIT)
+}
+
+// The open units of a pool, its reserve, and the bids on them.
+#[derive(Clone, Copy)]
+struct Auction<'a> {
+    open_units: u64,
+    reserve: u32,
+    units: &'a [u64],
+    prices: &'a [u32],
+}
+
+impl<'a> Auction<'a> {
+    // The units bid from the price t on.
+    fn units_from(self, t: u32) -> u64
+        requires { BidsFit self.units.now self.prices.now }
+        ensures { result ≡ from self.entry.units.now self.entry.prices.now t }
+    {
+        let mut sum = 0;
+        for (i, n) in self.units.iter().enumerate() {
+            sum += lists::number_if(t <= self.prices[i], *n);
         }
-        i += 1;
+        sum
     }
-    true
-}
 
-// Why an auction with n counts is declined, or 0.
-fn refusal(
-    least: u64,
-    places: usize,
-    open_units: u64,
-    reserve: u32,
-    units: &[u64],
-    prices: &[u32],
-    n: usize,
-) -> u8
-    ensures { result ≡ refusal least places open_units reserve units.now prices.now n }
-{
-    let paired = lists::both(prices.len() == units.len(), n == units.len());
-    let lengths = lists::both(paired, n <= places);
-    let numbers = lists::both(open_units <= UNIT_LIMIT, reserve <= PRICE_LIMIT);
-    let sized = lists::both(numbers, units_fit(least, units));
-    let ranges = lists::both(sized, prices_fit(prices));
-    lists::decline_if(!lengths, 1, lists::decline_if(!ranges, 5, 0))
-}
-
-// Runs an auction of at most `places` bids of at least `least` units, or answers why not and leaves the counts untouched.
-fn run(
-    least: u64,
-    places: usize,
-    open_units: u64,
-    reserve: u32,
-    units: &[u64],
-    prices: &[u32],
-    counts: &mut [u64],
-) -> u8
-    requires { places ≤ place_limit }
-    ensures { ◌≡◌ {A = Answer} (result, counts.new) (allot_into least places open_units reserve units.now prices.now counts.old) }
-{
-    let why = refusal(
-        least,
-        places,
-        open_units,
-        reserve,
-        units,
-        prices,
-        counts.len(),
-    );
-    if why == 0 {
-        allot_within(open_units, reserve, units, prices, counts);
+    // The edge, found by halving the range of prices.
+    fn edge(self) -> u32
+        requires { Ready self.open_units self.reserve self.units.now self.prices.now }
+        ensures { Edge self.entry.open_units self.entry.reserve self.entry.units.now self.entry.prices.now result }
+    {
+        let mut low = self.reserve;
+        let mut high = PRICE_LIMIT + 1;
+        while low < high {
+            let mid = low + (high - low) / 2;
+            if self.units_from(mid) <= self.open_units {
+                high = mid;
+            } else {
+                low = mid + 1;
+            }
+        }
+        low
     }
-    why
+
+    // The units of the bid at place i, if it is valid and its price is one below t, and 0 if it is not.
+    fn below_at(self, t: u32, i: usize) -> u64
+        requires { (i < length self.units.now) × (i < length self.prices.now) × (get_or self.prices.now i 0 ≤ price_limit) }
+        ensures { result ≡ below_at self.entry.reserve self.entry.units.now self.entry.prices.now t i }
+    {
+        let price = self.prices[i];
+        lists::number_if(
+            lists::both(self.reserve <= price, price + 1 == t),
+            self.units[i],
+        )
+    }
+
+    // Writes the weights by which the balance is split.
+    fn weigh(self, t: u32, weights: &mut [u64])
+        requires bids_fit { BidsFit self.units.now self.prices.now }
+        requires weights_len { length weights.old ≡ length self.units.now }
+        ensures { weights.new ≡ below self.entry.reserve self.entry.units.now self.entry.prices.now t }
+    {
+        for (i, weight) in weights.iter_mut().enumerate() {
+            *weight = self.below_at(t, i);
+        }
+    }
+
+    // The units of the bid at place i, if its price is t or above, and its share if it is not.
+    fn settled_at(self, t: u32, i: usize, share: u64) -> u64
+        requires { (i < length self.units.now) × (i < length self.prices.now) }
+        ensures { result ≡ cond (leb t (get_or self.entry.prices.now i 0)) (get_or self.entry.units.now i 0) share }
+    {
+        if t <= self.prices[i] {
+            self.units[i]
+        } else {
+            share
+        }
+    }
+
+    // Gives the bids at the price t and above all their units; the others keep their shares.
+    fn settle(self, t: u32, won: &mut [u64])
+        requires { (length self.prices.now ≡ length self.units.now) × (length won.old ≡ length self.units.now) }
+        ensures { won.new ≡ settled self.entry.units.now self.entry.prices.now t won.old }
+    {
+        for (i, share) in won.iter_mut().enumerate() {
+            *share = self.settled_at(t, i, *share);
+        }
+    }
+
+    // Writes what each bid wins, with room for the weights lent by the caller.
+    fn allot_with(self, weights: &mut [u64], won: &mut [u64])
+        requires ready { Ready self.open_units self.reserve self.units.now self.prices.now }
+        requires weights_len { (length weights.old ≡ length self.units.now) × (length won.old ≡ length self.units.now) }
+        ensures { won.new ≡ allot self.entry.open_units self.entry.reserve self.entry.units.now self.entry.prices.now }
+    {
+        let t = self.edge();
+        let balance = self.open_units - self.units_from(t);
+        self.weigh(t, weights);
+        splitting::split(balance, weights, won);
+        self.settle(t, won);
+    }
+
+    // Writes what each bid wins, within the limits.
+    fn allot_within(self, won: &mut [u64])
+        requires ready { Ready self.open_units self.reserve self.units.now self.prices.now }
+        requires won_len { length won.old ≡ length self.units.now }
+        ensures { won.new ≡ allot self.entry.open_units self.entry.reserve self.entry.units.now self.entry.prices.now }
+    {
+        let n = self.units.len();
+        let mut weights = [0; PLACE_LIMIT];
+        self.allot_with(&mut weights[..n], won);
+    }
+
+    // Why an auction with n counts is declined, or 0.
+    fn refusal(self, least: u64, places: usize, n: usize) -> u8
+        ensures { result ≡ refusal least places self.entry.open_units self.entry.reserve self.entry.units.now self.entry.prices.now n }
+    {
+        let paired = lists::both(self.prices.len() == self.units.len(), n == self.units.len());
+        let lengths = lists::both(paired, n <= places);
+        let numbers = lists::both(self.open_units <= UNIT_LIMIT, self.reserve <= PRICE_LIMIT);
+        let sized = lists::both(numbers, units_fit(least, self.units));
+        let ranges = lists::both(sized, prices_fit(self.prices));
+        lists::decline_if(!lengths, 1, lists::decline_if(!ranges, 5, 0))
+    }
+
+    // Runs an auction of at most `places` bids of at least `least` units, or answers why not and leaves the counts untouched.
+    fn run(self, least: u64, places: usize, counts: &mut [u64]) -> u8
+        requires { places ≤ place_limit }
+        ensures { ◌≡◌ {A = Answer} (result, counts.new) (allot_into least places self.entry.open_units self.entry.reserve self.entry.units.now self.entry.prices.now counts.old) }
+    {
+        let why = self.refusal(least, places, counts.len());
+        if why == 0 {
+            self.allot_within(counts);
+        }
+        why
+    }
 }
 
 // Writes what each bid wins of the open units. A bid of 0 units is as if it were not there.
 pub fn allot(open_units: u64, reserve: u32, units: &[u64], prices: &[u32], won: &mut [u64]) -> u8
     ensures { ◌≡◌ {A = Answer} (result, won.new) (allot_into 0 place_limit open_units reserve units.now prices.now won.old) }
 {
-    run(0, PLACE_LIMIT, open_units, reserve, units, prices, won)
+    let auction = Auction {
+        open_units,
+        reserve,
+        units,
+        prices,
+    };
+    auction.run(0, PLACE_LIMIT, won)
 }
 
 // The auction run alone, over flat runs of units and prices.
 pub fn alone(open_units: u64, reserve: u32, units: &[u64], prices: &[u32], counts: &mut [u64]) -> u8
     ensures { ◌≡◌ {A = Answer} (result, counts.new) (allot_into 1 bid_limit open_units reserve units.now prices.now counts.old) }
 {
-    run(1, BID_LIMIT, open_units, reserve, units, prices, counts)
-}
-
-// The same for C.
-pub fn ledger_auction(
-    open_units: u64,
-    reserve: u32,
-    units: &[u64],
-    prices: &[u32],
-    counts: &mut [u64],
-) -> u8
-    ensures { ◌≡◌ {A = Answer} (result, counts.new) (allot_into 1 bid_limit open_units reserve units.now prices.now counts.old) }
-{
-    alone(open_units, reserve, units, prices, counts)
+    let auction = Auction {
+        open_units,
+        reserve,
+        units,
+        prices,
+    };
+    auction.run(1, BID_LIMIT, counts)
 }
 
 // A bid as it is lent: its units and its price in cents, positive paid to the house and negative by the house.
@@ -257,40 +214,21 @@ pub struct Bids {
 fn held(price: i32) -> u32
     ensures { result ≡ held price }
 {
-    let sum = price as i64 + 1_000_000;
-    if sum < 0 {
-        (sum + 4_294_967_296) as u32
-    } else {
-        sum as u32
-    }
-}
-
-// How many records of a lent run are read: all, or as many as fit of a longer one.
-fn capped(n: usize) -> usize
-    ensures { result ≡ min n bid_limit }
-{
-    if n < BID_LIMIT { n } else { BID_LIMIT }
+    price.cast_unsigned().wrapping_add(1_000_000)
 }
 
 // The bids of a lent run. Each record goes straight to its place in the arrays, since a struct that is passed on is copied whole.
 fn gather(bids: &[BidRecord]) -> Bids
     ensures { result ≡ gathered bids.now }
 {
-    let n = capped(bids.len());
-    let mut units = [0u64; BID_LIMIT];
-    let mut prices = [0u32; BID_LIMIT];
-    let mut i = 0;
-    while i < n {
-        let b = bids[i];
-        units[i] = b.units as u64;
-        prices[i] = held(b.price);
-        i += 1;
+    let n = bids.len().min(BID_LIMIT);
+    let mut units = [0; BID_LIMIT];
+    let mut prices = [0; BID_LIMIT];
+    for (i, bid) in bids[..n].iter().enumerate() {
+        units[i] = u64::from(bid.units);
+        prices[i] = held(bid.price);
     }
-    Bids {
-        units: units,
-        prices: prices,
-        n: i,
-    }
+    Bids { units, prices, n }
 }
 
 // The auction run alone over the first n of the bids.
@@ -301,7 +239,13 @@ fn alone_over(bids: Bids, n: usize, open_units: u16, reserve: i32, counts: &mut 
     let units = bids.units;
     let prices = bids.prices;
     if n <= BID_LIMIT {
-        alone(open_units as u64, least, &units[..n], &prices[..n], counts)
+        alone(
+            u64::from(open_units),
+            least,
+            &units[..n],
+            &prices[..n],
+            counts,
+        )
     } else {
         1
     }

@@ -19,7 +19,7 @@ pub extern "C" fn ledger_auction(
 ) -> u8
     ensures { ◌≡◌ {A = Answer} (result, counts.new) (allot_into 1 bid_limit open_units reserve units.now prices.now counts.old) }
 {
-    auction::ledger_auction(open_units, reserve, units, prices, counts)
+    auction::alone(open_units, reserve, units, prices, counts)
 }
 
 // The auction run alone, over a lent run of bid records. Every record is checked before a count is written.

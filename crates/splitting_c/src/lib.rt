@@ -11,7 +11,7 @@ use splitting::Ranked;
 pub extern "C" fn ledger_split(q: u64, weights: &[u64], shares: &mut [u64]) -> u8
     ensures { ◌≡◌ {A = Answer} (result, shares.new) (split_into q weights.now shares.old) }
 {
-    splitting::ledger_split(q, weights, shares)
+    splitting::split(q, weights, shares)
 }
 
 // The ranking for C.
@@ -19,5 +19,5 @@ pub extern "C" fn ledger_split(q: u64, weights: &[u64], shares: &mut [u64]) -> u
 pub extern "C" fn ledger_ranking(q: u64, weights: &[u64], places: &mut [usize]) -> Ranked
     ensures { ◌≡◌ {A = RankedAnswer} (result.answer, result.named, places.new) (ranking_into q weights.now places.old) }
 {
-    splitting::ledger_ranking(q, weights, places)
+    splitting::ranking(q, weights, places)
 }

@@ -34,7 +34,7 @@ pub returns-then-n-le-BID_LIMIT : goal.returns-then-n-le-BID_LIMIT
 unfolding alone_over
 returns-then-n-le-BID_LIMIT c =
     let least = c.held-least.ensures ∙ ap held (to_z-of_z c.ranges.reserve) in
-    rw (le-leb c.args.n 256 (omega arith), ← least) c.alone.ensures
+    rw (le-leb c.args.n 256 (omega arith), ← least, ← c.from.ensures) c.alone.ensures
 
 pub returns-else-n-le-BID_LIMIT : goal.returns-else-n-le-BID_LIMIT
 unfolding alone_over

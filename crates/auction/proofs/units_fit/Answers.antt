@@ -1,32 +1,18 @@
--- `auction::units_fit` meets its contract. The invariant: all the bids are within the limits exactly if those left to look at are. Assumes nothing.
-use mathlib.Core.Path.{◌≡◌, refl, sym, ◌∙◌}
-use mathlib.Core.Bool.{true, false}
-use native.Mathlib.Omega.{arith}
+-- `auction::units_fit` meets its contract: std's `all` answers whether each bid has from `least` to the most units. Assumes nothing.
+use Prim.Native.Nat.{◌≤◌}
 use borrow.Author.Rules.{rules}
+use borrow.Author.Tests.{le-leb, leb-true}
+use Rattle.std.specs.Prelude.{IsTrue, ◌↔◌, EachIndex, slice_index}
+use Rattle.std.proofs.iter.runs.Made.{chains}
 use Rattle.lists.specs.Lists.{between}
-use Rattle.lists.proofs.Counts.{all-turn, all_done}
+use Rattle.lists.proofs.Bools.{and_both, and_left, and_right}
+use Rattle.lists.proofs.Std.{all-decided}
 use Rattle.auction.specs.Limits.{unit_limit}
 use Rattle.auction.proofs.units_fit.Goals as goal
 
-pub loop-i-init : goal.loop-i-init
-loop-i-init c = (search rules, refl)
-
-pub returns-then-not-fits : goal.returns-then-not-fits
-returns-then-not-fits c =
-    let at = c.loop-i in
-    let misfit : c.both-fits.result ≡ false = search rules in
-    sym
-    (at.invariant.1 ∙ all-turn (between _ unit_limit) at.i _ 0 (omega arith)
-    ∙ rw (sym c.both-fits.ensures ∙ misfit))
-
-pub loop-i-preserved : goal.loop-i-preserved
-loop-i-preserved c =
-    let at = c.loop-i in
-    let fit : c.both-fits.result ≡ true = search rules in (
-      omega arith,
-      at.invariant.1 ∙ all-turn (between _ unit_limit) at.i _ 0 (omega arith)
-          ∙ rw (sym c.both-fits.ensures ∙ fit),
-    )
-
 pub returns : goal.returns
-returns c = let at = c.loop-i in sym (at.invariant.1 ∙ all_done (between _ unit_limit) at.i _ (omega arith))
+returns c =
+    let each : IsTrue c.all.result ↔ EachIndex c.args.units.now (λ k. (c.args.least ≤ slice_index c.args.units.now k) × (slice_index c.args.units.now k ≤ unit_limit)) = search (rules, chains) in
+    all-decided (between c.args.least unit_limit) c.args.units.now 0 c.all.result
+    (λ e k h. and_both _ _ (le-leb _ _ (each.0 e k h).0) (le-leb _ _ (each.0 e k h).1))
+    (λ f. each.1 (λ k h. (leb-true _ _ (and_left _ _ (f k h)), leb-true _ _ (and_right _ _ (f k h)))))
