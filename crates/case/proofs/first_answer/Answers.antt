@@ -1,4 +1,5 @@
 -- `case::first_answer` meets its contract. Assumes nothing.
+use borrow.Author.Rules.{rules}
 use Rattle.wire.specs.Asked.{asked}
 use Rattle.case.specs.Cases.{first_answer, first_answer_to}
 use Rattle.case.proofs.Outcomes.{round-first}
@@ -16,9 +17,17 @@ pub returns-in-Member : goal.returns-in-Member
 unfolding asked first_answer_to first_answer
 returns-in-Member c = simp c.in-Member.is
 
-pub returns-in-Round : goal.returns-in-Round
-returns-in-Round c =
-    rw c.in-Round.is (simp (c.decline_if.ensures, c.both.ensures) (round-first c.in-Round.count c.in-Round.a c.in-Round.b c.in-Round.c c.in-Round.d))
+pub returns-in_err-decline_if-in-Round : goal.returns-in_err-decline_if-in-Round
+returns-in_err-decline_if-in-Round c =
+    let w = c.in-Round in
+    let first = round-first w.count w.a w.b w.c w.d in
+    rw w.is (search (rules, first))
+
+pub returns-in_ok-decline_if-in-Round : goal.returns-in_ok-decline_if-in-Round
+returns-in_ok-decline_if-in-Round c =
+    let w = c.in-Round in
+    let first = round-first w.count w.a w.b w.c w.d in
+    rw w.is (search (rules, first))
 
 pub returns-in-Bid : goal.returns-in-Bid
 unfolding asked first_answer_to first_answer
