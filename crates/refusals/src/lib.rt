@@ -17,6 +17,7 @@ use wire::{Call, Head};
 // ---- "2. The stage doesn't allow the call."
 
 // S, the setup.
+#[tactic(auto, unfolding(machine::specs::State::letter))]
 fn is_setup(stage: Stage) -> bool
     ensures { result ≡ is_in stage 1 }
 {
@@ -24,6 +25,7 @@ fn is_setup(stage: Stage) -> bool
 }
 
 // B, bidding.
+#[tactic(auto, unfolding(machine::specs::State::letter))]
 fn is_bidding(stage: Stage) -> bool
     ensures { result ≡ is_in stage 2 }
 {
@@ -31,6 +33,7 @@ fn is_bidding(stage: Stage) -> bool
 }
 
 // A, after a round.
+#[tactic(auto, unfolding(machine::specs::State::letter))]
 fn is_after(stage: Stage) -> bool
     ensures { result ≡ is_in stage 3 }
 {
@@ -38,6 +41,7 @@ fn is_after(stage: Stage) -> bool
 }
 
 // C, calls out.
+#[tactic(auto, unfolding(machine::specs::State::letter))]
 fn is_calls_out(stage: Stage) -> bool
     ensures { result ≡ is_in stage 4 }
 {
@@ -45,6 +49,7 @@ fn is_calls_out(stage: Stage) -> bool
 }
 
 // S or A1, in which ROUND is allowed.
+#[tactic(auto, unfolding(machine::specs::State::letter, machine::specs::State::round_of))]
 fn may_open(stage: Stage) -> bool
     ensures { result ≡ (is_in stage 1 || (is_in stage 3 && eqb (round_of stage) 1)) }
 {
@@ -52,6 +57,7 @@ fn may_open(stage: Stage) -> bool
 }
 
 // A or C, in which MISS and FINISH are allowed.
+#[tactic(auto, unfolding(machine::specs::State::letter))]
 fn may_settle(stage: Stage) -> bool
     ensures { result ≡ (is_in stage 3 || is_in stage 4) }
 {
@@ -68,6 +74,7 @@ fn price_ok(price: u32) -> bool
 }
 
 // Whether the amounts of HEAD are in range.
+#[tactic(auto, unfolding(crate::specs::Answers::amounts_ok))]
 fn amounts_ok(h: Head) -> bool
     ensures { result ≡ amounts_ok (head_of h) }
 {
@@ -96,6 +103,7 @@ fn units_ok(units: u16) -> bool
 }
 
 // Whether a pool's units and mark are in range.
+#[tactic(auto, unfolding(machine::specs::Refusals::pool_ok))]
 fn pool_ok(units: u16, mark: u8) -> bool
     ensures { result ≡ pool_ok units mark }
 {
@@ -135,6 +143,7 @@ fn reserves_ok(n: u8, p: u32, q: u32, r: u32, s: u32) -> bool
 }
 
 // Whether a bid's units and price are in range.
+#[tactic(auto, unfolding(machine::specs::Refusals::bid_ok))]
 fn bid_ok(units: u16, price: u32) -> bool
     ensures { result ≡ bid_ok units price }
 {
@@ -142,6 +151,7 @@ fn bid_ok(units: u16, price: u32) -> bool
 }
 
 // Whether a payment is in range.
+#[tactic(auto, unfolding(machine::specs::Refusals::payment_ok))]
 fn payment_ok(amount: u32) -> bool
     ensures { result ≡ payment_ok amount }
 {
@@ -149,6 +159,7 @@ fn payment_ok(amount: u32) -> bool
 }
 
 // Why HEAD is declined where there is no case.
+#[tactic(auto, unfolding(crate::specs::Answers::head_answer, lists::specs::Tests::first_of))]
 pub fn head_answer(h: Head) -> Result<(), Refusal>
     ensures { answer_of result ≡ head_answer h }
 {
@@ -156,6 +167,7 @@ pub fn head_answer(h: Head) -> Result<(), Refusal>
 }
 
 // Why CLOSE is declined.
+#[tactic(auto, unfolding(crate::specs::Answers::close_answer, lists::specs::Tests::first_of))]
 pub fn close_answer(stage: Stage) -> Result<(), Refusal>
     ensures { answer_of result ≡ close_answer stage }
 {
@@ -164,6 +176,7 @@ pub fn close_answer(stage: Stage) -> Result<(), Refusal>
 
 // ---- why a call is declined where there is a case. Tests that sum over the members are asked after the others.
 
+#[tactic(auto, unfolding(crate::specs::Answers::pool_answer, lists::specs::Tests::first_of))]
 pub fn pool_answer(book: Book, stage: Stage, pool: u8, units: u16, mark: u8) -> Result<(), Refusal>
     ensures { answer_of result ≡ pool_answer stage book pool units mark }
 {
@@ -173,6 +186,7 @@ pub fn pool_answer(book: Book, stage: Stage, pool: u8, units: u16, mark: u8) -> 
     decline_if(!pool_ok(units, mark), Refusal::OutOfRange)
 }
 
+#[tactic(auto, unfolding(crate::specs::Answers::member_answer, lists::specs::Tests::first_of))]
 pub fn member_answer(
     book: Book,
     stage: Stage,
@@ -194,6 +208,7 @@ pub fn member_answer(
     )
 }
 
+#[tactic(auto, unfolding(crate::specs::Answers::round_answer, lists::specs::Tests::first_of))]
 pub fn round_answer(
     book: Book,
     stage: Stage,
@@ -213,6 +228,7 @@ pub fn round_answer(
     decline_if(book.members.given != book.head.set, Refusal::Missing)
 }
 
+#[tactic(auto, unfolding(crate::specs::Answers::bid_answer, lists::specs::Tests::first_of))]
 pub fn bid_answer(
     book: Book,
     stage: Stage,
@@ -232,6 +248,7 @@ pub fn bid_answer(
     decline_if(book.open_units(pool) == 0, Refusal::NoOpenUnit)
 }
 
+#[tactic(auto, unfolding(crate::specs::Answers::allocate_answer, lists::specs::Tests::first_of))]
 pub fn allocate_answer(book: Book, stage: Stage, pool: u8, price: u32) -> Result<(), Refusal>
     ensures { answer_of result ≡ allocate_answer stage book pool price }
 {
@@ -243,6 +260,7 @@ pub fn allocate_answer(book: Book, stage: Stage, pool: u8, price: u32) -> Result
     decline_if(book.short(pool) == 0, Refusal::Missing)
 }
 
+#[tactic(auto, unfolding(crate::specs::Answers::tear_answer, lists::specs::Tests::first_of))]
 pub fn tear_answer(book: Book, stage: Stage, pool: u8, price: u32) -> Result<(), Refusal>
     ensures { answer_of result ≡ tear_answer stage book pool price }
 {
@@ -252,6 +270,7 @@ pub fn tear_answer(book: Book, stage: Stage, pool: u8, price: u32) -> Result<(),
     decline_if(book.open_units(pool) == 0, Refusal::NoOpenUnit)
 }
 
+#[tactic(auto, unfolding(crate::specs::Answers::call_answer, lists::specs::Tests::first_of))]
 pub fn call_answer(book: Book, stage: Stage) -> Result<(), Refusal>
     ensures { answer_of result ≡ call_answer stage book }
 {
@@ -263,6 +282,7 @@ pub fn call_answer(book: Book, stage: Stage) -> Result<(), Refusal>
     )
 }
 
+#[tactic(auto, unfolding(crate::specs::Answers::pay_answer, lists::specs::Tests::first_of))]
 pub fn pay_answer(book: Book, stage: Stage, m: u8, amount: u32) -> Result<(), Refusal>
     ensures { answer_of result ≡ pay_answer stage book m amount }
 {
@@ -272,6 +292,7 @@ pub fn pay_answer(book: Book, stage: Stage, m: u8, amount: u32) -> Result<(), Re
     decline_if(book.members.owes(m) < u64::from(amount), Refusal::NotOwed)
 }
 
+#[tactic(auto, unfolding(crate::specs::Answers::move_answer, lists::specs::Tests::first_of))]
 pub fn move_answer(book: Book, stage: Stage, m: u8) -> Result<(), Refusal>
     ensures { answer_of result ≡ move_answer stage book m }
 {
@@ -280,6 +301,7 @@ pub fn move_answer(book: Book, stage: Stage, m: u8) -> Result<(), Refusal>
     decline_if(book.members.owes(m) == 0, Refusal::NotOwed)
 }
 
+#[tactic(auto, unfolding(crate::specs::Answers::miss_answer, lists::specs::Tests::first_of))]
 pub fn miss_answer(book: Book, stage: Stage, m: u8, price: u32) -> Result<(), Refusal>
     ensures { answer_of result ≡ miss_answer stage book m price }
 {
@@ -289,6 +311,7 @@ pub fn miss_answer(book: Book, stage: Stage, m: u8, price: u32) -> Result<(), Re
     decline_if(book.passed(m) == 0, Refusal::NothingPassed)
 }
 
+#[tactic(auto, unfolding(crate::specs::Answers::finish_answer, lists::specs::Tests::first_of))]
 pub fn finish_answer(book: Book, stage: Stage) -> Result<(), Refusal>
     ensures { answer_of result ≡ finish_answer stage book }
 {
@@ -304,6 +327,7 @@ pub fn finish_answer(book: Book, stage: Stage) -> Result<(), Refusal>
     )
 }
 
+#[tactic(auto, unfolding(crate::specs::Answers::sale_answer, lists::specs::Tests::first_of))]
 pub fn sale_answer(book: Book, stage: Stage, pool: u8, m: u8, price: u32) -> Result<(), Refusal>
     ensures { answer_of result ≡ sale_answer stage book pool m price }
 {
@@ -317,6 +341,7 @@ pub fn sale_answer(book: Book, stage: Stage, pool: u8, m: u8, price: u32) -> Res
     decline_if(book.too_dear(pool, price), Refusal::TooDear)
 }
 
+#[tactic(auto, unfolding(crate::specs::Answers::withdraw_answer, lists::specs::Tests::first_of))]
 pub fn withdraw_answer(book: Book, stage: Stage, m: u8, n: u16) -> Result<(), Refusal>
     ensures { answer_of result ≡ withdraw_answer stage book m n }
 {
