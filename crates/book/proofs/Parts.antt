@@ -1,20 +1,14 @@
 -- What FINISH gives, from what its parts give. Assumes nothing.
 use mathlib.Core.Path.{◌≡◌}
-use mathlib.Core.List.{List, [], ◌∷◌}
+use mathlib.Core.List.{List}
 use Prim.Native.Nat.{ℕ}
 use lib.ListN.{get_or, replicate}
 use Rattle.splitting.specs.Limits.{split_into}
 use Rattle.waterfall.specs.declared.Charged.{Charged}
 use Rattle.waterfall.specs.Limits.{charged_layers, charges_of}
-use Rattle.units.specs.declared.Units.{Units}
-use Rattle.accounts.specs.declared.members.Members.{Members}
-use Rattle.accounts.specs.declared.bids.Bids.{Bids}
-use Rattle.accounts.specs.Members.{with_won}
-use Rattle.accounts.specs.Rounds.{reserve_of}
-use Rattle.accounts.specs.Bids.{wins_of, with_wins, won_table}
 use Rattle.book.specs.declared.Book.{Book}
 use Rattle.book.specs.declared.Result.{Result}
-use Rattle.book.specs.Books.{open_in, requirement_in, units_sold, close_book}
+use Rattle.book.specs.Books.{requirement_in}
 use Rattle.book.specs.Results.{limits_in, ranks_in, result_in}
 
 pub result-of-parts : (b : Book) {loss : ℕ} {limits ranks contributions payments : List ℕ} {layers : Charged}

@@ -51,6 +51,7 @@ pub struct Result {
 // ---- the stage
 
 // The letter of a stage: S 1, B 2, A 3, C 4, F 5.
+#[tactic(auto, unfolding(machine::specs::State::letter))]
 pub fn letter(stage: Stage) -> u8
     ensures { result ≡ letter_of stage }
 {
@@ -64,6 +65,7 @@ pub fn letter(stage: Stage) -> u8
 }
 
 // The round of a stage, and 0 outside the rounds.
+#[tactic(auto, unfolding(machine::specs::State::round_of))]
 pub fn round_of(stage: Stage) -> u8
     ensures { result ≡ round_of stage }
 {
@@ -77,6 +79,7 @@ pub fn round_of(stage: Stage) -> u8
 }
 
 // The number of the next round.
+#[tactic(auto, unfolding(crate::specs::Stages::next_round))]
 pub fn next_round(round: u8) -> u8
     ensures { result ≡ next_round round }
 {
@@ -100,6 +103,7 @@ pub fn total_shortfall(
 
 impl Book {
     // HEAD: the book of a new case.
+    #[tactic(auto, unfolding(crate::specs::Books::new_book))]
     pub fn new(head: Head) -> Book
         ensures { result ≡ new_book head }
     {
@@ -179,6 +183,7 @@ impl Book {
     }
 
     // The requirement: "hedge loss + other loss − the prices of all units not open, at least 0".
+    #[tactic(auto, unfolding(crate::specs::Books::requirement_in))]
     pub fn requirement(self) -> u64
         ensures { result ≡ requirement_in self }
     {
@@ -187,6 +192,7 @@ impl Book {
     }
 
     // "all contributions"
+    #[tactic(auto, unfolding(crate::specs::Books::contributions_in))]
     pub fn contributions(self) -> u64
         ensures { result ≡ contributions_in self }
     {
@@ -202,6 +208,7 @@ impl Book {
     }
 
     // The total shortfall of a pool.
+    #[tactic(auto, unfolding(crate::specs::Books::short_in))]
     pub fn short(self, pool: u8) -> u64
         ensures { result ≡ short_in self pool }
     {
@@ -246,6 +253,7 @@ impl Book {
     // ---- how each call changes it
 
     // POOL
+    #[tactic(auto, unfolding(crate::specs::Books::pool_book))]
     pub fn take_pool(self, pool: u8, units: u16, mark: u8) -> Book
         ensures { result ≡ pool_book self pool units mark }
     {
@@ -257,6 +265,7 @@ impl Book {
     }
 
     // MEMBER
+    #[tactic(auto, unfolding(crate::specs::Books::member_book))]
     pub fn take_member(self, m: u8, contribution: u32, p: u16, q: u16, r: u16, s: u16) -> Book
         ensures { result ≡ member_book self m contribution p q r s }
     {
@@ -267,6 +276,7 @@ impl Book {
     }
 
     // ROUND
+    #[tactic(auto, unfolding(crate::specs::Books::round_book))]
     pub fn take_round(self, p: u32, q: u32, r: u32, s: u32) -> Book
         ensures { result ≡ round_book self p q r s }
     {
@@ -277,6 +287,7 @@ impl Book {
     }
 
     // BID
+    #[tactic(auto, unfolding(crate::specs::Books::bid_book))]
     pub fn take_bid(self, round: u8, pool: u8, m: u8, units: u16, price: u32) -> Book
         ensures { result ≡ bid_book self round pool m units price }
     {
@@ -295,6 +306,7 @@ impl Book {
     }
 
     // CLOSE
+    #[tactic(auto, unfolding(crate::specs::Books::close_book))]
     pub fn take_close(self, round: u8) -> Book
         ensures { result ≡ close_book self round }
     {
@@ -322,6 +334,7 @@ impl Book {
     }
 
     // ALLOCATE
+    #[tactic(auto, unfolding(crate::specs::Books::allocate_book))]
     pub fn take_allocate(self, pool: u8, price: u32) -> Book
         ensures { result ≡ allocate_book self pool price }
     {
@@ -334,6 +347,7 @@ impl Book {
     }
 
     // TEAR
+    #[tactic(auto, unfolding(crate::specs::Books::tear_book))]
     pub fn take_tear(self, pool: u8, price: u32) -> Book
         ensures { result ≡ tear_book self pool price }
     {
@@ -344,6 +358,7 @@ impl Book {
     }
 
     // SALE
+    #[tactic(auto, unfolding(crate::specs::Books::sale_book))]
     pub fn take_sale(self, pool: u8, m: u8, price: u32) -> Book
         ensures { result ≡ sale_book self pool m price }
     {
@@ -354,6 +369,7 @@ impl Book {
     }
 
     // WITHDRAW
+    #[tactic(auto, unfolding(crate::specs::Books::withdraw_book))]
     pub fn take_withdraw(self, n: u16) -> Book
         ensures { result ≡ withdraw_book self n }
     {
@@ -364,6 +380,7 @@ impl Book {
     }
 
     // CALL
+    #[tactic(auto, unfolding(crate::specs::Books::call_book))]
     pub fn take_call(self) -> Book
         ensures { result ≡ call_book self }
     {
@@ -374,6 +391,7 @@ impl Book {
     }
 
     // PAY
+    #[tactic(auto, unfolding(crate::specs::Books::pay_book))]
     pub fn take_pay(self, m: u8, amount: u32) -> Book
         ensures { result ≡ pay_book self m amount }
     {
@@ -384,6 +402,7 @@ impl Book {
     }
 
     // MOVE
+    #[tactic(auto, unfolding(crate::specs::Books::move_book))]
     pub fn take_move(self, m: u8) -> Book
         ensures { result ≡ move_book self m }
     {
@@ -398,6 +417,7 @@ impl Book {
     }
 
     // MISS
+    #[tactic(auto, unfolding(crate::specs::Books::miss_book))]
     pub fn take_miss(self, m: u8, price: u32) -> Book
         ensures { result ≡ miss_book self m price }
     {
@@ -410,6 +430,7 @@ impl Book {
     // ---- what FINISH charges
 
     // The six limits, in the order in which they are charged.
+    #[tactic(auto, unfolding(crate::specs::Results::limits_in))]
     pub fn limits(self) -> [u64; 6]
         ensures { result ≡ limits_in self }
     {
@@ -426,6 +447,7 @@ impl Book {
     }
 
     // Each place's rank.
+    #[tactic(auto, unfolding(crate::specs::Results::ranks_in))]
     pub fn ranks(self) -> [u8; 32]
         ensures { result ≡ ranks_in self }
     {
