@@ -234,7 +234,7 @@ impl Book {
         );
         let q = u64::from(self.open_units(pool)).min(self.short(pool));
         let mut shares = [0u64; 32];
-        splitting::split(q, &weights, &mut shares);
+        let _ = splitting::split(q, &weights, &mut shares);
         accounts::members::narrowed16(shares)
     }
 
@@ -246,7 +246,7 @@ impl Book {
         let lack = self.requirement().saturating_sub(self.prefunded());
         let q = lack.min(self.contributions());
         let mut shares = [0u64; 32];
-        splitting::split(q, &weights, &mut shares);
+        let _ = splitting::split(q, &weights, &mut shares);
         accounts::members::narrowed32(shares)
     }
 
@@ -470,7 +470,7 @@ impl Book {
         let contributions = waterfall::charge_by_rank(charges[3], ranks, funds, self.head.set);
         let weights = accounts::members::widened(self.members.paid);
         let mut payments = [0u64; 32];
-        splitting::split(charges[5], &weights, &mut payments);
+        let _ = splitting::split(charges[5], &weights, &mut payments);
         Result {
             loss,
             charges,
