@@ -1,10 +1,11 @@
 -- Laws of `put_four`: the four places have the four values, and the others stay. Assumes nothing.
-use mathlib.Core.Path.{◌≡◌, refl, sym, ◌∙◌}
-use mathlib.Core.List.{List, [], ◌∷◌}
-use Prim.Native.Nat.{ℕ, zero, suc, ◌+◌, ◌*◌, ◌<◌}
+use borrow.Rule.Slice.PartMut.{put_mid}
+use mathlib.Core.Path.{◌≡◌, refl, sym, ap, ◌∙◌}
+use mathlib.Core.List.{List, [], ◌∷◌, ◌++◌}
+use Prim.Native.Nat.{ℕ, zero, suc, ◌+◌, ◌-◌, ◌*◌, ◌<◌}
 use native.Mathlib.Nat.{add-zero}
 use native.Mathlib.Omega.{arith}
-use lib.ListN.{length, get_or, set, length-set}
+use lib.ListN.{length, get_or, set, take, drop, length-set}
 use lib.Seq.{get_or-set_same, get_or-set_other}
 use Rattle.lists.specs.Lists.{tab}
 use Rattle.lists.proofs.Places.{tab-of}
@@ -46,3 +47,28 @@ module _ {A : Type 0} (xs : List A) (k : ℕ) (a b c d : A) where
 
   pub four-list : (z : A) → 4 * k + 3 < length xs → tab 4 (λ p. get_or (put_four xs k a b c d) (4 * k + p) z) ≡ a ∷ b ∷ c ∷ d ∷ []
   four-list z long = sym (tab-of 4 (λ p. get_or (put_four xs k a b c d) (4 * k + p) z) z (a ∷ b ∷ c ∷ d ∷ []) refl (λ p l. sym (four-at z p l long)))
+
+-- a slice of four places written at once
+module _ {A : Type 0} (a b c d : A) where
+  four-in : (xs : List A) (i : ℕ) → i + 3 < length xs
+      → take i xs ++ (a ∷ b ∷ c ∷ d ∷ drop 4 (drop i xs)) ≡ set (set (set (set xs i a) (i + 1) b) (i + 2) c) (i + 3) d
+  four-in [] i l = absurd (omega arith)
+  four-in (w ∷ []) zero l = absurd (omega arith)
+  four-in (w ∷ x ∷ []) zero l = absurd (omega arith)
+  four-in (w ∷ x ∷ y ∷ []) zero l = absurd (omega arith)
+  four-in (w ∷ x ∷ y ∷ z ∷ xs) zero l = refl
+  four-in (x ∷ xs) (suc i) l =
+      let e1 : suc i + 1 ≡ suc (i + 1) = omega arith in
+      let e2 : suc i + 2 ≡ suc (i + 2) = omega arith in
+      let e3 : suc i + 3 ≡ suc (i + 3) = omega arith in
+      rw (e1, e2, e3) (ap (λ (l : List A). x ∷ l) (four-in xs i (omega arith)))
+
+  pub four-put : (xs ys : List A) (k : ℕ) → ys ≡ a ∷ b ∷ c ∷ d ∷ [] → 4 * k + 3 < length xs → put_mid (4 * k) (4 * k + 4 - 4 * k) xs ys ≡ put_four xs k a b c d
+  unfolding put_four
+  four-put xs ys k e l =
+      let long : 4 * k + 4 - 4 * k ≡ 4 = omega arith in
+      rw (e, long) (four-in xs (4 * k) l)
+
+pub four-of : {A : Type 0} (z : A) (ys : List A) → length ys ≡ 4 → ys ≡ get_or ys 0 z ∷ get_or ys 1 z ∷ get_or ys 2 z ∷ get_or ys 3 z ∷ []
+unfolding tab
+four-of z ys long = tab-of 4 (λ k. get_or ys k z) z ys long (λ k l. refl)

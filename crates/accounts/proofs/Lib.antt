@@ -1,6 +1,5 @@
 pub mod Past
 pub mod Tallies
-pub mod Narrow
 pub mod Asking
 pub mod FourPlaces
 pub mod AddedShares

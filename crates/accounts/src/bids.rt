@@ -1,6 +1,10 @@
 // The bids kept, in flat arrays: "A case keeps at most 256 bids, numbered from 0 as accepted."
-ghost use Rattle.std.specs.Prelude.{◌≡◌, ◌&&◌, cond, [], ◌∷◌, ◌+◌, ◌-◌, ◌*◌, min, get_or};
-ghost use Rattle.accounts.specs.Bids.{no_bids, put_bid, stands_for, withdraw_bid, units_in, wins_of, with_wins, won_table, gain_table};
+ghost use Rattle.std.specs.Prelude.{◌≡◌, ◌<◌, [], ◌∷◌, ◌+◌, ◌-◌, ◌*◌, min, get_or};
+ghost use Rattle.lists.specs.Lists.{when◌then◌else◌};
+ghost use Rattle.accounts.specs.Bids.{no_bids, put_bid, in_round_at, in_auction_at, stands_for, withdraw_bid, units_in, wins_of, with_wins, won_table, gain_table};
+
+use lists::Width;
+use std::array;
 
 #[derive(Clone, Copy)]
 pub struct Bids {
@@ -14,60 +18,11 @@ pub struct Bids {
     pub stands: [bool; 256],
 }
 
-// The places that bids have, of 256.
-fn used(kept: usize) -> usize
-    ensures { result ≡ min kept 256 }
-{
-    if kept < 256 { kept } else { 256 }
-}
-
-// The place of what belongs to a member in a pool.
-fn place_of(member: u8, pool: u8) -> usize
-    ensures { result ≡ 4 * member + pool }
-{
-    4 * member as usize + pool as usize
-}
-
-// Whether a bid is kept, stands and is of the round.
-fn in_round(kept: bool, stands: bool, round: bool) -> bool
-    ensures { result ≡ (kept && stands && round) }
-{
-    lists::both(lists::both(kept, stands), round)
-}
-
-// The one number where the test holds, and the other where it does not.
-fn chosen(test: bool, a: u16, b: u16) -> u16
-    ensures { result ≡ cond test a b }
-{
-    if test { a } else { b }
-}
-
-// What stands for a pool among four numbers, and 0 for a pool that no case has.
-fn of_pool(pool: u8, a: u64, b: u64, c: u64, d: u64) -> u64
-    ensures { result ≡ get_or (a ∷ b ∷ c ∷ d ∷ []) pool 0 }
-{
-    match pool {
-        0 => a,
-        1 => b,
-        2 => c,
-        3 => d,
-        _ => 0,
-    }
-}
-
-// A pool's worst reserve, and 0 of a pool that no case has.
-fn worst_at(worsts: [u32; 4], pool: u8) -> u32
-    ensures { result ≡ get_or worsts pool 0 }
-{
-    if pool < 4 { worsts[pool as usize] } else { 0 }
-}
-
 // "units won × (price − worst reserve)" of one bid.
 fn gain(won: u16, price: u32, worst: u32) -> u64
     ensures { result ≡ won * (price - worst) }
 {
-    let above = lists::less(price as u64, worst as u64);
-    lists::wide16(won) * above
+    u64::from(won) * u64::from(price.saturating_sub(worst))
 }
 
 impl Bids {
@@ -110,44 +65,51 @@ impl Bids {
         out
     }
 
+    // Whether the bid at a place is kept, stands and is of the round.
+    fn in_round(&self, round: u8, i: usize) -> bool
+        requires { i < 256 }
+        ensures { result ≡ in_round_at self.now round i }
+    {
+        i < self.kept && self.stands[i] && self.round[i] == round
+    }
+
+    // The units of the bid at a place where it stands in a round in a pool, else 0.
+    fn units_at(&self, round: u8, pool: u8, i: usize) -> u64
+        requires { i < 256 }
+        ensures { result ≡ (when in_auction_at self.now round pool i then get_or self.now.units i 0 else 0) }
+    {
+        if self.in_round(round, i) && self.pool[i] == pool {
+            u64::from(self.units[i])
+        } else {
+            0
+        }
+    }
+
     // Whether a bid of a member that stands in a round has the number.
     pub fn stands_for(self, round: u8, member: u8, n: u16) -> bool
         ensures { result ≡ stands_for self round member n }
     {
-        let i = n as usize;
-        if Bids::MOST <= i {
-            return false;
-        }
-        let here = in_round(i < self.kept, self.stands[i], self.round[i] == round);
-        lists::both(here, self.member[i] == member)
+        let i = usize::from(n);
+        i < Bids::MOST && self.in_round(round, i) && self.member[i] == member
     }
 
     // The bid with the number no longer stands; it keeps its place.
     pub fn withdraw(self, n: u16) -> Bids
         ensures { result ≡ withdraw_bid self n }
     {
-        let i = n as usize;
-        if Bids::MOST <= i {
-            return self;
-        }
+        let i = usize::from(n);
         let mut out = self;
-        out.stands[i] = false;
+        if i < Bids::MOST {
+            out.stands[i] = false;
+        }
         out
     }
 
     // The units of the bids that stand in a round in a pool, and 0 for the others.
-    fn units_in(self, round: u8, pool: u8) -> [u64; 256]
-        ensures { result ≡ units_in self round pool }
+    fn units_in(&self, round: u8, pool: u8) -> [u64; 256]
+        ensures { result ≡ units_in self.now round pool }
     {
-        let mut out = [0u64; 256];
-        let mut i: usize = 0;
-        while i < 256 {
-            let here = in_round(i < self.kept, self.stands[i], self.round[i] == round);
-            let takes_part = lists::both(here, self.pool[i] == pool);
-            out[i] = lists::number_if(takes_part, lists::wide16(self.units[i]));
-            i += 1;
-        }
-        out
+        array::from_fn(|i| self.units_at(round, pool, i))
     }
 
     // What the bids that stand in a round win of a pool's open units, each at its place, and 0 for the others.
@@ -155,9 +117,14 @@ impl Bids {
         ensures { result ≡ wins_of self round pool open_units reserve }
     {
         let units = self.units_in(round, pool);
-        let prices = self.price;
         let mut won = [0u64; 256];
-        auction::allot(open_units as u64, reserve, &units, &prices, &mut won);
+        auction::allot(
+            u64::from(open_units),
+            reserve,
+            &units,
+            &self.price,
+            &mut won,
+        );
         won
     }
 
@@ -172,16 +139,13 @@ impl Bids {
     ) -> Bids
         ensures { result ≡ with_wins self round (a ∷ b ∷ c ∷ d ∷ []) }
     {
-        let mut won = self.won;
-        let mut i: usize = 0;
-        while i < 256 {
-            let here = in_round(i < self.kept, self.stands[i], self.round[i] == round);
-            let win = of_pool(self.pool[i], a[i], b[i], c[i], d[i]);
-            won[i] = chosen(here, lists::narrow16(win), won[i]);
-            i += 1;
-        }
         let mut out = self;
-        out.won = won;
+        for (i, won) in out.won.iter_mut().enumerate() {
+            if self.in_round(round, i) {
+                let wins = [a[i], b[i], c[i], d[i]];
+                *won = u16::narrow(wins.get(usize::from(self.pool[i])).copied().unwrap_or(0));
+            }
+        }
         out
     }
 
@@ -190,12 +154,9 @@ impl Bids {
         ensures { result ≡ won_table self }
     {
         let mut out = [0u16; 128];
-        let n = used(self.kept);
-        let mut i: usize = 0;
-        while i < n {
-            let at = place_of(self.member[i], self.pool[i]);
-            lists::add_at16(&mut out, at, self.won[i]);
-            i += 1;
+        for i in 0..self.kept.min(Bids::MOST) {
+            let at = 4 * usize::from(self.member[i]) + usize::from(self.pool[i]);
+            lists::add_at(&mut out, at, self.won[i]);
         }
         out
     }
@@ -205,16 +166,10 @@ impl Bids {
         ensures { result ≡ gain_table self worsts }
     {
         let mut out = [0u64; 32];
-        let n = used(self.kept);
-        let mut i: usize = 0;
-        while i < n {
-            let worst = worst_at(worsts, self.pool[i]);
-            lists::add_at(
-                &mut out,
-                lists::place(self.member[i]),
-                gain(self.won[i], self.price[i], worst),
-            );
-            i += 1;
+        for i in 0..self.kept.min(Bids::MOST) {
+            let worst = worsts.get(usize::from(self.pool[i])).copied().unwrap_or(0);
+            let gained = gain(self.won[i], self.price[i], worst);
+            lists::add_at(&mut out, usize::from(self.member[i]), gained);
         }
         out
     }

@@ -1,9 +1,12 @@
 // The members. What belongs to member m in pool p stands at place 4 × m + p.
-ghost use Rattle.std.specs.Prelude.{◌≡◌, map, ℕ, ◌-◌, ◌≤◌, ◌<◌, length, get_or};
+ghost use Rattle.std.specs.Prelude.{◌≡◌, map, ℕ, ◌-◌, ◌≤◌, ◌<◌, get_or};
 ghost use Rattle.lists.specs.Lists.{when◌then◌else◌, sum};
 ghost use Rattle.lists.specs.Adding.{most16, most32, held_to};
 ghost use Rattle.sets.specs.Set.{members};
 ghost use Rattle.accounts.specs.Members.{no_members, owes_of, someone_owes_in, shortfalls_of, over_pools, over_pools_at, without_pools, put_member, add_shares, with_shares, with_calls, with_payment, with_move, with_won};
+
+use lists::Width;
+use std::array;
 
 #[derive(Clone, Copy)]
 pub struct Members {
@@ -23,53 +26,47 @@ pub struct Members {
 pub fn widened(xs: [u32; 32]) -> [u64; 32]
     ensures { result ≡ xs }
 {
-    let mut out = [0u64; 32];
-    let mut m: usize = 0;
-    while m < 32 {
-        out[m] = lists::wide32(xs[m]);
-        m += 1;
-    }
-    out
+    array::from_fn(|m| u64::from(xs[m]))
+}
+
+// Held to a width.
+pub fn narrowed<T: Width>(xs: [u64; 32]) -> [T; 32]
+    ensures { result ≡ map T.narrowed xs }
+{
+    array::from_fn(|m| T::narrow(xs[m]))
 }
 
 // Held to 16 bits.
 pub fn narrowed16(xs: [u64; 32]) -> [u16; 32]
     ensures { result ≡ held_to most16 xs }
 {
-    let mut out = [0u16; 32];
-    let mut m: usize = 0;
-    while m < 32 {
-        out[m] = lists::narrow16(xs[m]);
-        m += 1;
-    }
-    out
+    narrowed(xs)
 }
 
 // Held to 32 bits.
 pub fn narrowed32(xs: [u64; 32]) -> [u32; 32]
     ensures { result ≡ held_to most32 xs }
 {
-    let mut out = [0u32; 32];
-    let mut m: usize = 0;
-    while m < 32 {
-        out[m] = lists::narrow32(xs[m]);
-        m += 1;
-    }
-    out
+    narrowed(xs)
 }
 
 // ---- what is read
+
+// A member's amount, of 32 bits: so many fit a sum of 64 bits.
+fn amount_at(xs: &[u32; 32], m: usize) -> u64
+    requires { m < 32 }
+    ensures { (result ≡ get_or xs.now m 0) × (result ≤ most32) }
+{
+    u64::from(xs[m])
+}
 
 // The members' amounts added up, at most 32 times what 32 bits hold.
 pub fn amounts(set: u32, xs: [u32; 32]) -> u64
     ensures { (result ≡ sum (map (λ m. get_or xs m 0) (members set))) × (result ≤ 137438953440) }
 {
-    let mut total: u64 = 0;
-    let mut left = set;
-    while left != 0 {
-        let m = sets::next(left) as usize;
-        left = sets::without_least(left);
-        total += lists::wide32(xs[m]);
+    let mut total = 0;
+    for m in sets::members_of(set) {
+        total += amount_at(&xs, usize::from(m));
     }
     total
 }
@@ -81,7 +78,7 @@ fn owed(moved: bool, called: u32, paid: u32) -> u64
     if moved {
         0
     } else {
-        lists::less(called as u64, paid as u64)
+        u64::from(called.saturating_sub(paid))
     }
 }
 
@@ -89,7 +86,7 @@ fn owed(moved: bool, called: u32, paid: u32) -> u64
 fn shortfall(expected: u16, won: u16, allocated: u16) -> u64
     ensures { (result ≡ (expected - won - allocated)) × (result ≤ most16) }
 {
-    lists::less(lists::less(expected as u64, won as u64), allocated as u64)
+    u64::from(expected.saturating_sub(won).saturating_sub(allocated))
 }
 
 // The members' shortfalls in a pool, and 0 at the other places, from the units expected, won and allocated: whoever asks for them need not copy
@@ -107,26 +104,23 @@ pub fn shortfalls(
     if 4 <= pool {
         return out;
     }
-    let at = pool as usize;
-    let mut left = set;
-    while left != 0 {
-        let m = sets::next(left) as usize;
-        left = sets::without_least(left);
-        let k = 4 * m + at;
+    for m in sets::members_of(set) {
+        let m = usize::from(m);
+        let k = 4 * m + usize::from(pool);
         out[m] = shortfall(expected[k], won[k], allocated[k]);
     }
     out
 }
 
 // A member's units over the four pools.
-fn over_pools_at(xs: &[u16], m: usize) -> u64
-    requires { (length xs.now ≡ 128) × (m < 32) }
+fn over_pools_at(xs: &[u16; 128], m: usize) -> u64
+    requires { m < 32 }
     ensures { result ≡ over_pools_at xs.now m }
 {
-    let a = lists::wide16(xs[4 * m]);
-    let b = lists::wide16(xs[4 * m + 1]);
-    let c = lists::wide16(xs[4 * m + 2]);
-    let d = lists::wide16(xs[4 * m + 3]);
+    let a = u64::from(xs[4 * m]);
+    let b = u64::from(xs[4 * m + 1]);
+    let c = u64::from(xs[4 * m + 2]);
+    let d = u64::from(xs[4 * m + 3]);
     a + b + c + d
 }
 
@@ -134,44 +128,23 @@ fn over_pools_at(xs: &[u16], m: usize) -> u64
 pub fn over_pools(xs: [u16; 128]) -> [u64; 32]
     ensures { result ≡ over_pools xs }
 {
-    let mut out = [0u64; 32];
-    let mut m: usize = 0;
-    while m < 32 {
-        out[m] = over_pools_at(&xs, m);
-        m += 1;
-    }
-    out
-}
-
-// Units, and 0 where they are left out.
-fn unless(out: bool, units: u16) -> u16
-    ensures { result ≡ (when out then 0 else units) }
-{
-    if out { 0 } else { units }
+    array::from_fn(|m| over_pools_at(&xs, m))
 }
 
 // The members' units by pool, with 0 in the pools that are left out.
 pub fn without_pools(xs: [u16; 128], out: [bool; 4]) -> [u16; 128]
     ensures { result ≡ without_pools xs out }
 {
-    let mut table = [0u16; 128];
-    let mut k: usize = 0;
-    while k < 128 {
-        table[k] = unless(out[k % 4], xs[k]);
-        k += 1;
-    }
-    table
+    array::from_fn(|k| if out[k % 4] { 0 } else { xs[k] })
 }
 
 // The shares of the members added in a pool.
 fn add_shares(set: u32, pool: u8, shares: [u16; 32], xs: &mut [u16])
     ensures { xs.new ≡ add_shares pool shares (members set) xs.old }
 {
-    let mut left = set;
-    while left != 0 {
-        let m = sets::next(left) as usize;
-        left = sets::without_least(left);
-        lists::add_at16(xs, 4 * m + pool as usize, shares[m]);
+    for m in sets::members_of(set) {
+        let m = usize::from(m);
+        lists::add_at(xs, 4 * m + usize::from(pool), shares[m]);
     }
 }
 
@@ -197,31 +170,18 @@ impl Members {
         ensures { result ≡ owes_of self m }
     {
         if m < 32 {
-            let at = m as usize;
-            let called = self.called;
-            let paid = self.paid;
-            return owed(sets::has(self.moved, m), called[at], paid[at]);
+            let at = usize::from(m);
+            owed(sets::has(self.moved, m), self.called[at], self.paid[at])
+        } else {
+            0
         }
-        0
     }
 
     // Whether a member of the set owes.
     pub fn someone_owes(self, set: u32) -> bool
         ensures { result ≡ someone_owes_in self set }
     {
-        let moved = self.moved;
-        let called = self.called;
-        let paid = self.paid;
-        let mut found = false;
-        let mut left = set;
-        while left != 0 {
-            let m = sets::next(left);
-            left = sets::without_least(left);
-            let at = m as usize;
-            let due = owed(sets::has(moved, m as u8), called[at], paid[at]);
-            found = lists::either(found, 0 < due);
-        }
-        found
+        sets::members_of(set).any(|m| 0 < self.owes(m))
     }
 
     // MEMBER: a member with its contribution and its expected units in pools 0 to 3.
@@ -231,14 +191,11 @@ impl Members {
         if 32 <= m {
             return self;
         }
-        let at = m as usize;
+        let at = usize::from(m);
         let mut out = self;
         out.given = sets::with(self.given, m);
         out.contribution[at] = contribution;
-        out.expected[4 * at] = a;
-        out.expected[4 * at + 1] = b;
-        out.expected[4 * at + 2] = c;
-        out.expected[4 * at + 3] = d;
+        out.expected[4 * at..4 * at + 4].copy_from_slice(&[a, b, c, d]);
         out
     }
 
@@ -249,10 +206,8 @@ impl Members {
         if 4 <= pool {
             return self;
         }
-        let mut allocated = self.allocated;
-        add_shares(set, pool, shares, &mut allocated);
         let mut out = self;
-        out.allocated = allocated;
+        add_shares(set, pool, shares, &mut out.allocated);
         out
     }
 
@@ -260,19 +215,18 @@ impl Members {
     pub fn call(self, calls: [u32; 32]) -> Members
         ensures { result ≡ with_calls self calls }
     {
-        let mut out = self;
-        out.called = calls;
-        out
+        Members {
+            called: calls,
+            ..self
+        }
     }
 
     // PAY: "adds to what a member paid".
     pub fn pay(self, m: u8, amount: u32) -> Members
         ensures { result ≡ with_payment self m amount }
     {
-        let mut paid = self.paid;
-        lists::add_at32(&mut paid, m as usize, amount);
         let mut out = self;
-        out.paid = paid;
+        lists::add_at(&mut out.paid, usize::from(m), amount);
         out
     }
 
@@ -280,17 +234,16 @@ impl Members {
     pub fn move_out(self, m: u8) -> Members
         ensures { result ≡ with_move self m }
     {
-        let mut out = self;
-        out.moved = sets::with(self.moved, m);
-        out
+        Members {
+            moved: sets::with(self.moved, m),
+            ..self
+        }
     }
 
     // CLOSE: the units won by member and pool.
     pub fn win(self, won: [u16; 128]) -> Members
         ensures { result ≡ with_won self won }
     {
-        let mut out = self;
-        out.won = won;
-        out
+        Members { won, ..self }
     }
 }

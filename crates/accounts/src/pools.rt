@@ -30,7 +30,7 @@ impl Pools {
     {
         let n = self.given;
         if n < Pools::MOST {
-            let at = n as usize;
+            let at = usize::from(n);
             let mut out = self;
             out.units[at] = units;
             out.marks[at] = mark;
@@ -44,10 +44,6 @@ impl Pools {
     pub fn mark(self, pool: u8) -> u8
         ensures { result ≡ get_or self.marks pool 0 }
     {
-        if pool < 4 {
-            let at = pool as usize;
-            return self.marks[at];
-        }
-        0
+        self.marks.get(usize::from(pool)).copied().unwrap_or(0)
     }
 }

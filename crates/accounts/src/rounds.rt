@@ -13,19 +13,12 @@ pub struct Rounds {
 fn worst_in(one: bool, first: u32, two: bool, second: u32) -> u32
     ensures { result ≡ worst_in one first two second }
 {
-    if one {
-        if two {
-            if second < first {
-                return second;
-            }
-            return first;
-        }
-        return first;
+    match (one, two) {
+        (true, true) => first.min(second),
+        (true, false) => first,
+        (false, true) => second,
+        (false, false) => 0,
     }
-    if two {
-        return second;
-    }
-    0
 }
 
 impl Rounds {
@@ -51,16 +44,10 @@ impl Rounds {
         if Rounds::MOST <= n {
             return self;
         }
-        let at = 4 * n as usize;
+        let at = 4 * usize::from(n);
         let mut out = self;
-        out.reserves[at] = reserves[0];
-        out.reserves[at + 1] = reserves[1];
-        out.reserves[at + 2] = reserves[2];
-        out.reserves[at + 3] = reserves[3];
-        out.opened[at] = opened[0];
-        out.opened[at + 1] = opened[1];
-        out.opened[at + 2] = opened[2];
-        out.opened[at + 3] = opened[3];
+        out.reserves[at..at + 4].copy_from_slice(&reserves);
+        out.opened[at..at + 4].copy_from_slice(&opened);
         out.held = n + 1;
         out
     }
@@ -69,17 +56,11 @@ impl Rounds {
     pub fn reserve(self, round: u8, pool: u8) -> u32
         ensures { result ≡ reserve_of self round pool }
     {
-        if round < 1 {
-            return 0;
+        if 1 <= round && round <= 2 && pool < 4 {
+            self.reserves[4 * usize::from(round - 1) + usize::from(pool)]
+        } else {
+            0
         }
-        if 2 < round {
-            return 0;
-        }
-        if 4 <= pool {
-            return 0;
-        }
-        let at = 4 * (round - 1) as usize + pool as usize;
-        self.reserves[at]
     }
 
     // "A pool's worst reserve is the lower of those of the rounds in which it had open units."
@@ -89,9 +70,9 @@ impl Rounds {
         if 4 <= pool {
             return 0;
         }
-        let at = pool as usize;
-        let first = lists::both(1 <= self.held, self.opened[at]);
-        let second = lists::both(2 <= self.held, self.opened[at + 4]);
+        let at = usize::from(pool);
+        let first = 1 <= self.held && self.opened[at];
+        let second = 2 <= self.held && self.opened[at + 4];
         worst_in(first, self.reserves[at], second, self.reserves[at + 4])
     }
 
@@ -99,10 +80,6 @@ impl Rounds {
     pub fn worsts(self) -> [u32; 4]
         ensures { result ≡ worsts_of self }
     {
-        let a = self.worst(0);
-        let b = self.worst(1);
-        let c = self.worst(2);
-        let d = self.worst(3);
-        [a, b, c, d]
+        [self.worst(0), self.worst(1), self.worst(2), self.worst(3)]
     }
 }

@@ -1,26 +1,22 @@
 -- The keys of places that have units, the least of keys, and how many units are needed. Assumes nothing.
-use mathlib.Core.Path.{◌≡◌, sym, ap, ◌∙◌}
+use mathlib.Core.Path.{◌≡◌, ◌∙◌}
 use mathlib.Core.Bool.{Bool, true, false}
 use mathlib.Core.Logic.{⊎_elim}
 use mathlib.Core.List.{List, [], ◌∷◌}
 use Prim.Native.Nat.{ℕ, zero, suc, ◌+◌, ◌-◌, ◌*◌, ◌/◌, ◌≤◌, ◌<◌, min}
 use native.Mathlib.Nat.{mul-le-mul_right, div-mul-le_self, lt-div-mul-add, add-mul, one-mul}
 use native.Mathlib.Omega.{arith}
-use lib.ListN.{length, get_or, set, drop}
-use lib.Seq.{drop-cons}
+use lib.ListN.{length, get_or, set}
+use Rattle.std.proofs.Common.{fold}
 use Rattle.lists.specs.Lists.{count, one_if}
 use Rattle.lists.proofs.Bools.{cases, lt-or-le}
-use Rattle.turns.specs.Keys.{live_key, no_key, least_key, needed}
+use Rattle.turns.specs.Keys.{no_key, least_key, needed}
 
-pub live-next : (n key key' r : ℕ) → key ≡ key' → r ≡ live_key n key → r ≡ live_key n key'
-live-next n key key' r e p = rw (← e) p
-
--- one key more, from the end on
-pub least_step : (keys : List ℕ) (j : ℕ) → 0 < j → j ≤ length keys → min (get_or keys (j - 1) 0) (least_key (drop j keys)) ≡ least_key (drop (j - 1) keys)
+-- the least so far and a fold over the rest
+pub fold-least : (a : ℕ) (keys : List ℕ) → a ≤ no_key → fold min a keys ≡ min a (least_key keys)
 unfolding least_key
-least_step keys j some inside =
-    let at : suc (j - 1) ≡ j = omega arith in
-    ap (λ (k : ℕ). min (get_or keys (j - 1) 0) (least_key (drop k keys))) (sym at) ∙ ap least_key (sym (drop-cons keys (j - 1) 0 (omega arith)))
+fold-least a [] low = omega arith
+fold-least a (x ∷ xs) low = omega (arith, fold-least (min a x) xs (omega arith))
 
 -- at most each of them, and at most `no_key`
 pub least-top : (keys : List ℕ) → least_key keys ≤ no_key

@@ -40,9 +40,10 @@ fn key_at(allocation: &[u32; 4], prices: &[u32; 256], j: usize) -> u32
     ensures { result ≡ key_at allocation.now prices.now j }
 {
     if j < 128 {
-        return allocated_key(allocation[j % 4], j % 4, j / 4);
+        allocated_key(allocation[j % 4], j % 4, j / 4)
+    } else {
+        sold_key(prices[j - 128], j - 128)
     }
-    sold_key(prices[j - 128], j - 128)
 }
 
 // The key of a place that has n units.
@@ -57,43 +58,29 @@ pub fn live_keys(counts: &[u16; 780], allocation: &[u32; 4], prices: &[u32; 256]
     ensures { result ≡ live_keys allocation.now prices.now counts.now }
 {
     let mut keys = [NO_KEY; 384];
-    let mut j: usize = 0;
-    while j < 384 {
-        keys[j] = live_key(counts[4 + j], key_at(allocation, prices, j));
-        j += 1;
+    for (j, key) in keys.iter_mut().enumerate() {
+        *key = live_key(counts[4 + j], key_at(allocation, prices, j));
     }
     keys
-}
-
-// The lower of two keys.
-fn lower(a: u32, b: u32) -> u32
-    ensures { result ≡ min a b }
-{
-    if a < b { a } else { b }
 }
 
 // The least of keys.
 pub fn least_key(keys: &[u32]) -> u32
     ensures { result ≡ least_key keys.now }
 {
-    let mut least: u32 = NO_KEY;
-    let mut j: usize = keys.len();
-    while 0 < j {
-        j -= 1;
-        least = lower(keys[j], least);
-    }
-    least
+    keys.iter().fold(NO_KEY, |least, key| least.min(*key))
 }
 
 // The place that a key tells.
 pub fn key_place(key: u32) -> usize
     ensures { (result ≡ key_place key) × (result < 384) }
 {
-    let low = lists::wide32(key % 256);
+    let low = key as usize % 256;
     if key < SOLD_KEYS {
-        return (4 * lists::less(31, low % 32) + lists::less(3, low / 32)) as usize;
+        4 * (31 - low % 32) + 3_usize.saturating_sub(low / 32)
+    } else {
+        383 - low
     }
-    lists::less(383, low) as usize
 }
 
 // The price that a key tells.
@@ -103,21 +90,10 @@ pub fn key_price(key: u32) -> u32
     key / 256 % 1_048_576
 }
 
-// The quotient, and 0 for a divisor of 0.
-fn quotient(a: u64, b: u64) -> u64
-    ensures { result ≡ a / b }
-{
-    if b == 0 { 0 } else { a / b }
-}
-
 // So many units at one saving are needed to save what is owed, as far as there are units.
 pub fn units_needed(has: u16, owed: u64, saving: u64) -> u16
     ensures { result ≡ min has (needed owed saving) }
 {
-    let most = lists::wide16(has);
-    let more = quotient(lists::less(owed, 1), saving);
-    if more < most {
-        return lists::narrow16(lists::smaller(most, 1 + more));
-    }
-    has
+    let more = owed.saturating_sub(1).checked_div(saving).unwrap_or(0);
+    u64::from(has).min(1 + more) as u16
 }

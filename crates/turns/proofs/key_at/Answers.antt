@@ -8,6 +8,6 @@ pub returns-then-j-lt128 : goal.returns-then-j-lt128
 unfolding key_at
 returns-then-j-lt128 c = rw (lt-ltb c.args.j 128 (omega arith)) c.allocated_key.ensures
 
-pub returns : goal.returns
+pub returns-else-j-lt128 : goal.returns-else-j-lt128
 unfolding key_at
-returns c = rw (le-ltb c.args.j 128 (omega arith)) c.sold_key.ensures
+returns-else-j-lt128 c = rw (le-ltb c.args.j 128 (omega arith)) c.sold_key.ensures

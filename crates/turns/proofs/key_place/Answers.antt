@@ -8,6 +8,6 @@ pub returns-then-key-lt-SOLD_KEYS : goal.returns-then-key-lt-SOLD_KEYS
 unfolding key_place
 returns-then-key-lt-SOLD_KEYS c = (rw (lt-ltb c.args.key 268435456 (omega arith)) (omega arith), omega arith)
 
-pub returns : goal.returns
+pub returns-else-key-lt-SOLD_KEYS : goal.returns-else-key-lt-SOLD_KEYS
 unfolding key_place
-returns c = (rw (le-ltb c.args.key 268435456 (omega arith)) (omega arith), omega arith)
+returns-else-key-lt-SOLD_KEYS c = (rw (le-ltb c.args.key 268435456 (omega arith)) (omega arith), omega arith)

@@ -1,14 +1,21 @@
 -- `turns::units_needed` meets its contract. Assumes nothing.
-use mathlib.Core.Path.{ap}
-use Prim.Native.Nat.{ℕ, ◌/◌}
-use native.Mathlib.Omega.{arith}
+use Rattle.std.proofs.Common.{◌≡◌, ℕ, ◌<◌, ◌/◌, Option, None, Some, ap, arith, unwrap_or}
+use Rattle.std.specs.Option.{SomeIff}
+use native.Mathlib.Nat.{div-zero}
 use Rattle.turns.specs.Keys.{needed}
 use Rattle.turns.proofs.units_needed.Goals as goal
 
-pub returns-then-more-most : goal.returns-then-more-most
-unfolding needed
-returns-then-more-most c = omega (arith, c.quotient-more.ensures, ap (λ (x : ℕ). x / c.args.saving) c.less.ensures)
+-- a quotient that is 0 where the divisor is 0
+quotient : (r : Option ℕ) (a b : ℕ) → SomeIff r (0 < b) (a / b) → unwrap_or r 0 ≡ a / b
+quotient (Some x) a b h = h.1
+quotient None a b h =
+    let none : b ≡ 0 = omega arith in
+    rw (none, div-zero a)
 
 pub returns : goal.returns
 unfolding needed
-returns c = omega (arith, c.quotient-more.ensures, ap (λ (x : ℕ). x / c.args.saving) c.less.ensures)
+returns c = omega (
+  arith,
+  quotient _ _ _ c.checked_div.ensures,
+  ap (λ (x : ℕ). x / c.args.saving) c.saturating_sub.ensures,
+)

@@ -1,40 +1,26 @@
--- `accounts::members::amounts` meets its contract. The invariant and its laws are those of a sum over members (`Rattle.sets.proofs.Adding`), and
--- a bound on the sum that keeps it within a u64. The measure is the number of members left. Assumes nothing.
+use mathlib.Core.Path.{ap, ◌∙◌}
 use native.Mathlib.Omega.{arith}
-use Rattle.sets.proofs.Members.{Taken, taken, members-few}
+use Rattle.sets.proofs.Members.{Taken, given, given-none, members-few}
 use Rattle.sets.proofs.Adding.{start, turn, end}
 use Rattle.accounts.proofs.members.amounts.Goals as goal
-use Rattle.accounts.proofs.members.amounts.Goals.{After-without_least-left}
+use Rattle.accounts.proofs.members.amounts.Goals.{After-from}
 
 -- the next member, known and taken off
-next-taken : (c : After-without_least-left) → Taken c.loop-left.left c.next-m.result c.without_least-left.result
-next-taken c =
-    taken c.loop-left.left _ _ c.loop-left-test.true c.loop-left.invariant.0.left-fits c.next-m.ensures
-    c.without_least-left.ensures
+next-taken : (c : After-from) → Taken c.loop-m.m-iterator.left c.from.result c.next.new.self.left
+next-taken c = rw c.from.ensures (given _ _ _ c.loop-m.m-iterator.fits c.in-Some.ensures.steps)
 
-pub loop-left-init : goal.loop-left-init
-loop-left-init c = (start _ c.args.set c.ranges.set.fits, omega (arith, members-few c.args.set))
+pub loop-m-init : goal.loop-m-init
+loop-m-init c =
+    rw (ap (λ s. s.left) c.into_iter-m-iterator.ensures.into_iter_gives ∙ c.members_of-m-items.ensures)
+    (start _ c.args.set c.ranges.set.fits, omega (arith, members-few c.args.set))
 
-pub overflow_cast-m : goal.overflow_cast-m
-overflow_cast-m c = omega arith
+pub amount_at-total-requires : goal.amount_at-total-requires
+amount_at-total-requires c = (next-taken (goal.at.amount_at-total-requires c).After-from).below
 
-pub offset_bounds-xs-m : goal.offset_bounds-xs-m
-offset_bounds-xs-m c = omega (arith, next-taken (goal.at.offset_bounds-xs-m c).After-without_least-left)
-
-pub bounds-xs-m : goal.bounds-xs-m
-bounds-xs-m c = (next-taken (goal.at.bounds-xs-m c).After-without_least-left).below
-
-pub overflow_add-total : goal.overflow_add-total
-overflow_add-total c = omega (arith, (next-taken (goal.at.overflow_add-total c).After-without_least-left).shorter)
-
-pub loop-left-smaller : goal.loop-left-smaller
-loop-left-smaller c = (next-taken (goal.at.loop-left-smaller c).After-without_least-left).shorter
-
-pub loop-left-preserved : goal.loop-left-preserved
-loop-left-preserved c = (
-  rw c.wide32-total.ensures.0 (turn _ _ _ _ _ _ c.loop-left.invariant.0 (next-taken (goal.at.loop-left-preserved c).After-without_least-left) (omega (arith, c))),
-  omega (arith, (next-taken (goal.at.loop-left-preserved c).After-without_least-left).shorter),
-)
+pub loop-m-preserved : goal.loop-m-preserved
+loop-m-preserved c =
+    let t = next-taken (goal.at.loop-m-preserved c).After-from in
+    (rw c.amount_at-total.ensures.0 (turn _ _ _ _ _ _ c.loop-m.invariant.0 t c.next.new.self.fits), omega (arith, t.shorter))
 
 pub returns : goal.returns
-returns c = (end _ _ _ _ c.loop-left-test.false c.loop-left.invariant.0, omega (arith, c.loop-left.invariant.1))
+returns c = (end _ _ _ _ (given-none _ c.loop-m.invariant.0.left-fits c.in-None.ensures.steps.0) c.loop-m.invariant.0, omega (arith, c.loop-m.invariant.1))

@@ -1,20 +1,9 @@
--- `accounts::members::over_pools` meets its contract. The invariant: the places passed hold their sums. Assumes nothing.
-use native.Mathlib.Omega.{arith}
-use lib.ListN.{length-set}
-use borrow.Author.Count.{below_none}
-use Rattle.lists.proofs.Places.{filled_next, tab-of}
-use Rattle.accounts.specs.Members.{over_pools}
-use borrow.Author.Rules.{rules}
+-- `accounts::members::over_pools` meets its contract. Assumes nothing.
+use Rattle.std.proofs.Common.{rules}
+use Rattle.lists.proofs.Made.{made}
+use Rattle.accounts.specs.Members.{over_pools_at, over_pools}
 use Rattle.accounts.proofs.members.over_pools.Goals as goal
-
-pub loop-m-init : goal.loop-m-init
-loop-m-init c = (search rules, search rules, below_none _)
-
-pub loop-m-preserved : goal.loop-m-preserved
-loop-m-preserved c =
-    let at = c.loop-m in
-    (omega arith, simp length-set (omega arith), filled_next _ 0 at.out at.m _ (omega arith) at.invariant.2 c.over_pools_at.ensures)
 
 pub returns : goal.returns
 unfolding over_pools
-returns c = tab-of 32 _ 0 c.loop-m.out c.loop-m.invariant.1 (λ k l. c.loop-m.invariant.2 k (omega arith))
+returns c = made _ (over_pools_at c.args.xs) (λ k y f h. search rules) c.from_fn.result 32 0 c.from_fn.ensures.items

@@ -1,19 +1,12 @@
--- `accounts::members::without_pools` meets its contract. The invariant: the places passed hold their numbers. Assumes nothing.
-use native.Mathlib.Omega.{arith}
-use lib.ListN.{length-set}
-use borrow.Author.Count.{below_none}
-use Rattle.lists.proofs.Places.{filled_next, tab-of}
+-- `accounts::members::without_pools` meets its contract. Assumes nothing.
+use Rattle.std.proofs.Common.{◌%◌, false, get_or, rules}
+use borrow.Author.Tests.{tests}
+use Rattle.lists.specs.Lists.{when◌then◌else◌}
+use Rattle.lists.proofs.Made.{made}
 use Rattle.accounts.specs.Members.{without_pools}
-use borrow.Author.Rules.{rules}
 use Rattle.accounts.proofs.members.without_pools.Goals as goal
-
-pub loop-k-init : goal.loop-k-init
-loop-k-init c = (search rules, search rules, below_none _)
-
-pub loop-k-preserved : goal.loop-k-preserved
-loop-k-preserved c = let at = c.loop-k in
-    (omega arith, simp length-set (omega arith), filled_next _ 0 at.table at.k _ (omega arith) at.invariant.2 c.unless.ensures)
 
 pub returns : goal.returns
 unfolding without_pools
-returns c = tab-of 128 _ 0 c.loop-k.table c.loop-k.invariant.1 (λ j l. c.loop-k.invariant.2 j (omega arith))
+returns c =
+    made _ (λ k. when get_or c.args.out (k % 4) false then 0 else get_or c.args.xs k 0) (λ k y f h. search (rules, tests)) c.from_fn.result 128 0 c.from_fn.ensures.items

@@ -1,24 +1,19 @@
 -- `accounts::rounds::worst_in` meets its contract. One case for each way out. Assumes nothing.
-use native.Mathlib.Nat.{min-eq_left, min-eq_right, le_of_lt}
 use Rattle.accounts.specs.Rounds.{worst_in}
 use Rattle.accounts.proofs.rounds.worst_in.Goals as goal
 
-pub returns-then-second-first : goal.returns-then-second-first
+pub returns-in-true-true : goal.returns-in-true-true
 unfolding worst_in
-returns-then-second-first c = simp (c.if-one.true, c.if-two.true, min-eq_right (le_of_lt c.if-second-first.true))
+returns-in-true-true c = rw (c.in-true-true.is-0, c.in-true-true.is-1) c.min.ensures
 
-pub returns-then-two : goal.returns-then-two
+pub returns-in-true-false : goal.returns-in-true-false
 unfolding worst_in
-returns-then-two c = simp (c.if-one.true, c.if-two.true, min-eq_left c.if-second-first.false)
+returns-in-true-false c = rw (c.in-true-false.is-0, c.in-true-false.is-1)
 
-pub returns-then-one : goal.returns-then-one
+pub returns-in-false-true : goal.returns-in-false-true
 unfolding worst_in
-returns-then-one c = simp (c.if-one.true, c.if-two.false)
+returns-in-false-true c = rw (c.in-false-true.is-0, c.in-false-true.is-1)
 
-pub returns-then-two-2 : goal.returns-then-two-2
+pub returns-in-false-false : goal.returns-in-false-false
 unfolding worst_in
-returns-then-two-2 c = simp (c.if-one.false, c.if-two-2.true)
-
-pub returns : goal.returns
-unfolding worst_in
-returns c = simp (c.if-one.false, c.if-two-2.false)
+returns-in-false-false c = rw (c.in-false-false.is-0, c.in-false-false.is-1)

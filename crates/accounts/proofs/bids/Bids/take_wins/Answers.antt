@@ -1,14 +1,14 @@
--- `accounts::bids::Bids::take_wins` meets its contract. The invariant: the places passed hold what they won, and the others stay as they were. Assumes nothing.
-use mathlib.Core.Path.{◌≡◌, refl, ◌∙◌}
+use mathlib.Core.Path.{◌≡◌, refl, sym, ◌∙◌}
 use mathlib.Core.List.{List, [], ◌∷◌}
-use Prim.Native.Nat.{ℕ, zero, suc}
+use Prim.Native.Nat.{ℕ, zero, suc, ◌<◌}
 use native.Mathlib.Omega.{arith}
-use lib.ListN.{get_or, length-set}
+use lib.ListN.{length, get_or, length-set}
 use borrow.Author.Count.{below_none}
 use Rattle.lists.proofs.Places.{filled_next, unfilled-next, tab-of}
-use Rattle.accounts.specs.Bids.{in_round_at, with_wins}
+use Rattle.accounts.specs.Bids.{with_wins}
 use borrow.Author.Rules.{rules}
 use Rattle.accounts.proofs.bids.Bids.take_wins.Goals as goal
+use Rattle.accounts.proofs.bids.Bids.take_wins.Goals.{then-in_round, else-in_round}
 
 -- a place of one of four runs
 of_four : (a b c d : List ℕ) (p i : ℕ) → get_or (get_or (a ∷ b ∷ c ∷ d ∷ []) p []) i 0 ≡ get_or (get_or a i 0 ∷ get_or b i 0 ∷ get_or c i 0 ∷ get_or d i 0 ∷ []) p 0
@@ -19,22 +19,31 @@ of_four a b c d (suc (suc (suc zero))) i = refl
 of_four a b c d (suc (suc (suc (suc p)))) i = refl
 
 pub loop-i-init : goal.loop-i-init
-loop-i-init c = (search rules, search rules, below_none _, λ k l. refl)
+loop-i-init c = (search rules, below_none _, λ k l. refl)
 
 pub loop-i-preserved : goal.loop-i-preserved
-unfolding in_round_at
-loop-i-preserved c = let at = c.loop-i in
+loop-i-preserved c =
+    let at = c.loop-i in
     let s = c.args in
-    let same = at.invariant.3 at.i (omega arith) in
-    let win = of_four s.a s.b s.c s.d (get_or s.self.pool at.i 0) at.i in (
-      omega arith,
-      simp length-set (omega arith),
-      filled_next _ 0 at.won at.i _ (omega arith) at.invariant.2
-          (c.chosen.ensures
-          ∙ rw (same, c.narrow16.ensures, c.of_pool-win.ensures, c.in_round-here.ensures, win)),
-      unfilled-next 0 at.won s.self.won at.i _ at.invariant.3,
-    )
+    let inside : at.i < length at.won-items = omega arith in
+    let same : get_or at.won-items at.i 0 ≡ get_or s.self.won at.i 0 = at.invariant.2 at.i (omega arith) in
+    let win = of_four s.a s.b s.c s.d (get_or s.self.pool at.i 0) at.i in
+    elim c.if-in_round.branch [
+      | then-in_round w ↦
+          let picked : w.unwrap_or.result ≡ get_or (get_or s.a at.i 0 ∷ get_or s.b at.i 0 ∷ get_or s.c at.i 0 ∷ get_or s.d at.i 0 ∷ []) (get_or s.self.pool at.i 0) 0 = search rules in
+          rw w.won-items-is (
+            simp length-set at.invariant.0,
+            filled_next _ 0 at.won-items at.i _ inside at.invariant.1 (w.narrow.ensures ∙ rw (picked, sym c.in_round.ensures ∙ w.if-in_round.true, win)),
+            unfilled-next 0 at.won-items s.self.won at.i _ at.invariant.2,
+          )
+      | else-in_round w ↦
+          rw w.won-items-is (
+            simp length-set at.invariant.0,
+            filled_next _ 0 at.won-items at.i _ inside at.invariant.1 (rw (sym c.in_round.ensures ∙ w.if-in_round.false) same),
+            unfilled-next 0 at.won-items s.self.won at.i _ at.invariant.2,
+          )
+    ]
 
 pub returns : goal.returns
 unfolding with_wins
-returns c = rw (tab-of 256 _ 0 c.loop-i.won c.loop-i.invariant.1 (λ k l. c.loop-i.invariant.2 k (omega arith)))
+returns c = rw (tab-of 256 _ 0 c.loop-i.won-items c.loop-i.invariant.0 (λ k l. c.loop-i.invariant.1 k (omega arith)))

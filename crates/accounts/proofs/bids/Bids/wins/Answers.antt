@@ -5,4 +5,4 @@ use Rattle.accounts.proofs.bids.Bids.wins.Goals as goal
 pub returns : goal.returns
 returns c = let a = c.args in
     wins-left a.self a.round a.pool a.open_units a.reserve _ c.allot.result _
-    c.units_in-units.ensures c.allot.ensures
+    c.units_in-units.ensures (rw c.from.ensures at c.allot.ensures)

@@ -1,4 +1,3 @@
--- `accounts::bids::Bids::won_table` meets its contract. The invariant: the run has the sums over the places passed. Assumes nothing.
 use mathlib.Core.Path.{refl, sym, ap, ◌∙◌}
 use native.Mathlib.Omega.{arith}
 use lib.ListN.{length}
@@ -7,19 +6,18 @@ use Rattle.lists.specs.Adding.{most16}
 use Rattle.lists.proofs.Adding.{tallied-none, tallied-long}
 use Rattle.accounts.specs.Bids.{won_table}
 use Rattle.accounts.proofs.Tallies.{place-added, places-added}
-use borrow.Author.Rules.{rules}
 use Rattle.accounts.proofs.bids.Bids.won_table.Goals as goal
 
 pub loop-i-init : goal.loop-i-init
-loop-i-init c = (search rules, tallied-none 128 _ _ most16 (places c.used-n.result))
+loop-i-init c = tallied-none 128 _ _ most16 (places c.min-i-end.result)
 
-pub slice_bounds-add_at16-end : goal.slice_bounds-add_at16-end
-slice_bounds-add_at16-end c = sym (ap length c.loop-i.invariant.1 ∙ tallied-long 128 _ _ most16 (places c.used-n.result) c.loop-i.i)
+pub slice_bounds-add_at-end : goal.slice_bounds-add_at-end
+slice_bounds-add_at-end c = sym (ap length c.loop-i.invariant ∙ tallied-long 128 _ _ most16 (places c.min-i-end.result) c.loop-i.i)
 
 pub loop-i-preserved : goal.loop-i-preserved
 loop-i-preserved c = let at = c.loop-i in
-    (omega arith, c.add_at16.ensures ∙ place-added 128 _ _ most16 _ at.i at.out _ _ at.invariant.1 c.place_of-at.ensures refl (omega arith))
+    c.add_at.ensures ∙ place-added 128 _ _ most16 _ at.i at.out _ _ at.invariant (omega arith) refl (omega arith)
 
 pub returns : goal.returns
 unfolding won_table
-returns c = c.loop-i.invariant.1 ∙ places-added 128 _ _ most16 _ c.loop-i.i (omega arith) ∙ rw c.used-n.ensures
+returns c = c.loop-i.invariant ∙ places-added 128 _ _ most16 _ c.loop-i.i (omega arith) ∙ rw c.min-i-end.ensures

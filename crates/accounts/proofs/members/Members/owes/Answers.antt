@@ -7,10 +7,7 @@ use Rattle.accounts.proofs.members.Members.owes.Goals as goal
 
 pub returns-then-m-lt32 : goal.returns-then-m-lt32
 unfolding owes_of
-returns-then-m-lt32 c = simp (
-  c.owed.ensures,
-  c.has.ensures,
-)
+returns-then-m-lt32 c = simp (c.owed.ensures, c.has.ensures, c.from-at.ensures)
 
-pub returns : goal.returns
-returns c = sym (owes-past c.args.self c.args.m (search rules) (search rules) (search rules))
+pub returns-else-m-lt32 : goal.returns-else-m-lt32
+returns-else-m-lt32 c = sym (owes-past c.args.self c.args.m (search rules) (search rules) (search rules))

@@ -5,7 +5,7 @@ use Rattle.accounts.proofs.pools.Pools.put.Goals as goal
 
 pub returns-then-n-lt-MOST : goal.returns-then-n-lt-MOST
 unfolding put_pool
-returns-then-n-lt-MOST c = simp (lt-ltb _ _ c.if-n-lt-MOST.true)
+returns-then-n-lt-MOST c = simp (lt-ltb _ _ c.if-n-lt-MOST.true, c.from-at.ensures)
 
 pub returns : goal.returns
 unfolding put_pool

@@ -1,21 +1,26 @@
--- `accounts::rounds::Rounds::reserve` meets its contract. The tests say in turn whether there is such a round and such a pool. Assumes nothing.
+-- `accounts::rounds::Rounds::reserve` meets its contract. The tests say whether there is such a round and such a pool. Assumes nothing.
 use borrow.Author.Tests.{lt-leb, le-leb, lt-ltb, le-ltb}
 use mathlib.Core.Bool.{and-false}
 use Rattle.accounts.specs.Rounds.{reserve_of}
 use Rattle.accounts.proofs.rounds.Rounds.reserve.Goals as goal
+use Rattle.accounts.proofs.rounds.Rounds.reserve.Goals.{else-round-ge1-via-then-round-ge1+then-round-le2+else-pool-lt4, else-round-ge1-via-then-round-ge1+else-round-le2, else-round-ge1-via-else-round-ge1}
 
-pub returns-then-round-lt1 : goal.returns-then-round-lt1
+pub returns-then-pool-lt4 : goal.returns-then-pool-lt4
 unfolding reserve_of
-returns-then-round-lt1 c = simp (lt-leb _ _ c.if-round-lt1.true)
+returns-then-pool-lt4 c =
+    simp (
+      le-leb _ _ c.if-round-ge1.true,
+      le-leb _ _ c.if-round-le2.true,
+      lt-ltb _ _ c.if-pool-lt4.true,
+      c.from.ensures,
+      c.from-then-pool-lt4.ensures,
+    )
 
-pub returns-then-round-gt2 : goal.returns-then-round-gt2
+pub returns-else-round-ge1 : goal.returns-else-round-ge1
 unfolding reserve_of
-returns-then-round-gt2 c = simp (lt-leb _ _ c.if-round-gt2.true, and-false)
-
-pub returns-then-pool-ge4 : goal.returns-then-pool-ge4
-unfolding reserve_of
-returns-then-pool-ge4 c = simp (le-ltb _ _ c.if-pool-ge4.true, and-false)
-
-pub returns : goal.returns
-unfolding reserve_of
-returns c = simp (le-leb _ _ c.if-round-lt1.false, le-leb _ _ c.if-round-gt2.false, lt-ltb _ _ c.if-pool-ge4.false)
+returns-else-round-ge1 c =
+    elim c.else-round-ge1.branch [
+      | else-round-ge1-via-then-round-ge1+then-round-le2+else-pool-lt4 w ↦ simp (le-ltb _ _ w.if-pool-lt4.false, and-false)
+      | else-round-ge1-via-then-round-ge1+else-round-le2 w ↦ simp (lt-leb _ _ w.if-round-le2.false, and-false)
+      | else-round-ge1-via-else-round-ge1 w ↦ simp (lt-leb _ _ w.if-round-ge1.false)
+    ]

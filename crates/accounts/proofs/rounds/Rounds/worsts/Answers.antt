@@ -5,9 +5,4 @@ use Rattle.accounts.proofs.rounds.Rounds.worsts.Goals as goal
 
 pub returns : goal.returns
 unfolding worsts_of tab
-returns c = simp (
-  c.worst-d.ensures,
-  c.worst-c.ensures,
-  c.worst-b.ensures,
-  c.worst-a.ensures,
-)
+returns c = simp (c.worst-4.ensures, c.worst-3.ensures, c.worst-2.ensures, c.worst.ensures)
