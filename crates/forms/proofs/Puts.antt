@@ -1,8 +1,11 @@
 -- Texts put into a buffer one behind the other. Assumes nothing.
-use Rattle.std.proofs.Common.{◌≡◌, ℕ, ◌+◌, ◌<◌, ◌≤◌, List, [], ◌∷◌, ◌++◌, map, length, set, sym, refl, ap, ◌∙◌, append_assoc, append-nil, arith, length-append, le-leb}
+use Rattle.std.proofs.Common.{◌≡◌, ℕ, ◌+◌, ◌-◌, ◌<◌, ◌≤◌, List, [], ◌∷◌, ◌++◌, map, length, set, sym, refl, ap, ◌∙◌, append_assoc, append-nil, arith, length-append, le-leb}
+use lib.ListN.{length-set}
 use lib.Seq.{sets, length-sets}
+use borrow.Rule.Slice.PartMut.{put_mid}
 use Rattle.lines.specs.Placed.{Placed, placed}
 use Rattle.lines.proofs.Numbers.{placed-fits}
+use Rattle.lines.proofs.Copies.{copied}
 use Rattle.lists.proofs.Stores.{sets_then, sets-earlier}
 use borrow.Author.Tests.{lt-leb}
 use Rattle.lists.specs.Lists.{joined}
@@ -63,6 +66,17 @@ put-placed {old} {at = at} n t short fits is =
     record { behind = ap (λ (p : Placed). p.0) e; stored = stored; short = short; same = ap length stored ∙ length-sets old at t }
 
 -- ---- bytes
+
+-- a text copied into a part of the buffer
+pub put-copied : (text old part : List ℕ) (at : ℕ) → at + length text ≤ length old → part ≡ text
+    → Put old at text (length text) (at + length text) (put_mid at (at + length text - at) old part)
+put-copied text old part at h e =
+    let stored = copied text old part at h e in
+    record { behind = refl; stored = stored; short = omega arith; same = ap length stored ∙ length-sets old at text }
+
+-- a byte
+pub put-one : (b : ℕ) (old : List ℕ) (at : ℕ) → Put old at (b ∷ []) 1 (at + 1) (set old at b)
+put-one b old at = record { behind = refl; stored = refl; short = omega arith; same = length-set old at b }
 
 -- a byte before a text
 pub put-before : {old mid new : List ℕ} {at p q r m : ℕ} (b : ℕ) (t : List ℕ) → p ≡ at + 1 → Put old p t m r mid → Put mid at (b ∷ []) 1 q new → Put old at (b ∷ t) (m + 1) r new

@@ -1,7 +1,7 @@
 -- The value of a call, one number at a time, and its bytes by the tests of the code. Assumes nothing.
-use Rattle.std.proofs.Common.{◌≡◌, ℕ, zero, suc, ◌+◌, ◌<◌, ◌≤◌, leb, List, [], ◌∷◌, ◌++◌, length, get_or, take, drop, sym, refl, ap, ◌∙◌, add-one, arith, length-take-le, drop-cons, get_or-take, le-ltb, lt-ltb, eq-eqb, ne_eqb, leb-true}
+use Rattle.std.proofs.Common.{◌≡◌, ℕ, zero, suc, ◌+◌, ◌-◌, ◌/◌, ◌%◌, ◌<◌, ◌≤◌, Bool, true, false, nat_lt, nat_eq, leb, List, [], ◌∷◌, ◌++◌, length, get_or, take, drop, sym, refl, ap, ◌∙◌, add-one, arith, drop-cons, leb-true}
 use lib.Seq.{drop-length}
-use Rattle.lists.specs.Lists.{between}
+use Rattle.lists.specs.Lists.{when◌then◌else◌, between}
 use Rattle.lists.proofs.Bools.{cases, either, and_right}
 use Rattle.wire.specs.Asked.{asked}
 use Rattle.wire.specs.declared.Call.{Call}
@@ -10,39 +10,38 @@ use Rattle.forms.specs.declared.Tagged.{Tagged}
 use Rattle.forms.specs.Forms.{kind_of, form_of, tag_of, numbers_of, flat_round, flattened}
 use Rattle.forms.specs.Encode.{bytes_of, width_of, raw_of, field_bytes, value_from, tagged, encode_form}
 
--- the numbers from number i on
-pub rest-next : (count i : ℕ) (xs : List ℕ) → length xs ≡ 8 → count ≤ 8 → i < count
-    → drop i (take count xs) ≡ get_or xs i 0 ∷ drop (suc i) (take count xs)
-rest-next count i xs l h lt =
-    let k : length (take count xs) ≡ count = length-take-le count xs (omega arith) in
-    drop-cons (take count xs) i 0 (omega arith) ∙ ap (λ (n : ℕ). n ∷ drop (suc i) (take count xs)) (get_or-take count xs i 0 lt)
-
-pub rest-none : (count i : ℕ) (xs : List ℕ) → length xs ≡ 8 → count ≤ 8 → i ≤ count → count ≤ i → drop i (take count xs) ≡ []
-rest-none count i xs l h le ge =
-    let k : length (take count xs) ≡ i = length-take-le count xs (omega arith) ∙ omega arith in
-    ap (λ (j : ℕ). drop j (take count xs)) (sym k) ∙ drop-length (take count xs)
-
-pub value-next : (tag count i : ℕ) (xs : List ℕ) → length xs ≡ 8 → count ≤ 8 → i < count
-    → value_from tag i (drop i (take count xs)) ≡ field_bytes (kind_of tag i) (get_or xs i 0) ++ value_from tag (i + 1) (drop (i + 1) (take count xs))
+pub value-next : (tag i : ℕ) (xs : List ℕ) → i < length xs
+    → value_from tag i (drop i xs) ≡ field_bytes (kind_of tag i) (get_or xs i 0) ++ value_from tag (i + 1) (drop (i + 1) xs)
 unfolding value_from
-value-next tag count i xs l h lt =
-    rw (add-one i) (ap (value_from tag i) (rest-next count i xs l h lt))
+value-next tag i xs lt = rw (add-one i) (ap (value_from tag i) (drop-cons xs i 0 lt))
 
-pub value_none : (tag count i : ℕ) (xs : List ℕ) → length xs ≡ 8 → count ≤ 8 → i ≤ count → count ≤ i → value_from tag i (drop i (take count xs)) ≡ []
+pub value_none : (tag i : ℕ) (xs : List ℕ) → i ≡ length xs → value_from tag i (drop i xs) ≡ []
 unfolding value_from
-value_none tag count i xs l h le ge = ap (value_from tag i) (rest-none count i xs l h le ge)
+value_none tag i xs e = ap (value_from tag i) (ap (λ (j : ℕ). drop j xs) e ∙ drop-length xs)
 
-pub bytes_low : (kind n x b : ℕ) → kind < 2 → x ≡ raw_of kind n → b ∷ [] ≡ bytes_of 1 x → b ∷ [] ≡ field_bytes kind n
-unfolding field_bytes width_of
-bytes_low kind n x b h e f = rw (lt-ltb kind 2 h) (f ∙ ap (bytes_of 1) e)
+-- a number in four bytes, as the library has them
+abbrev pub four : ℕ → List ℕ
+four n = (n / 16777216 % 256) ∷ (n / 65536 % 256) ∷ (n / 256 % 256) ∷ (n % 256) ∷ []
 
-pub bytes-two : (kind n x : ℕ) → kind ≡ 2 → x ≡ raw_of kind n → bytes_of 2 x ≡ field_bytes kind n
-unfolding field_bytes width_of
-bytes-two kind n x h e = rw (le-ltb kind 2 (omega arith), eq-eqb kind 2 h) (ap (bytes_of 2) e)
+pub four-is : (n : ℕ) → four n ≡ bytes_of 4 n
+unfolding bytes_of
+four-is n =
+    let a : n / 16777216 ≡ n / 256 / 256 / 256 = omega arith in
+    let b : n / 65536 ≡ n / 256 / 256 = omega arith in
+    rw (a, b) refl
 
-pub bytes-four : (kind n x : ℕ) → 2 ≤ kind → (kind ≡ 2 → ⊥) → x ≡ raw_of kind n → bytes_of 4 x ≡ field_bytes kind n
-unfolding field_bytes width_of
-bytes-four kind n x l h e = rw (le-ltb kind 2 l, ne_eqb kind 2 h) (ap (bytes_of 4) e)
+-- the last bytes of four are the bytes of the kind
+pub field-is : (kind n x w : ℕ) (bytes : List ℕ) → x ≡ raw_of kind n → bytes ≡ four x → w ≡ width_of kind
+    → take (4 - (4 - w)) (drop (4 - w) bytes) ≡ field_bytes kind n
+unfolding field_bytes width_of bytes_of
+field-is kind n x w bytes e f g = rw (g, f, ← e) (go (nat_lt kind 2) (nat_eq kind 2))
+  where
+    go : (a b : Bool)
+        → let w : ℕ = when a then 1 else when b then 2 else 4 in
+        take (4 - (4 - w)) (drop (4 - w) (four x)) ≡ bytes_of w x
+    go true b = refl
+    go false true = refl
+    go false false = four-is x
 
 pub form-some : (tag : ℕ) (ns : List ℕ) → (tag ≡ 0 → ⊥) → encode_form (tag, ns) ≡ tagged tag (value_from tag 0 ns)
 unfolding encode_form

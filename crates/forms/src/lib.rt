@@ -4,7 +4,7 @@
 ghost use Rattle.std.specs.Prelude.{◌≡◌, ◌+◌, ◌%◌, ◌<◌, ◌≤◌, [], ◌∷◌, length, take};
 ghost use Rattle.wire.specs.Asked.{asked};
 ghost use Rattle.forms.specs.Forms.{kind_of, flat_of, flat_round, flattened};
-ghost use Rattle.forms.specs.Encode.{tagged, bytes_of, raw_of, field_bytes, value_from, encoded_into};
+ghost use Rattle.forms.specs.Encode.{tagged, bytes_of, raw_of, width_of, field_bytes, value_from, encoded_into};
 ghost use Rattle.forms.specs.Put.{Put, Written, put_into};
 
 use wire::Call;
@@ -36,39 +36,14 @@ const KINDS: [u8; 128] = *b"\
     \x01\x01\x05\x00\x00\x00\x00\x00\
     \x01\x02\x00\x00\x00\x00\x00\x00";
 
-// A byte as a place.
-fn place(b: u8) -> usize
-    ensures { (result ≡ b) × (result < 256) }
-{
-    b as usize
-}
-
 // The kind of a call's number i, by its tag; 0 where there is none.
 pub fn kind(tag: u8, i: usize) -> u8
     ensures { result ≡ kind_of tag i }
 {
-    if 16 <= tag {
+    if 16 <= tag || 8 <= i {
         return 0;
     }
-    if 8 <= i {
-        return 0;
-    }
-    let k = place(tag) * 8 + i;
-    KINDS[k]
-}
-
-// A number of one byte as a wider one.
-fn one_wide(n: u8) -> u32
-    ensures { result ≡ n }
-{
-    n as u32
-}
-
-// A number of two bytes as a wider one.
-fn two_wide(n: u16) -> u32
-    ensures { result ≡ n }
-{
-    n as u32
+    KINDS[usize::from(tag) * 8 + i]
 }
 
 // A call by its tag and its first numbers, of up to six.
@@ -83,30 +58,37 @@ fn flat_of(tag: u8, count: usize, a: u32, b: u32, c: u32, d: u32, e: u32, f: u32
 }
 
 // ROUND, which has one to four reserves.
+#[tactic(auto, unfolding(crate::specs::Forms::flat_round))]
 fn flat_round(n: u8, a: u32, b: u32, c: u32, d: u32) -> Tagged
     ensures { result ≡ flat_round n a b c d }
 {
-    if lists::both(1 <= n, n <= 4) {
-        return flat_of(4, place(n), a, b, c, d, 0, 0);
+    match n {
+        1..=4 => flat_of(4, usize::from(n), a, b, c, d, 0, 0),
+        _ => flat_of(0, 0, 0, 0, 0, 0, 0, 0),
     }
-    flat_of(0, 0, 0, 0, 0, 0, 0, 0)
 }
 
 fn flat_head(h: wire::Head) -> Tagged
     ensures { result ≡ flat_of 1 8 h.pools h.least h.set h.hedge h.other h.margin h.fund h.house }
 {
-    let pools = one_wide(h.pools);
-    let least = two_wide(h.least);
     Tagged {
         tag: 1,
         count: 8,
         numbers: [
-            pools, least, h.set, h.hedge, h.other, h.margin, h.fund, h.house,
+            u32::from(h.pools),
+            u32::from(h.least),
+            h.set,
+            h.hedge,
+            h.other,
+            h.margin,
+            h.fund,
+            h.house,
         ],
     }
 }
 
 // A call as its tag and its numbers.
+#[tactic(auto, unfolding(crate::specs::Forms::flattened))]
 pub fn flat(call: Call) -> Tagged
     ensures { result ≡ flattened call }
 {
@@ -115,9 +97,9 @@ pub fn flat(call: Call) -> Tagged
         Call::Pool { pool, units, mark } => flat_of(
             2,
             3,
-            one_wide(pool),
-            two_wide(units),
-            one_wide(mark),
+            u32::from(pool),
+            u32::from(units),
+            u32::from(mark),
             0,
             0,
             0,
@@ -132,12 +114,12 @@ pub fn flat(call: Call) -> Tagged
         } => flat_of(
             3,
             6,
-            one_wide(member),
+            u32::from(member),
             contribution,
-            two_wide(a),
-            two_wide(b),
-            two_wide(c),
-            two_wide(d),
+            u32::from(a),
+            u32::from(b),
+            u32::from(c),
+            u32::from(d),
         ),
         Call::Round { count, a, b, c, d } => flat_round(count, a, b, c, d),
         Call::Bid {
@@ -148,31 +130,31 @@ pub fn flat(call: Call) -> Tagged
         } => flat_of(
             5,
             4,
-            one_wide(pool),
-            one_wide(member),
-            two_wide(units),
+            u32::from(pool),
+            u32::from(member),
+            u32::from(units),
             price,
             0,
             0,
         ),
         Call::Close => flat_of(6, 0, 0, 0, 0, 0, 0, 0),
-        Call::Allocate { pool, price } => flat_of(7, 2, one_wide(pool), price, 0, 0, 0, 0),
-        Call::Tear { pool, price } => flat_of(8, 2, one_wide(pool), price, 0, 0, 0, 0),
+        Call::Allocate { pool, price } => flat_of(7, 2, u32::from(pool), price, 0, 0, 0, 0),
+        Call::Tear { pool, price } => flat_of(8, 2, u32::from(pool), price, 0, 0, 0, 0),
         Call::Call => flat_of(9, 0, 0, 0, 0, 0, 0, 0),
-        Call::Pay { member, amount } => flat_of(10, 2, one_wide(member), amount, 0, 0, 0, 0),
-        Call::Move { member } => flat_of(11, 1, one_wide(member), 0, 0, 0, 0, 0),
-        Call::Miss { member, price } => flat_of(12, 2, one_wide(member), price, 0, 0, 0, 0),
+        Call::Pay { member, amount } => flat_of(10, 2, u32::from(member), amount, 0, 0, 0, 0),
+        Call::Move { member } => flat_of(11, 1, u32::from(member), 0, 0, 0, 0, 0),
+        Call::Miss { member, price } => flat_of(12, 2, u32::from(member), price, 0, 0, 0, 0),
         Call::Finish => flat_of(13, 0, 0, 0, 0, 0, 0, 0),
         Call::Sale {
             pool,
             member,
             price,
-        } => flat_of(14, 3, one_wide(pool), one_wide(member), price, 0, 0, 0),
+        } => flat_of(14, 3, u32::from(pool), u32::from(member), price, 0, 0, 0),
         Call::Withdraw { member, bid } => flat_of(
             15,
             2,
-            one_wide(member),
-            two_wide(bid),
+            u32::from(member),
+            u32::from(bid),
             0,
             0,
             0,
@@ -182,46 +164,37 @@ pub fn flat(call: Call) -> Tagged
     }
 }
 
-// A byte at a place of the buffer, and the next place.
-fn put(out: &mut [u8], at: usize, b: u8) -> usize
-    requires { at + 1 ≤ length out.old }
-    ensures { Put out.old at (b ∷ []) 1 result out.new }
+// Bytes from a place of the buffer on, and the place behind them.
+fn put(out: &mut [u8], at: usize, bytes: &[u8]) -> usize
+    requires { at + length bytes.now ≤ length out.old }
+    ensures { Put out.old at bytes.now (length bytes.now) result out.new }
 {
-    out[at] = b;
-    at + 1
-}
-
-// The last byte of a number.
-fn low(n: u32) -> u8
-    ensures { result ≡ n % 256 }
-{
-    (n % 256) as u8
-}
-
-fn put_two(out: &mut [u8], at: usize, n: u32) -> usize
-    requires { at + 2 ≤ length out.old }
-    ensures { Put out.old at (bytes_of 2 n) 2 result out.new }
-{
-    let a = put(out, at, low(n / 256));
-    put(out, a, low(n))
-}
-
-fn put_four(out: &mut [u8], at: usize, n: u32) -> usize
-    requires { at + 4 ≤ length out.old }
-    ensures { Put out.old at (bytes_of 4 n) 4 result out.new }
-{
-    let a = put_two(out, at, n / 65536);
-    put_two(out, a, n)
+    let to = at + bytes.len();
+    out[at..to].copy_from_slice(bytes);
+    to
 }
 
 // The number that is written: a price in two's complement.
+#[tactic(auto, unfolding(crate::specs::Encode::raw_of))]
 fn raw(kind: u8, n: u32) -> u32
     ensures { result ≡ raw_of kind n }
 {
     if kind == 5 {
-        std::num::wrapping_add_u32(n, 4293967296)
+        n.wrapping_add(4293967296)
     } else {
         n
+    }
+}
+
+// How many bytes a number takes, by its kind.
+#[tactic(auto, unfolding(crate::specs::Encode::width_of))]
+fn width(kind: u8) -> usize
+    ensures { (result ≡ width_of kind) × (1 ≤ result) × (result ≤ 4) }
+{
+    match kind {
+        0..=1 => 1,
+        2 => 2,
+        _ => 4,
     }
 }
 
@@ -230,40 +203,32 @@ fn put_field(out: &mut [u8], at: usize, kind: u8, n: u32) -> usize
     requires { at + 4 ≤ length out.old }
     ensures { Put out.old at (field_bytes kind n) 4 result out.new }
 {
-    let x = raw(kind, n);
-    if kind < 2 {
-        return put(out, at, low(x));
-    }
-    if kind == 2 {
-        return put_two(out, at, x);
-    }
-    put_four(out, at, x)
+    let bytes = raw(kind, n).to_be_bytes();
+    put(out, at, &bytes[4 - width(kind)..])
 }
 
 // The numbers of a call, from a place on.
-fn put_fields(out: &mut [u8], at: usize, tag: u8, count: usize, numbers: [u32; 8]) -> usize
-    requires { (count ≤ 8) × (at + 32 ≤ length out.old) }
-    ensures { Put out.old at (value_from tag 0 (take count numbers)) 32 result out.new }
+fn put_fields(out: &mut [u8], at: usize, tag: u8, numbers: &[u32]) -> usize
+    requires { (length numbers.now ≤ 8) × (at + 32 ≤ length out.old) }
+    ensures { Put out.old at (value_from tag 0 numbers.now) 32 result out.new }
 {
     let mut to = at;
-    let mut i: usize = 0;
-    while i < count {
-        to = put_field(out, to, kind(tag, i), numbers[i]);
-        i += 1;
+    for (i, n) in numbers.iter().enumerate() {
+        to = put_field(out, to, kind(tag, i), *n);
     }
     to
 }
 
 // A field from a place on, and the place behind it: the value first, and then what stands before it.
-fn put_form(out: &mut [u8], at: usize, tag: u8, count: usize, numbers: [u32; 8]) -> usize
-    requires { (count ≤ 8) × (at + 64 ≤ length out.old) }
-    ensures { Put out.old at (tagged tag (value_from tag 0 (take count numbers))) 35 result out.new }
+fn put_form(out: &mut [u8], at: usize, tag: u8, numbers: &[u32]) -> usize
+    requires { (length numbers.now ≤ 8) × (at + 64 ≤ length out.old) }
+    ensures { Put out.old at (tagged tag (value_from tag 0 numbers.now)) 35 result out.new }
 {
     let from = at + 3;
-    let end = put_fields(out, from, tag, count, numbers);
-    put(out, at + 2, (end - from) as u8);
-    put(out, at + 1, 0);
-    put(out, at, tag);
+    let end = put_fields(out, from, tag, numbers);
+    out[at + 2] = (end - from) as u8;
+    out[at + 1] = 0;
+    out[at] = tag;
     end
 }
 
@@ -278,13 +243,10 @@ pub fn write_call(call: Call, out: &mut [u8], at: usize) -> usize
         return at;
     }
     let f = flat(call);
-    let tag = f.tag;
-    let count = f.count;
-    let numbers = f.numbers;
-    if tag == 0 {
+    if f.tag == 0 {
         return at;
     }
-    put_form(out, at, tag, count, numbers)
+    put_form(out, at, f.tag, &f.numbers[..f.count])
 }
 
 // A number in four bytes, from a place on, and the place behind it. Where there is no room, the place and the buffer stay as they are.
@@ -297,5 +259,5 @@ pub fn write_four(out: &mut [u8], at: usize, n: u32) -> usize
     if out.len() - 4 < at {
         return at;
     }
-    put_four(out, at, n)
+    put(out, at, &n.to_be_bytes())
 }

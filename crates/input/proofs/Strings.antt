@@ -1,7 +1,7 @@
 -- Strings cut out of a run of bytes, and numbers written in front of what was there. Assumes nothing.
 use mathlib.Core.Path.{◌≡◌, refl, ap, ◌∙◌}
 use mathlib.Core.List.{List, [], ◌∷◌, ◌++◌}
-use Prim.Native.Nat.{ℕ, zero, suc, ◌+◌, ◌-◌, ◌≤◌, ◌<◌}
+use Prim.Native.Nat.{ℕ, zero, suc, ◌+◌, ◌-◌, ◌≤◌, ◌<◌, min}
 use native.Mathlib.Omega.{arith}
 use lib.Dec.{ltb}
 use lib.ListN.{length, set, get_or, take, drop}
@@ -18,13 +18,9 @@ module _ (at n end : ℕ) where
   unfolding cut_at
   cut_below l = rw (lt-ltb end at l)
 
-  pub cut_inside : at ≤ end → end < n → end ≡ cut_at at n end
+  pub cut-behind : at ≤ end → min end n ≡ cut_at at n end
   unfolding cut_at
-  cut_inside l m = rw (le-ltb end at l) (omega arith)
-
-  pub cut-past : at ≤ end → n ≤ end → n ≡ cut_at at n end
-  unfolding cut_at
-  cut-past l m = rw (le-ltb end at l) (omega arith)
+  cut-behind l = rw (le-ltb end at l) refl
 
   pub cut-there : at ≤ end → end ≤ n → cut_at at n end ≡ end
   unfolding cut_at

@@ -7,20 +7,14 @@ ghost use Rattle.input.specs.Strings.{cut_at};
 ghost use Rattle.input.specs.Fields.{front_size, Cuts};
 
 // Where a string ends: an end below its begin or above the number of bytes is held to them.
+#[tactic(auto, unfolding(crate::specs::Strings::cut_at))]
 pub fn cut_at(at: usize, n: usize, end: usize) -> usize
     ensures { result ≡ cut_at at n end }
 {
     if end < at {
         return at;
     }
-    if end < n { end } else { n }
-}
-
-// A byte as a wider number.
-fn wide(b: u8) -> usize
-    ensures { (result ≡ b) × (result < 256) }
-{
-    b as usize
+    end.min(n)
 }
 
 // All n bytes where the input ends here, and else none.
@@ -38,32 +32,23 @@ pub fn front_size(last: bool, input: &[u8]) -> usize
     if n < 3 {
         return all_if(last, n);
     }
-    let size = 3 + wide(input[1]) * 256 + wide(input[2]);
+    let size = 3 + usize::from(u16::from_be_bytes([input[1], input[2]]));
     if n < size { all_if(last, n) } else { size }
-}
-
-// The smaller of two numbers.
-fn least(a: usize, b: usize) -> usize
-    ensures { result ≡ min a b }
-{
-    if a < b { a } else { b }
 }
 
 // Where the fields at an input's front end, as many as there is room for.
 pub fn cut(last: bool, input: &[u8], room: usize, ends: &mut [usize]) -> usize
     ensures { Cuts last input.now room ends.old ends.new result }
 {
-    let most = least(room, ends.len());
+    let most = room.min(ends.len());
     let mut at: usize = 0;
-    let mut k: usize = 0;
-    while k < most {
+    for k in 0..most {
         let size = front_size(last, &input[at..]);
         if size == 0 {
             return k;
         }
         at += size;
         ends[k] = at;
-        k += 1;
     }
-    k
+    most
 }

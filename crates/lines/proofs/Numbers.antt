@@ -1,59 +1,45 @@
 -- The numbers of a line, one at a time: what is written and what is left make up all. Assumes nothing.
 use mathlib.Core.Path.{◌≡◌, refl, sym, ap, ◌∙◌}
 use mathlib.Core.List.{List, [], ◌∷◌, ◌++◌, append-nil}
-use Prim.Native.Nat.{ℕ, suc, ◌+◌, ◌≤◌, ◌<◌}
+use Prim.Native.Nat.{ℕ, ◌+◌, ◌≤◌, ◌<◌}
 use native.Mathlib.Numerals.{add-one}
 use native.Mathlib.Omega.{arith}
-use lib.ListN.{length, get_or, set, take, drop, length-append}
-use lib.Seq.{sets, drop-cons, drop-length, get_or-take, length-take-le}
+use lib.ListN.{length, get_or, set, drop, length-append}
+use lib.Seq.{sets, drop-cons, drop-length}
 use borrow.Author.Tests.{le-leb, lt-leb}
 use Rattle.machine.specs.Printed.{Line, decimal, numbers_text, text}
 use Rattle.lines.specs.Placed.{Placed, placed, line_text}
 use Rattle.lists.proofs.Stores.{sets_then}
 
 -- the text of what is left from number i on
-abbrev pub text_from : ℕ → List ℕ → ℕ → List ℕ
-text_from count xs i = numbers_text (drop i (take count xs))
+abbrev pub text_from : List ℕ → ℕ → List ℕ
+text_from xs i = numbers_text (drop i xs)
 
 -- a space and a number
 abbrev pub number_text : ℕ → List ℕ
 number_text n = 32 ∷ decimal 20 n
 
-pub text-next : (count i : ℕ) (xs : List ℕ) → length xs ≡ 8 → count ≤ 8 → i < count
-    → text_from count xs i ≡ number_text (get_or xs i 0) ++ text_from count xs (i + 1)
+pub text-next : (i : ℕ) (xs : List ℕ) → i < length xs → text_from xs i ≡ number_text (get_or xs i 0) ++ text_from xs (i + 1)
 unfolding numbers_text
-text-next count i xs l h lt =
-    let k : length (take count xs) ≡ count = length-take-le count xs (omega arith) in
-    let e : drop i (take count xs) ≡ get_or xs i 0 ∷ drop (i + 1) (take count xs) =
-    drop-cons (take count xs) i 0 (omega arith)
-    ∙ ap (λ (n : ℕ). n ∷ drop (suc i) (take count xs)) (get_or-take count xs i 0 lt)
-    ∙ ap (λ (j : ℕ). get_or xs i 0 ∷ drop j (take count xs)) (sym (add-one i))
-    in
-    rw e refl
+text-next i xs lt = rw (add-one i, drop-cons xs i 0) refl
 
-pub text-end : (count i : ℕ) (xs : List ℕ) → length xs ≡ 8 → count ≤ 8 → i ≤ count → count ≤ i → text_from count xs i ≡ 10 ∷ []
+pub text-end : (i : ℕ) (xs : List ℕ) → i ≡ length xs → text_from xs i ≡ 10 ∷ []
 unfolding numbers_text
-text-end count i xs l h le ge =
-    let k : length (take count xs) ≡ i = length-take-le count xs (omega arith) ∙ omega arith in
-    ap numbers_text (ap (λ (j : ℕ). drop j (take count xs)) (sym k) ∙ drop-length (take count xs))
+text-end i xs e = ap numbers_text (ap (λ (j : ℕ). drop j xs) e ∙ drop-length xs)
 
-pub length-next : (count i : ℕ) (xs : List ℕ) → length xs ≡ 8 → count ≤ 8 → i < count
-    → length (text_from count xs i) ≡ 1 + length (decimal 20 (get_or xs i 0)) + length (text_from count xs (i + 1))
-length-next count i xs l h lt =
-    omega (
-      arith,
-      ap length (text-next count i xs l h lt),
-      length-append (number_text (get_or xs i 0)) (text_from count xs (i + 1)),
-    )
+pub length-next : (i : ℕ) (xs : List ℕ) → i < length xs
+    → length (text_from xs i) ≡ 1 + length (decimal 20 (get_or xs i 0)) + length (text_from xs (i + 1))
+length-next i xs lt =
+    omega (arith, ap length (text-next i xs lt), length-append (number_text (get_or xs i 0)) (text_from xs (i + 1)))
 
 -- a number written: what is left is written behind it
-pub sets-next : (count i : ℕ) (xs out : List ℕ) (to : ℕ) → length xs ≡ 8 → count ≤ 8 → i < count
-    → sets (sets out to (number_text (get_or xs i 0))) (to + (1 + length (decimal 20 (get_or xs i 0)))) (text_from count xs (i + 1))
-    ≡ sets out to (text_from count xs i)
-sets-next count i xs out to l h lt =
-    ap (λ (k : ℕ). sets (sets out to (number_text (get_or xs i 0))) k (text_from count xs (i + 1))) (omega arith)
-    ∙ sets_then out to (number_text (get_or xs i 0)) (text_from count xs (i + 1))
-    ∙ ap (sets out to) (sym (text-next count i xs l h lt))
+pub sets-next : (i : ℕ) (xs out : List ℕ) (to : ℕ) → i < length xs
+    → sets (sets out to (number_text (get_or xs i 0))) (to + (1 + length (decimal 20 (get_or xs i 0)))) (text_from xs (i + 1))
+    ≡ sets out to (text_from xs i)
+sets-next i xs out to lt =
+    ap (λ (k : ℕ). sets (sets out to (number_text (get_or xs i 0))) k (text_from xs (i + 1))) (omega arith)
+    ∙ sets_then out to (number_text (get_or xs i 0)) (text_from xs (i + 1))
+    ∙ ap (sets out to) (sym (text-next i xs lt))
 
 -- ---- a line
 

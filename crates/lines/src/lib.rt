@@ -65,16 +65,14 @@ pub fn number(out: &mut [u8], at: usize, n: u64) -> usize
     at + k
 }
 
-// The bytes that the first `count` of eight numbers take, each behind a space, and the line's end.
-fn width(count: usize, numbers: [u64; 8]) -> usize
-    requires { count ≤ 8 }
-    ensures { (result ≡ length (numbers_text (take count numbers))) × (result ≤ 169) }
+// The bytes that at most eight numbers take, each behind a space, and the line's end.
+fn width(numbers: &[u64]) -> usize
+    requires { length numbers.now ≤ 8 }
+    ensures { (result ≡ length (numbers_text numbers.now)) × (result ≤ 169) }
 {
     let mut w: usize = 1;
-    let mut i: usize = 0;
-    while i < count {
-        w += 1 + digits(numbers[i]);
-        i += 1;
+    for n in numbers {
+        w += 1 + digits(*n);
     }
     w
 }
@@ -90,26 +88,17 @@ fn write_number(out: &mut [u8], at: usize, n: u64) -> usize
     at + 1 + k
 }
 
-// The first `count` of eight numbers, each behind a space, and the line's end, from a place of the buffer on, and the place behind them.
-fn write_numbers(out: &mut [u8], at: usize, count: usize, numbers: [u64; 8]) -> usize
-    requires { (count ≤ 8) × (at + length (numbers_text (take count numbers)) ≤ length out.old) }
-    ensures { (result ≡ at + length (numbers_text (take count numbers))) × (out.new ≡ sets out.old at (numbers_text (take count numbers))) }
+// Numbers, each behind a space, and the line's end, from a place of the buffer on, and the place behind them.
+fn write_numbers(out: &mut [u8], at: usize, numbers: &[u64]) -> usize
+    requires { at + length (numbers_text numbers.now) ≤ length out.old }
+    ensures { (result ≡ at + length (numbers_text numbers.now)) × (out.new ≡ sets out.old at (numbers_text numbers.now)) }
 {
     let mut to = at;
-    let mut i: usize = 0;
-    while i < count {
-        to = write_number(out, to, numbers[i]);
-        i += 1;
+    for n in numbers {
+        to = write_number(out, to, *n);
     }
     put(out, to, b'\n');
     to + 1
-}
-
-// As many numbers as a line has.
-fn at_most_eight(count: usize) -> usize
-    ensures { result ≡ min count 8 }
-{
-    if count < 8 { count } else { 8 }
 }
 
 // A line of a letter and the first `count` of at most eight numbers, put into the buffer from a place on, and the place behind it. Where it does not
@@ -117,8 +106,8 @@ fn at_most_eight(count: usize) -> usize
 pub fn write_line(out: &mut [u8], at: usize, letter: u8, count: usize, numbers: [u64; 8]) -> usize
     ensures { ◌≡◌ {A = Placed} (result, out.new) (placed (line_text (line_of letter (min count 8) numbers)) out.old at) }
 {
-    let n = at_most_eight(count);
-    let w = 1 + width(n, numbers);
+    let first = &numbers[..count.min(8)];
+    let w = 1 + width(first);
     if out.len() < at {
         return at;
     }
@@ -126,5 +115,5 @@ pub fn write_line(out: &mut [u8], at: usize, letter: u8, count: usize, numbers: 
         return at;
     }
     put(out, at, letter);
-    write_numbers(out, at + 1, n, numbers)
+    write_numbers(out, at + 1, first)
 }

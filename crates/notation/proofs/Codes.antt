@@ -2,18 +2,17 @@
 use mathlib.Core.Path.{◌≡◌, refl, sym, ap, ◌∙◌}
 use mathlib.Core.Bool.{Bool, true, false}
 use mathlib.Core.List.{List, [], ◌∷◌}
-use Prim.Native.Nat.{ℕ, zero, suc, ◌+◌, ◌-◌, ◌*◌, ◌%◌, ◌^◌, ◌≤◌, ◌<◌}
+use Prim.Native.Nat.{ℕ, zero, suc, ◌+◌, ◌-◌, ◌*◌, ◌%◌, ◌≤◌, ◌<◌}
 use native.Mathlib.Omega.{arith}
 use lib.Dec.{eqb}
 use lib.ListN.{get_or}
-use borrow.Author.Tests.{lt-ltb, le-ltb, le-leb, lt-leb, eq-eqb, ne_eqb}
-use Rattle.lists.specs.Lists.{when◌then◌else◌, tab, all, one_if}
+use borrow.Author.Tests.{lt-ltb, le-ltb, eq-eqb, ne_eqb}
+use Rattle.lists.specs.Lists.{when◌then◌else◌, tab, all}
 use Rattle.lists.proofs.Places.{get_or-tab}
 use Rattle.sets.specs.Set.{with_member}
-use Rattle.wire.specs.declared.Call.TheVariants.{Close, Allocate, Tear, Call as CallCall, Pay, Move, Miss, Finish, Unknown}
 use Rattle.spelling.specs.Words.{keys, key_of}
 use Rattle.spelling.proofs.Tables.{entry-small}
-use Rattle.notation.specs.Reading.{letter_of, grown, code_of, code_from, key_code, tag_named, limit_of, number_of, call_of}
+use Rattle.notation.specs.Reading.{grown, code_of, code_from, key_code, tag_named, limit_of, number_of}
 use Rattle.notation.specs.Computing.{computing}
 
 -- which key stands before the numbers of each call
@@ -66,11 +65,6 @@ key_in tag i l h =
 abbrev pub limits : List ℕ
 limits = 0 ∷ 256 ∷ 65536 ∷ 32 ∷ 4294967296 ∷ 2147483648 ∷ []
 
-pub one-le : (b : Bool) → one_if b ≤ 1
-unfolding one_if
-one-le true = omega arith
-one-le false = omega arith
-
 pub limit-high : (kind : ℕ) → 6 ≤ kind → limit_of kind ≡ 0
 unfolding limit_of
 limit-high zero h = absurd (omega arith)
@@ -98,34 +92,9 @@ pub named_by : (v : ℕ) → tag_named v ≡ (when eqb v 267300 then 1 else when
 unfolding computing
 named_by v = refl
 
-module _ (b : ℕ) where
-  pub letter-low : b < 65 → letter_of b ≡ 0
-  unfolding letter_of
-  letter-low h = rw (lt-leb 65 b h, lt-leb 97 b (omega arith))
-
-  pub letter-capital : 65 ≤ b → b ≤ 90 → letter_of b ≡ b - 64
-  unfolding letter_of
-  letter-capital l h = rw (le-leb 65 b l, le-leb b 90 h)
-
-  pub letter-mid : 90 < b → b < 97 → letter_of b ≡ 0
-  unfolding letter_of
-  letter-mid l h = rw (le-leb 65 b (omega arith), lt-leb b 90 l, lt-leb 97 b h)
-
-  pub letter-small : 97 ≤ b → b ≤ 122 → letter_of b ≡ b - 96
-  unfolding letter_of
-  letter-small l h = rw (le-leb 65 b (omega arith), lt-leb b 90 (omega arith), le-leb 97 b l, le-leb b 122 h)
-
-  pub letter-high : 122 < b → letter_of b ≡ 0
-  unfolding letter_of
-  letter-high h = rw (le-leb 65 b (omega arith), lt-leb b 90 (omega arith), le-leb 97 b (omega arith), lt-leb b 122 h)
-
 pub grown-short : (base v d : ℕ) → v < 36028797018963968 → grown base v d ≡ v * base + d
 unfolding grown
 grown-short base v d h = rw (lt-ltb v 36028797018963968 h)
-
-pub grown-long : (base v d : ℕ) → 36028797018963968 ≤ v → grown base v d ≡ 1152921504606846976
-unfolding grown
-grown-long base v d h = rw (le-ltb v 36028797018963968 h)
 
 module _ (kind set value : ℕ) where
   pub number-set : (minus : Bool) → kind ≡ 3 → number_of kind minus set value ≡ with_member set (value % 256)
@@ -143,50 +112,3 @@ module _ (kind set value : ℕ) where
   pub number-plain : (minus : Bool) → (kind ≡ 3 → ⊥) → (kind ≡ 5 → ⊥) → number_of kind minus set value ≡ value % 4294967296
   unfolding number_of
   number-plain minus h e = rw (ne_eqb kind 3 h, ne_eqb kind 5 e)
-
--- ---- the call, by its tag
-
-module _ (tag count : ℕ) (ns : List ℕ) where
-  pub call-6 : tag ≡ 6 → call_of tag count ns ≡ Close
-  unfolding call_of
-  call-6 e = ap (λ (t : ℕ). call_of t count ns) e
-
-  pub call-7 : tag ≡ 7 → call_of tag count ns ≡ Allocate (get_or ns 0 0 % 2 ^ 8) (get_or ns 1 0)
-  unfolding call_of
-  call-7 e = ap (λ (t : ℕ). call_of t count ns) e
-
-  pub call-8 : tag ≡ 8 → call_of tag count ns ≡ Tear (get_or ns 0 0 % 2 ^ 8) (get_or ns 1 0)
-  unfolding call_of
-  call-8 e = ap (λ (t : ℕ). call_of t count ns) e
-
-  pub call-9 : tag ≡ 9 → call_of tag count ns ≡ CallCall
-  unfolding call_of
-  call-9 e = ap (λ (t : ℕ). call_of t count ns) e
-
-  pub call-10 : tag ≡ 10 → call_of tag count ns ≡ Pay (get_or ns 0 0 % 2 ^ 8) (get_or ns 1 0)
-  unfolding call_of
-  call-10 e = ap (λ (t : ℕ). call_of t count ns) e
-
-  pub call-11 : tag ≡ 11 → call_of tag count ns ≡ Move (get_or ns 0 0 % 2 ^ 8)
-  unfolding call_of
-  call-11 e = ap (λ (t : ℕ). call_of t count ns) e
-
-  pub call-12 : tag ≡ 12 → call_of tag count ns ≡ Miss (get_or ns 0 0 % 2 ^ 8) (get_or ns 1 0)
-  unfolding call_of
-  call-12 e = ap (λ (t : ℕ). call_of t count ns) e
-
-  pub call-13 : tag ≡ 13 → call_of tag count ns ≡ Finish
-  unfolding call_of
-  call-13 e = ap (λ (t : ℕ). call_of t count ns) e
-
-  pub call_by : (t : ℕ) → tag ≡ t → call_of tag count ns ≡ call_of t count ns
-  call_by t e = ap (λ (u : ℕ). call_of u count ns) e
-
-  pub call_none : tag ≡ 0 → call_of tag count ns ≡ Unknown
-  unfolding call_of
-  call_none e = ap (λ (t : ℕ). call_of t count ns) e
-
-  -- only ROUND has a count
-  pub call-later : 6 ≤ tag → call_of tag 0 ns ≡ call_of tag count ns
-  unfolding call_of
-  call-later h = rw (ne_eqb tag 4 (λ e. omega arith))

@@ -2,6 +2,7 @@
 #![tactic(auto)]
 
 ghost use Rattle.std.specs.Prelude.{◌≡◌, cond, ◌+◌, ◌-◌, ◌%◌, ◌^◌, ◌≤◌, ◌<◌, min, eqb, set};
+ghost use Rattle.wire.specs.declared.Call.TheVariants.{Head};
 ghost use Rattle.notation.specs.Scans.{begin, with_phase, in_word, named, longer, negative, gathered, stored, refused};
 ghost use Rattle.notation.specs.Reading.{letter_of, grown, key_code, tag_named, limit_of, number_of, strangeness, strange, settle_name, settle_key, settle_number, settle_dash, settle, next_point, more_digits, on_letter, on_digit, on_minus, on_point, on_member, on_list, on_comma, complete, ended, returned, behind, mark_read, byte_read, step, scan, call_of, outcome, read_line};
 
@@ -101,56 +102,51 @@ fn begun() -> Scan
 fn to_phase(s: Scan, phase: u8) -> Scan
     ensures { result ≡ with_phase s phase }
 {
-    let mut t = s;
-    t.phase = phase;
-    t
+    Scan { phase, ..s }
 }
 
 fn word(s: Scan, phase: u8, at: usize, letter: u64) -> Scan
     ensures { result ≡ in_word s phase at letter }
 {
-    let mut t = s;
-    t.phase = phase;
-    t.start = at;
-    t.value = letter;
-    t
+    Scan {
+        phase,
+        start: at,
+        value: letter,
+        ..s
+    }
 }
 
 fn with_tag(s: Scan, tag: u8) -> Scan
     ensures { result ≡ named s tag }
 {
-    let mut t = s;
-    t.phase = 2;
-    t.tag = tag;
-    t
+    Scan { phase: 2, tag, ..s }
 }
 
 fn with_value(s: Scan, value: u64, point: u8) -> Scan
     ensures { result ≡ longer s value point }
 {
-    let mut t = s;
-    t.value = value;
-    t.point = point;
-    t
+    Scan { value, point, ..s }
 }
 
 fn with_minus(s: Scan, at: usize) -> Scan
     ensures { result ≡ negative s at }
 {
-    let mut t = s;
-    t.phase = 6;
-    t.start = at;
-    t.minus = true;
-    t
+    Scan {
+        phase: 6,
+        start: at,
+        minus: true,
+        ..s
+    }
 }
 
 fn with_set(s: Scan, members: u32) -> Scan
     ensures { result ≡ gathered s members }
 {
-    let mut t = s;
-    t.phase = 4;
-    t.set = members;
-    t
+    Scan {
+        phase: 4,
+        set: members,
+        ..s
+    }
 }
 
 // The numbers with one at a place, where there is such a place.
@@ -165,96 +161,51 @@ fn with_number(numbers: [u32; 8], i: usize, n: u32) -> [u32; 8]
     out
 }
 
-fn next_item(i: usize) -> usize
-    ensures { result ≡ min (i + 1) 8 }
-{
-    if i < 8 { i + 1 } else { 8 }
-}
-
 fn store(s: Scan, n: u32) -> Scan
     ensures { result ≡ stored s n }
 {
-    let old = s.numbers;
-    let numbers = with_number(old, s.item, n);
-    let item = next_item(s.item);
-    let mut t = s;
-    t.phase = 2;
-    t.item = item;
-    t.point = 0;
-    t.minus = false;
-    t.set = 0;
-    t.numbers = numbers;
-    t
+    Scan {
+        phase: 2,
+        item: s.item.saturating_add(1).min(8),
+        point: 0,
+        minus: false,
+        set: 0,
+        numbers: with_number(s.numbers, s.item, n),
+        ..s
+    }
 }
 
 fn refuse(s: Scan, at: usize, reason: u8) -> Scan
     ensures { result ≡ refused s at reason }
 {
-    let mut t = s;
-    t.phase = 8;
-    t.start = at;
-    t.reason = reason;
-    t
-}
-
-// One of two.
-fn pick(test: bool, a: Scan, b: Scan) -> Scan
-    ensures { result ≡ cond test a b }
-{
-    if test { a } else { b }
-}
-
-// A byte as a wider number.
-fn wide(b: u8) -> u64
-    ensures { (result ≡ b) × (result < 256) }
-{
-    b as u64
-}
-
-// A byte as a place.
-fn place(b: u8) -> usize
-    ensures { (result ≡ b) × (result < 256) }
-{
-    b as usize
+    Scan {
+        phase: 8,
+        start: at,
+        reason,
+        ..s
+    }
 }
 
 // A letter by its place in the alphabet; 0 is no letter.
+#[tactic(auto, unfolding(crate::specs::Reading::letter_of))]
 fn letter(b: u8) -> u64
     ensures { (result ≡ letter_of b) × (result ≤ 26) }
 {
-    let n = wide(b);
-    if n < 65 {
-        return 0;
-    }
-    if n <= 90 {
-        return n - 64;
-    }
-    if n < 97 {
-        return 0;
-    }
-    if n <= 122 {
-        return n - 96;
-    }
-    0
-}
-
-fn with_letter(value: u64, l: u64) -> u64
-    requires { l ≤ 31 }
-    ensures { result ≡ grown 32 value l }
-{
-    if value < 36028797018963968 {
-        value * 32 + l
-    } else {
-        1152921504606846976
+    match b {
+        b'A'..=b'Z' => u64::from(b - b'A') + 1,
+        b'a'..=b'z' => u64::from(b - b'a') + 1,
+        _ => 0,
     }
 }
 
-fn with_digit(value: u64, d: u64) -> u64
-    requires { d ≤ 9 }
-    ensures { result ≡ grown 10 value d }
+// A word or a number with a letter or a digit more; one that is longer than any of the notation stays at 2^60.
+#[tactic(auto, unfolding(crate::specs::Reading::grown))]
+fn grown(base: u64, value: u64, digit: u64) -> u64
+    requires { (base ≤ 32) × (digit ≤ 31) }
+    ensures { result ≡ grown base value digit }
 {
     if value < 36028797018963968 {
-        value * 10 + d
+        value * base + digit
     } else {
         1152921504606846976
     }
@@ -264,14 +215,10 @@ fn with_digit(value: u64, d: u64) -> u64
 fn key(tag: u8, i: usize) -> u64
     ensures { result ≡ key_code tag i }
 {
-    if 16 <= tag {
+    if 16 <= tag || 8 <= i {
         return 0;
     }
-    if 8 <= i {
-        return 0;
-    }
-    let k = place(tag) * 8 + i;
-    let n = place(KEYS[k]);
+    let n = usize::from(KEYS[usize::from(tag) * 8 + i]);
     CODES[n]
 }
 
@@ -279,22 +226,24 @@ fn key(tag: u8, i: usize) -> u64
 fn tag_named(v: u64) -> u8
     ensures { result ≡ tag_named v }
 {
-    let t15 = lists::decline_if(v == 800617285687, 15, 0);
-    let t14 = lists::decline_if(v == 624005, 14, t15);
-    let t13 = lists::decline_if(v == 211232360, 13, t14);
-    let t12 = lists::decline_if(v == 435827, 12, t13);
-    let t11 = lists::decline_if(v == 442053, 11, t12);
-    let t10 = lists::decline_if(v == 16441, 10, t11);
-    let t9 = lists::decline_if(v == 99724, 9, t10);
-    let t8 = lists::decline_if(v == 660530, 8, t9);
-    let t7 = lists::decline_if(v == 47663122053, 7, t8);
-    let t6 = lists::decline_if(v == 3554917, 6, t7);
-    let t5 = lists::decline_if(v == 2340, 5, t6);
-    let t4 = lists::decline_if(v == 19387844, 4, t5);
-    let t3 = lists::decline_if(v == 441878706, 3, t4);
-    let t2 = lists::decline_if(v == 540140, 2, t3);
-    let t1 = lists::decline_if(v == 267300, 1, t2);
-    t1
+    match v {
+        267300 => 1,
+        540140 => 2,
+        441878706 => 3,
+        19387844 => 4,
+        2340 => 5,
+        3554917 => 6,
+        47663122053 => 7,
+        660530 => 8,
+        99724 => 9,
+        16441 => 10,
+        442053 => 11,
+        435827 => 12,
+        211232360 => 13,
+        624005 => 14,
+        800617285687 => 15,
+        _ => 0,
+    }
 }
 
 fn limit(kind: u8) -> u64
@@ -303,8 +252,7 @@ fn limit(kind: u8) -> u64
     if 6 <= kind {
         return 0;
     }
-    let k = place(kind);
-    LIMITS[k]
+    LIMITS[usize::from(kind)]
 }
 
 // The last byte of a number.
@@ -312,13 +260,6 @@ fn low_one(n: u64) -> u8
     ensures { result ≡ n % 2 ^ 8 }
 {
     (n % 256) as u8
-}
-
-// The last two bytes of a number.
-fn low_two(n: u64) -> u16
-    ensures { result ≡ n % 2 ^ 16 }
-{
-    (n % 65536) as u16
 }
 
 // The last four bytes of a number.
@@ -329,373 +270,334 @@ fn low_four(n: u64) -> u32
 }
 
 // The number that is held of a value that is read.
+#[tactic(auto, unfolding(crate::specs::Reading::number_of))]
 fn number(kind: u8, minus: bool, set: u32, value: u64) -> u32
     requires { value ≤ 4294967296 }
     ensures { result ≡ number_of kind minus set value }
 {
     if kind == 3 {
-        return sets::with(set, low_one(value));
+        sets::with(set, low_one(value))
+    } else if kind != 5 {
+        low_four(value)
+    } else if minus {
+        low_four(4295967296 - value)
+    } else {
+        low_four(value + 1000000)
     }
-    if kind == 5 {
-        if minus {
-            return low_four(4295967296 - value);
-        }
-        return low_four(value + 1000000);
-    }
-    low_four(value)
 }
 
 // Why a byte is not expected.
+#[tactic(auto, unfolding(crate::specs::Reading::strangeness))]
 fn strange_reason(s: Scan) -> u8
     ensures { result ≡ strangeness s }
 {
-    let phase = s.phase;
-    if phase < 2 {
-        return 1;
+    if s.phase < 2 {
+        1
+    } else if s.phase == 3 {
+        8
+    } else if 4 <= s.phase {
+        3
+    } else if forms::kind(s.tag, s.item) == 0 {
+        5
+    } else if key(s.tag, s.item) == 0 {
+        7
+    } else {
+        2
     }
-    if phase == 3 {
-        return 8;
-    }
-    if 4 <= phase {
-        return 3;
-    }
-    let kind = forms::kind(s.tag, s.item);
-    if kind == 0 {
-        return 5;
-    }
-    let k = key(s.tag, s.item);
-    if k == 0 {
-        return 7;
-    }
-    2
 }
 
 // A byte that is not expected at its place.
 fn not_expected(s: Scan, at: usize) -> Scan
     ensures { result ≡ strange s at }
 {
-    let reason = strange_reason(s);
-    refuse(s, at, reason)
+    refuse(s, at, strange_reason(s))
 }
 
 // A word ends: the name of a call.
+#[tactic(auto, unfolding(crate::specs::Reading::settle_name))]
 fn settle_name(s: Scan) -> Scan
     ensures { result ≡ settle_name s }
 {
-    let tag = tag_named(s.value);
-    let no = refuse(s, s.start, 1);
-    let yes = with_tag(s, tag);
-    pick(tag == 0, no, yes)
+    match tag_named(s.value) {
+        0 => refuse(s, s.start, 1),
+        tag => with_tag(s, tag),
+    }
 }
 
 // A word ends: the key of a number.
+#[tactic(auto, unfolding(crate::specs::Reading::settle_key))]
 fn settle_key(s: Scan) -> Scan
     ensures { result ≡ settle_key s }
 {
-    let k = key(s.tag, s.item);
-    let no = refuse(s, s.start, 2);
-    let yes = to_phase(s, 4);
-    pick(s.value == k, yes, no)
+    if s.value == key(s.tag, s.item) {
+        to_phase(s, 4)
+    } else {
+        refuse(s, s.start, 2)
+    }
 }
 
 // A number ends.
+#[tactic(auto, unfolding(crate::specs::Reading::settle_number, lists::specs::Lists::one_if))]
 fn settle_number(s: Scan) -> Scan
     ensures { result ≡ settle_number s }
 {
-    let k = forms::kind(s.tag, s.item);
-    let open = lists::both(4 <= k, s.point != 3);
-    if open {
+    let kind = forms::kind(s.tag, s.item);
+    if 4 <= kind && s.point != 3 {
         return refuse(s, s.start, 3);
     }
-    let most = limit(k) + lists::one_if(s.minus);
+    let most = limit(kind) + u64::from(s.minus);
     if s.value < most {
-        let n = number(k, s.minus, s.set, s.value);
-        return store(s, n);
+        store(s, number(kind, s.minus, s.set, s.value))
+    } else {
+        refuse(s, s.start, 4)
     }
-    refuse(s, s.start, 4)
 }
 
 // A dash ends: alone it is the empty set.
+#[tactic(auto, unfolding(crate::specs::Reading::settle_dash))]
 fn settle_dash(s: Scan) -> Scan
     ensures { result ≡ settle_dash s }
 {
-    let k = forms::kind(s.tag, s.item);
-    let no = refuse(s, s.start, 3);
-    let yes = store(s, 0);
-    pick(k == 3, yes, no)
+    if forms::kind(s.tag, s.item) == 3 {
+        store(s, 0)
+    } else {
+        refuse(s, s.start, 3)
+    }
 }
 
 // A word or a number ends, if there is one.
+#[tactic(auto, unfolding(crate::specs::Reading::settle))]
 fn settled(s: Scan) -> Scan
     ensures { result ≡ settle s }
 {
-    let phase = s.phase;
-    if phase == 1 {
-        return settle_name(s);
+    match s.phase {
+        1 => settle_name(s),
+        3 => settle_key(s),
+        5 => settle_number(s),
+        6 => settle_dash(s),
+        _ => s,
     }
-    if phase == 3 {
-        return settle_key(s);
-    }
-    if phase == 5 {
-        return settle_number(s);
-    }
-    if phase == 6 {
-        return settle_dash(s);
-    }
-    s
 }
 
 // A letter at a place.
+#[tactic(auto, unfolding(crate::specs::Reading::on_letter))]
 fn on_letter(s: Scan, l: u64, at: usize) -> Scan
     requires { l ≤ 31 }
     ensures { result ≡ on_letter s l at }
 {
-    let phase = s.phase;
-    if phase == 0 {
-        return word(s, 1, at, l);
+    if s.phase == 0 {
+        word(s, 1, at, l)
+    } else if s.phase == 1 || s.phase == 3 {
+        with_value(s, grown(32, s.value, l), s.point)
+    } else if s.phase == 2 && key(s.tag, s.item) != 0 {
+        word(s, 3, at, l)
+    } else {
+        not_expected(s, at)
     }
-    let inside = lists::either(phase == 1, phase == 3);
-    if inside {
-        let v = with_letter(s.value, l);
-        return with_value(s, v, s.point);
-    }
-    if phase == 2 {
-        let k = key(s.tag, s.item);
-        let no = not_expected(s, at);
-        let yes = word(s, 3, at, l);
-        return pick(k == 0, no, yes);
-    }
-    not_expected(s, at)
 }
 
 // The digits behind the point, with one more.
+#[tactic(auto, unfolding(crate::specs::Reading::next_point))]
 fn next_point(p: u8) -> u8
     ensures { result ≡ next_point p }
 {
-    if p == 0 {
-        return 0;
-    }
-    if p < 3 {
-        return p + 1;
-    }
-    3
+    if p == 0 { 0 } else { p.min(2) + 1 }
 }
 
 // A digit in a number.
+#[tactic(auto, unfolding(crate::specs::Reading::more_digits))]
 fn more_digits(s: Scan, d: u64, at: usize) -> Scan
     requires { d ≤ 9 }
     ensures { result ≡ more_digits s d at }
 {
-    let v = with_digit(s.value, d);
-    let point = next_point(s.point);
-    let no = refuse(s, at, 3);
-    let yes = with_value(s, v, point);
-    pick(s.point == 3, no, yes)
+    if s.point == 3 {
+        refuse(s, at, 3)
+    } else {
+        with_value(s, grown(10, s.value, d), next_point(s.point))
+    }
 }
 
 // A digit at a place.
+#[tactic(auto, unfolding(crate::specs::Reading::on_digit))]
 fn on_digit(s: Scan, d: u64, at: usize) -> Scan
     requires { d ≤ 9 }
     ensures { result ≡ on_digit s d at }
 {
-    let phase = s.phase;
-    if phase == 4 {
-        return word(s, 5, at, d);
+    if s.phase == 4 {
+        word(s, 5, at, d)
+    } else if s.phase == 5 {
+        more_digits(s, d, at)
+    } else if s.phase == 6 && forms::kind(s.tag, s.item) == 5 {
+        word(s, 5, s.start, d)
+    } else {
+        not_expected(s, at)
     }
-    if phase == 5 {
-        return more_digits(s, d, at);
-    }
-    let k = forms::kind(s.tag, s.item);
-    let test = lists::both(phase == 6, k == 5);
-    let no = not_expected(s, at);
-    let yes = word(s, 5, s.start, d);
-    pick(test, yes, no)
 }
 
 // A minus sign at a place.
+#[tactic(auto, unfolding(crate::specs::Reading::on_minus))]
 fn on_minus(s: Scan, at: usize) -> Scan
     ensures { result ≡ on_minus s at }
 {
-    let k = forms::kind(s.tag, s.item);
-    let empty = lists::both(k == 3, s.set == 0);
-    let fits = lists::either(k == 5, empty);
-    let test = lists::both(s.phase == 4, fits);
-    let no = not_expected(s, at);
-    let yes = with_minus(s, at);
-    pick(test, yes, no)
+    let kind = forms::kind(s.tag, s.item);
+    if s.phase == 4 && (kind == 5 || kind == 3 && s.set == 0) {
+        with_minus(s, at)
+    } else {
+        not_expected(s, at)
+    }
 }
 
 // A point at a place.
+#[tactic(auto, unfolding(crate::specs::Reading::on_point))]
 fn on_point(s: Scan, at: usize) -> Scan
     ensures { result ≡ on_point s at }
 {
-    let k = forms::kind(s.tag, s.item);
-    let fits = lists::both(s.point == 0, 4 <= k);
-    let test = lists::both(s.phase == 5, fits);
-    let no = not_expected(s, at);
-    let yes = with_value(s, s.value, 1);
-    pick(test, yes, no)
+    if s.phase == 5 && s.point == 0 && 4 <= forms::kind(s.tag, s.item) {
+        with_value(s, s.value, 1)
+    } else {
+        not_expected(s, at)
+    }
 }
 
 // A comma behind a member of a set.
+#[tactic(auto, unfolding(crate::specs::Reading::on_member))]
 fn on_member(s: Scan) -> Scan
     ensures { result ≡ on_member s }
 {
-    let m = low_one(s.value);
-    let members = sets::with(s.set, m);
-    let no = refuse(s, s.start, 4);
-    let yes = with_set(s, members);
-    pick(s.value < 32, yes, no)
+    if s.value < 32 {
+        with_set(s, sets::with(s.set, low_one(s.value)))
+    } else {
+        refuse(s, s.start, 4)
+    }
 }
 
 // A comma behind a number, where the next has no key.
+#[tactic(auto, unfolding(crate::specs::Reading::on_list))]
 fn on_list(t: Scan, at: usize) -> Scan
     ensures { result ≡ on_list t at }
 {
     if t.phase == 8 {
-        return t;
+        t
+    } else if t.phase == 2 && key(t.tag, t.item) == 0 && forms::kind(t.tag, t.item) != 0 {
+        to_phase(t, 4)
+    } else {
+        not_expected(t, at)
     }
-    let k = key(t.tag, t.item);
-    let kind = forms::kind(t.tag, t.item);
-    let more = lists::both(k == 0, kind != 0);
-    let test = lists::both(t.phase == 2, more);
-    let no = not_expected(t, at);
-    let yes = to_phase(t, 4);
-    pick(test, yes, no)
 }
 
 // A comma at a place.
+#[tactic(auto, unfolding(crate::specs::Reading::on_comma))]
 fn on_comma(s: Scan, at: usize) -> Scan
     ensures { result ≡ on_comma s at }
 {
-    let phase = s.phase;
-    if phase == 2 {
-        return refuse(s, at, 7);
+    if s.phase == 2 {
+        refuse(s, at, 7)
+    } else if s.phase != 5 {
+        not_expected(s, at)
+    } else if forms::kind(s.tag, s.item) == 3 {
+        on_member(s)
+    } else {
+        on_list(settled(s), at)
     }
-    if phase != 5 {
-        return not_expected(s, at);
-    }
-    let k = forms::kind(s.tag, s.item);
-    if k == 3 {
-        return on_member(s);
-    }
-    let t = settled(s);
-    on_list(t, at)
 }
 
 // Whether a call has all its numbers.
+#[tactic(auto, unfolding(crate::specs::Reading::complete))]
 fn is_complete(t: Scan) -> bool
     ensures { result ≡ complete t }
 {
-    let k = forms::kind(t.tag, t.item);
-    let round = lists::both(t.tag == 4, 0 < t.item);
-    lists::either(k == 0, round)
-}
-
-// Why a line ends too early.
-fn short_reason(phase: u8) -> u8
-    ensures { result ≡ cond (eqb phase 4) 9 6 }
-{
-    if phase == 4 { 9 } else { 6 }
+    forms::kind(t.tag, t.item) == 0 || t.tag == 4 && 0 < t.item
 }
 
 // The line's end, behind a word or a number.
+#[tactic(auto, unfolding(crate::specs::Reading::ended))]
 fn end_at(t: Scan, at: usize) -> Scan
     ensures { result ≡ ended t at }
 {
     if t.phase == 8 {
-        return t;
+        t
+    } else if t.phase == 0 || t.phase == 2 && is_complete(t) {
+        to_phase(t, 7)
+    } else {
+        refuse(t, at, if t.phase == 4 { 9 } else { 6 })
     }
-    let whole = is_complete(t);
-    let call = lists::both(t.phase == 2, whole);
-    let test = lists::either(t.phase == 0, call);
-    let reason = short_reason(t.phase);
-    let no = refuse(t, at, reason);
-    let yes = to_phase(t, 7);
-    pick(test, yes, no)
 }
 
 // A carriage return, behind a line that has ended.
+#[tactic(auto, unfolding(crate::specs::Reading::returned))]
 fn return_at(t: Scan, at: usize) -> Scan
     ensures { result ≡ returned t at }
 {
-    let yes = word(t, 9, at, t.value);
-    pick(t.phase == 8, t, yes)
+    if t.phase == 8 {
+        t
+    } else {
+        word(t, 9, at, t.value)
+    }
 }
 
 // A byte behind the line's end.
+#[tactic(auto, unfolding(crate::specs::Reading::behind))]
 fn on_rest(s: Scan, b: u8, at: usize) -> Scan
     ensures { result ≡ behind s b at }
 {
-    let first = lists::both(s.phase == 7, b == 13);
-    let other = lists::both(9 <= s.phase, b != 10);
-    let no = refuse(s, s.start, 10);
-    let yes = return_at(s, at);
-    let rest = pick(other, no, s);
-    pick(first, yes, rest)
-}
-
-// The number of a digit.
-fn digit_of(b: u8) -> u64
-    requires { (48 ≤ b) × (b ≤ 57) }
-    ensures { (result ≡ b - 48) × (result ≤ 9) }
-{
-    wide(b) - 48
+    if s.phase == 7 && b == b'\r' {
+        return_at(s, at)
+    } else if 9 <= s.phase && b != b'\n' {
+        refuse(s, s.start, 10)
+    } else {
+        s
+    }
 }
 
 // A byte that is no space and doesn't end the line.
+#[tactic(auto, unfolding(crate::specs::Reading::mark_read))]
 fn on_mark(s: Scan, b: u8, at: usize) -> Scan
     ensures { result ≡ mark_read s b at }
 {
-    if b == 44 {
-        return on_comma(s, at);
+    if b == b',' {
+        on_comma(s, at)
+    } else if b == b'.' {
+        on_point(s, at)
+    } else if b == b'-' {
+        on_minus(s, at)
+    } else if b'0' <= b && b <= b'9' {
+        on_digit(s, u64::from(b - b'0'), at)
+    } else {
+        let l = letter(b);
+        if l == 0 {
+            not_expected(s, at)
+        } else {
+            on_letter(s, l, at)
+        }
     }
-    if b == 46 {
-        return on_point(s, at);
-    }
-    if b == 45 {
-        return on_minus(s, at);
-    }
-    let digit = lists::both(48 <= b, b <= 57);
-    if digit {
-        return on_digit(s, digit_of(b), at);
-    }
-    let l = letter(b);
-    if l == 0 {
-        return not_expected(s, at);
-    }
-    on_letter(s, l, at)
 }
 
 // A byte at a place.
+#[tactic(auto, unfolding(crate::specs::Reading::byte_read))]
 fn on_byte(s: Scan, b: u8, at: usize) -> Scan
     ensures { result ≡ byte_read s b at }
 {
-    let space = lists::either(b == 32, b == 9);
-    if space {
-        return settled(s);
+    if b == b' ' || b == b'\t' {
+        settled(s)
+    } else if b == b'#' || b == b'\n' {
+        end_at(settled(s), at)
+    } else if b == b'\r' {
+        return_at(end_at(settled(s), at), at)
+    } else {
+        on_mark(s, b, at)
     }
-    let end = lists::either(b == 35, b == 10);
-    if end {
-        let t = settled(s);
-        return end_at(t, at);
-    }
-    if b == 13 {
-        let t = settled(s);
-        let u = end_at(t, at);
-        return return_at(u, at);
-    }
-    on_mark(s, b, at)
 }
 
 // A byte at a place; where the line is refused, nothing changes.
+#[tactic(auto, unfolding(crate::specs::Reading::step))]
 fn stepped(s: Scan, b: u8, at: usize) -> Scan
     ensures { result ≡ step s b at }
 {
     if 7 <= s.phase {
-        return on_rest(s, b, at);
+        on_rest(s, b, at)
+    } else {
+        on_byte(s, b, at)
     }
-    on_byte(s, b, at)
 }
 
 // The bytes of a line, from the left.
@@ -703,235 +605,132 @@ fn scanned(line: &[u8]) -> Scan
     ensures { result ≡ scan begin 0 line.now }
 {
     let mut s = begun();
-    let mut i: usize = 0;
-    while i < line.len() {
-        s = stepped(s, line[i], i);
-        i += 1;
+    for (i, b) in line.iter().enumerate() {
+        s = stepped(s, *b, i);
     }
     s
 }
 
-// A number of four bytes as a wider one.
-fn long(n: u32) -> u64
-    ensures { result ≡ n }
-{
-    n as u64
-}
-
-// A number in one byte.
+// The last byte of a number of four.
 fn one(n: u32) -> u8
-    ensures { result ≡ n % 2 ^ 8 }
-{
-    low_one(long(n))
-}
-
-// A number in two bytes.
-fn two(n: u32) -> u16
-    ensures { result ≡ n % 2 ^ 16 }
-{
-    low_two(long(n))
-}
-
-// A count in one byte.
-fn few(n: usize) -> u8
     ensures { result ≡ n % 2 ^ 8 }
 {
     (n % 256) as u8
 }
 
-fn head_of(n: [u32; 8]) -> Call
-    ensures { result ≡ call_of 1 0 n }
+// The last two bytes of a number of four.
+fn two(n: u32) -> u16
+    ensures { result ≡ n % 2 ^ 16 }
 {
-    let pools = one(n[0]);
-    let least = two(n[1]);
-    Call::Head(wire::Head {
-        pools,
-        least,
+    (n % 65536) as u16
+}
+
+#[tactic(auto, unfolding(crate::specs::Reading::call_of))]
+fn head_of(n: [u32; 8]) -> wire::Head
+    ensures { Head result ≡ call_of 1 0 n }
+{
+    wire::Head {
+        pools: one(n[0]),
+        least: two(n[1]),
         set: n[2],
         hedge: n[3],
         other: n[4],
         margin: n[5],
         fund: n[6],
         house: n[7],
-    })
-}
-
-fn pool_of(n: [u32; 8]) -> Call
-    ensures { result ≡ call_of 2 0 n }
-{
-    let pool = one(n[0]);
-    let units = two(n[1]);
-    let mark = one(n[2]);
-    Call::Pool { pool, units, mark }
-}
-
-fn member_of(n: [u32; 8]) -> Call
-    ensures { result ≡ call_of 3 0 n }
-{
-    let member = one(n[0]);
-    let a = two(n[2]);
-    let b = two(n[3]);
-    let c = two(n[4]);
-    let d = two(n[5]);
-    Call::Member {
-        member,
-        contribution: n[1],
-        a,
-        b,
-        c,
-        d,
     }
-}
-
-fn round_of(count: usize, n: [u32; 8]) -> Call
-    ensures { result ≡ call_of 4 count n }
-{
-    Call::Round {
-        count: few(count),
-        a: n[0],
-        b: n[1],
-        c: n[2],
-        d: n[3],
-    }
-}
-
-fn bid_of(n: [u32; 8]) -> Call
-    ensures { result ≡ call_of 5 0 n }
-{
-    let pool = one(n[0]);
-    let member = one(n[1]);
-    let units = two(n[2]);
-    Call::Bid {
-        pool,
-        member,
-        units,
-        price: n[3],
-    }
-}
-
-fn sale_of(n: [u32; 8]) -> Call
-    ensures { result ≡ call_of 14 0 n }
-{
-    let pool = one(n[0]);
-    let member = one(n[1]);
-    let price = n[2];
-    Call::Sale {
-        pool,
-        member,
-        price,
-    }
-}
-
-fn withdraw_of(n: [u32; 8]) -> Call
-    ensures { result ≡ call_of 15 0 n }
-{
-    let member = one(n[0]);
-    let bid = two(n[1]);
-    Call::Withdraw { member, bid }
-}
-
-// The calls from CLOSE on.
-fn later_call(tag: u8, n: [u32; 8]) -> Call
-    requires { 6 ≤ tag }
-    ensures { result ≡ call_of tag 0 n }
-{
-    let first = one(n[0]);
-    let second = n[1];
-    if tag == 6 {
-        return Call::Close;
-    }
-    if tag == 7 {
-        return Call::Allocate {
-            pool: first,
-            price: second,
-        };
-    }
-    if tag == 8 {
-        return Call::Tear {
-            pool: first,
-            price: second,
-        };
-    }
-    if tag == 9 {
-        return Call::Call;
-    }
-    if tag == 10 {
-        return Call::Pay {
-            member: first,
-            amount: second,
-        };
-    }
-    if tag == 11 {
-        return Call::Move { member: first };
-    }
-    if tag == 12 {
-        return Call::Miss {
-            member: first,
-            price: second,
-        };
-    }
-    if tag == 13 {
-        return Call::Finish;
-    }
-    if tag == 14 {
-        return sale_of(n);
-    }
-    if tag == 15 {
-        return withdraw_of(n);
-    }
-    Call::Unknown
 }
 
 // The call by its tag and the numbers that were read, each in its width.
+#[tactic(auto, unfolding(crate::specs::Reading::call_of))]
 fn call_of(tag: u8, count: usize, n: [u32; 8]) -> Call
     ensures { result ≡ call_of tag count n }
 {
-    if tag == 0 {
-        return Call::Unknown;
+    match tag {
+        1 => Call::Head(head_of(n)),
+        2 => Call::Pool {
+            pool: one(n[0]),
+            units: two(n[1]),
+            mark: one(n[2]),
+        },
+        3 => Call::Member {
+            member: one(n[0]),
+            contribution: n[1],
+            a: two(n[2]),
+            b: two(n[3]),
+            c: two(n[4]),
+            d: two(n[5]),
+        },
+        4 => Call::Round {
+            count: (count % 256) as u8,
+            a: n[0],
+            b: n[1],
+            c: n[2],
+            d: n[3],
+        },
+        5 => Call::Bid {
+            pool: one(n[0]),
+            member: one(n[1]),
+            units: two(n[2]),
+            price: n[3],
+        },
+        6 => Call::Close,
+        7 => Call::Allocate {
+            pool: one(n[0]),
+            price: n[1],
+        },
+        8 => Call::Tear {
+            pool: one(n[0]),
+            price: n[1],
+        },
+        9 => Call::Call,
+        10 => Call::Pay {
+            member: one(n[0]),
+            amount: n[1],
+        },
+        11 => Call::Move { member: one(n[0]) },
+        12 => Call::Miss {
+            member: one(n[0]),
+            price: n[1],
+        },
+        13 => Call::Finish,
+        14 => Call::Sale {
+            pool: one(n[0]),
+            member: one(n[1]),
+            price: n[2],
+        },
+        15 => Call::Withdraw {
+            member: one(n[0]),
+            bid: two(n[1]),
+        },
+        _ => Call::Unknown,
     }
-    if tag == 1 {
-        return head_of(n);
-    }
-    if tag == 2 {
-        return pool_of(n);
-    }
-    if tag == 3 {
-        return member_of(n);
-    }
-    if tag == 4 {
-        return round_of(count, n);
-    }
-    if tag == 5 {
-        return bid_of(n);
-    }
-    later_call(tag, n)
 }
 
 // What a line is, once it is read.
+#[tactic(auto, unfolding(crate::specs::Reading::outcome))]
 fn outcome_of(s: Scan) -> Read
     ensures { result ≡ outcome s }
 {
     if s.phase == 8 {
-        return Read::Refused {
+        Read::Refused {
             at: s.start,
             reason: s.reason,
             tag: s.tag,
             item: s.item,
-        };
+        }
+    } else if s.tag == 0 {
+        Read::Nothing
+    } else {
+        Read::Called(call_of(s.tag, s.item, s.numbers))
     }
-    if s.tag == 0 {
-        return Read::Nothing;
-    }
-    let numbers = s.numbers;
-    let call = call_of(s.tag, s.item, numbers);
-    Read::Called(call)
 }
 
 // A line of text, with or without its end, as a call.
+#[tactic(auto, unfolding(crate::specs::Reading::read_line))]
 pub fn read_line(line: &[u8]) -> Read
     ensures { result ≡ read_line line.now }
 {
     let s = scanned(line);
-    let t = stepped(s, 10, line.len());
-    outcome_of(t)
+    outcome_of(stepped(s, b'\n', line.len()))
 }

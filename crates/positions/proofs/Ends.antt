@@ -1,8 +1,8 @@
 -- The end of a run: a split into the first places of a run of 0, and the shares by member. Assumes nothing.
-use Rattle.std.proofs.Common.{◌≡◌, ℕ, zero, suc, ◌+◌, ◌-◌, ◌≤◌, Bool, true, false, cond, not, eqb, List, ◌++◌, length, get_or, take, drop, replicate, sym, refl, ap, ◌∙◌, arith, eqb-true}
+use Rattle.std.proofs.Common.{◌≡◌, ℕ, zero, suc, ◌+◌, ◌-◌, ◌≤◌, Bool, true, false, cond, not, eqb, List, ◌++◌, length, get_or, take, drop, replicate, sym, refl, ap, ◌∙◌, arith, eqb-true, ne_eqb}
+use mir.Val.{bool_byte}
 use lib.ListN.{length-replicate}
 use lib.Seq.{sets}
-use borrow.Author.Tests.{eqb-false}
 use Rattle.lists.specs.Lists.{when◌then◌else◌, one_if, sum, sum_to, count_to}
 use Rattle.lists.specs.Tests.{first_of}
 use Rattle.lists.proofs.Places.{take-zeros, drop-zeros, get_or-zeros, tab-ext, sum-tab}
@@ -29,6 +29,12 @@ module _ (units n r : ℕ) (ws out : List ℕ) (h : n ≤ 32) (e : ◌≡◌ {A 
       let none : refusal units ws (length (replicate {A = ℕ} n 0)) ≡ 0 = ap (refusal units ws) (length-replicate {A = ℕ} n 0) ∙ sym split-answer ∙ z in
       let given : out ≡ split units ws = ap (λ (a : Answer). a.1) (same ∙ answered-0 (refusal units ws (length (replicate {A = ℕ} n 0))) (split units ws) (replicate n 0) none) in
       rw (given, drop-zeros 32 n)
+
+-- a test as a byte
+pub one-is : (b : Bool) → bool_byte b ≡ one_if b
+unfolding one_if
+one-is true = refl
+one-is false = refl
 
 -- ---- numbers in member order at the places of their members
 
@@ -59,42 +65,35 @@ itself v = go (eqb v 0) refl
     go true e = sym (eqb-true v 0 e)
     go false e = refl
 
--- a number that declines nothing lets the next one decide
-pub settle : (v w : ℕ) → (when not (eqb v 0) then v else w) ≡ 0 → w ≡ 0
-settle v w = go (eqb v 0) refl
-  where
-    go : (b : Bool) → eqb v 0 ≡ b → (when not b then v else w) ≡ 0 → w ≡ 0
-    go true e h = h
-    go false e h = absurd (eqb-false v 0 e h)
-
-settle-1 : (b : Bool) (w : ℕ) → (when b then 1 else w) ≡ 0 → w ≡ 0
-settle-1 true w h = absurd (omega arith)
-settle-1 false w h = h
-
-module _ (set units left : ℕ) (sums shares : List ℕ) (n : ℕ) (ne : n ≡ length (members set)) (split-why before why answer : ℕ)
-    (se : split-why ≡ refusal units (take n sums) n) (be : before ≡ why_before n units)
-    (we : why ≡ cond (not (eqb left 0)) 1 split-why) (ae : answer ≡ cond (not (eqb before 0)) before why) where
-  end-why : answer ≡ why_end n units left sums
+-- why the end of a run is declined, by the tests in their order
+module _ (n units left : ℕ) (sums : List ℕ) (before : ℕ) (be : before ≡ why_before n units) where
+  pub end-before : (before ≡ 0 → ⊥) → before ≡ why_end n units left sums
   unfolding why_end first_of
-  end-why = ae ∙ rw (we, se, be, itself (refusal units (take n sums) n))
+  end-before h = rw (← be, ne_eqb before 0 h) refl
 
-  split-none : answer ≡ 0 → split-why ≡ 0
-  split-none z = settle-1 (not (eqb left 0)) split-why (sym we ∙ settle before why (sym ae ∙ z))
+  module _ (z : before ≡ 0) where
+    pub end-cut : (left ≡ 0 → ⊥) → 1 ≡ why_end n units left sums
+    unfolding why_end first_of
+    end-cut h = rw (← be, z, ne_eqb left 0 h) refl
 
+    pub end-split : left ≡ 0 → refusal units (take n sums) n ≡ why_end n units left sums
+    unfolding why_end first_of
+    end-split l = rw (← be, z, l) (sym (itself (refusal units (take n sums) n)))
+
+module _ (set units left : ℕ) (sums shares : List ℕ) (n : ℕ) (ne : n ≡ length (members set)) where
   -- declined: the shares are as they were
-  pub end-declined : (answer ≡ 0 → ⊥) → ◌≡◌ {A = Answer} (answer, shares) (ended set units left sums shares)
+  pub end-declined : (why : ℕ) → why ≡ why_end n units left sums → (why ≡ 0 → ⊥) → ◌≡◌ {A = Answer} (why, shares) (ended set units left sums shares)
   unfolding ended
-  end-declined h =
-      rw (← ne) (answers-untouched (why_end n units left sums) (sets shares 0 (by_member set (split units (take n sums)))) shares answer end-why h)
+  end-declined why e h = rw (← ne) (answers-untouched (why_end n units left sums) (sets shares 0 (by_member set (split units (take n sums)))) shares why e h)
 
   -- accepted: each member has its share
-  pub end-done : answer ≡ 0 → (given out : List ℕ) → (split-why ≡ 0 → given ≡ split units (take n sums) ++ replicate (32 - n) 0)
-      → out ≡ sets shares 0 (by_member set given) → ◌≡◌ {A = Answer} (answer, out) (ended set units left sums shares)
+  pub end-done : why_end n units left sums ≡ 0 → (given out : List ℕ) → given ≡ split units (take n sums) ++ replicate (32 - n) 0
+      → out ≡ sets shares 0 (by_member set given) → ◌≡◌ {A = Answer} (0, out) (ended set units left sums shares)
   unfolding ended
   end-done z given out g o =
       let done : out ≡ sets shares 0 (by_member set (split units (take n sums)))
-      = o ∙ ap (λ (xs : List ℕ). sets shares 0 (by_member set xs)) (g (split-none z)) ∙ ap (sets shares 0) (by_member-zeros set (32 - n) (split units (take n sums))) in
-      rw (← ne) (answers-done (why_end n units left sums) (sets shares 0 (by_member set (split units (take n sums)))) shares answer out end-why z done)
+      = o ∙ ap (λ (xs : List ℕ). sets shares 0 (by_member set xs)) g ∙ ap (sets shares 0) (by_member-zeros set (32 - n) (split units (take n sums))) in
+      rw (← ne) (answers-done (why_end n units left sums) (sets shares 0 (by_member set (split units (take n sums)))) shares 0 out (sym z) refl done)
 
 -- ---- the shares of all members
 

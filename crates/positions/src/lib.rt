@@ -3,7 +3,7 @@
 // `take_days` for each part, and `end`.
 #![tactic(auto)]
 
-ghost use Rattle.std.specs.Prelude.{◌≡◌, ◌+◌, ◌-◌, ◌*◌, ◌<◌, ◌≤◌, ◌++◌, length, take, set, replicate, slice_index};
+ghost use Rattle.std.specs.Prelude.{◌≡◌, ◌≢◌, MatchResult, ◌+◌, ◌-◌, ◌*◌, ◌<◌, ◌≤◌, ◌++◌, length, take, set, replicate, slice_index};
 ghost use Rattle.std.proofs.lemmas.List.Edits.{sets};
 ghost use Rattle.lists.specs.Lists.{tab};
 ghost use Rattle.sets.specs.Set.{members};
@@ -11,7 +11,7 @@ ghost use Rattle.machine.specs.Wire.{number};
 ghost use Rattle.splitting.specs.Split.{split};
 ghost use Rattle.splitting.specs.Limits.{Answer, refusal};
 ghost use Rattle.positions.specs.Days.{size, day_at, days_of, in_range, why_before, by_member, expected_units};
-ghost use Rattle.positions.specs.Keeping.{keeping, no_days, row_of, rolled, rolled_at, TakesDay, took, taken, part_of, ended};
+ghost use Rattle.positions.specs.Keeping.{keeping, no_days, row_of, rolled, rolled_at, TakesDay, took, taken, part_of, why_end, ended};
 
 // Where a part of a run led to: the row of the ring that the next day takes, how many bytes of the part were records that were taken, and why the next one is
 // declined, or 0. The bytes that were not used go before the next part.
@@ -23,19 +23,11 @@ pub struct Part {
     pub answer: u8,
 }
 
-// The sums over a whole run, how many of its bytes were records that were taken, and why the next one is declined, or 0.
+// The sums over a whole run, and how many of its bytes were records.
 #[derive(Clone, Copy)]
 struct Sums {
     sums: [u64; 32],
     used: usize,
-    answer: u8,
-}
-
-// Why a split is declined, or 0, and then its shares in member order.
-#[derive(Clone, Copy)]
-struct Shares {
-    answer: u8,
-    shares: [u64; 32],
 }
 
 const MOST_POSITION: u32 = 10_000_000;
@@ -43,6 +35,7 @@ const MOST_POSITION: u32 = 10_000_000;
 // ---- a day
 
 // The row that a day takes: behind the last row comes the first.
+#[tactic(auto, unfolding(crate::specs::Keeping::row_of))]
 fn row_of(row: usize) -> usize
     ensures { (result ≡ row_of row) × (result < 66) }
 {
@@ -50,17 +43,12 @@ fn row_of(row: usize) -> usize
 }
 
 // A sum with the position that comes and without the one that leaves.
+#[tactic(auto, unfolding(crate::specs::Keeping::rolled))]
 fn rolled(sum: u64, comes: u32, leaves: u32) -> u64
     ensures { result ≡ rolled sum comes leaves }
 {
-    std::num::wrapping_sub_u64(std::num::wrapping_add_u64(sum, comes as u64), leaves as u64)
-}
-
-// A byte as a wider number.
-fn wide(b: u8) -> u32
-    ensures { (result ≡ b) × (result < 256) }
-{
-    b as u32
+    sum.wrapping_add(u64::from(comes))
+        .wrapping_sub(u64::from(leaves))
 }
 
 // The position in the four bytes at a place, big-endian.
@@ -68,7 +56,7 @@ fn position(s: &[u8], at: usize) -> u32
     requires { at + 4 ≤ length s.now }
     ensures { result ≡ number at 4 s.now }
 {
-    ((wide(s[at]) * 256 + wide(s[at + 1])) * 256 + wide(s[at + 2])) * 256 + wide(s[at + 3])
+    u32::from_be_bytes([s[at], s[at + 1], s[at + 2], s[at + 3]])
 }
 
 // Whether every position of the record that begins at a place is within its limit.
@@ -76,12 +64,10 @@ fn in_range(bytes: &[u8], at: usize, n: usize) -> bool
     requires { (n ≤ 32) × (at + 4 * n ≤ length bytes.now) }
     ensures { result ≡ in_range (day_at n bytes.now at) }
 {
-    let mut m: usize = 0;
-    while m < n {
+    for m in 0..n {
         if MOST_POSITION < position(bytes, at + 4 * m) {
             return false;
         }
-        m += 1;
     }
     true
 }
@@ -109,11 +95,9 @@ fn take_day(
     ensures ring_after { ring.new ≡ sets ring.old (32 * row) (day_at n bytes.now at) }
     ensures sums_after { sums.new ≡ sets sums.old 0 (tab n (rolled_at sums.old ring.old row (day_at n bytes.now at))) }
 {
-    let mut m: usize = 0;
-    while m < n {
+    for m in 0..n {
         let comes = position(bytes, at + 4 * m);
         roll(ring, sums, 32 * row + m, m, comes);
-        m += 1;
     }
 }
 
@@ -150,9 +134,8 @@ fn take_records(
     let size = 4 * n;
     let records = bytes.len() / size;
     let mut next = row;
-    let mut at: usize = 0;
-    let mut d: usize = 0;
-    while d < records {
+    for d in 0..records {
+        let at = size * d;
         if !in_range(bytes, at, n) {
             return Part {
                 row: next,
@@ -161,12 +144,10 @@ fn take_records(
             };
         }
         next = next_day(ring, sums, next, bytes, at, n);
-        at += size;
-        d += 1;
     }
     Part {
         row: next,
-        used: at,
+        used: size * records,
         answer: 0,
     }
 }
@@ -179,11 +160,15 @@ pub fn count_of(set: u32) -> usize
 }
 
 // Why a run is declined before its first record, or 0.
+#[tactic(auto, unfolding(crate::specs::Days::why_before, lists::specs::Tests::first_of))]
 pub fn why_before(n: usize, units: u64) -> u8
     ensures { result ≡ why_before n units }
 {
-    let fits = lists::both(1 <= units, units <= 1_000);
-    lists::decline_if(n == 0, 5, lists::decline_if(!fits, 5, 0))
+    if n == 0 || units < 1 || 1_000 < units {
+        5
+    } else {
+        0
+    }
 }
 
 // A part of a run of the members of a set: its whole records are taken. What is left of it, less than a record, goes before the next part.
@@ -209,15 +194,29 @@ pub fn take_days(
 
 // ---- the end
 
-// Units split by the sums of the first n places.
-fn split_by(sums: [u64; 32], n: usize, units: u64) -> Shares
-    requires { n ≤ 32 }
-    ensures answer_value { result.answer ≡ refusal units (take n sums) n }
-    ensures shares_value { result.answer ≡ 0 → result.shares ≡ split units (take n sums) ++ replicate (32 - n) 0 }
+// Units split by sums, of which there are at most 32: the shares in the same order, and 0 behind them; or why there are none.
+fn split_by(sums: &[u64], units: u64) -> Result<[u64; 32], u8>
+    requires { length sums.now ≤ 32 }
+    ensures { MatchResult result (λ xs. (refusal units sums.now (length sums.now) ≡ 0) × (xs ≡ split units sums.now ++ replicate (32 - length sums.now) 0)) (λ why. (why ≡ refusal units sums.now (length sums.now)) × (why ≢ 0)) }
 {
     let mut shares = [0u64; 32];
-    let answer = splitting::split(units, &sums[..n], &mut shares[..n]);
-    Shares { answer, shares }
+    let why = splitting::split(units, sums, &mut shares[..sums.len()]);
+    if why == 0 { Ok(shares) } else { Err(why) }
+}
+
+// The shares in member order at the end of a run of n members, of which `left` bytes of a record are left, or why there are none.
+fn shares_of(sums: &[u64; 32], n: usize, units: u64, left: usize) -> Result<[u64; 32], u8>
+    requires { n ≤ 32 }
+    ensures { MatchResult result (λ xs. (why_end n units left sums.now ≡ 0) × (xs ≡ split units (take n sums.now) ++ replicate (32 - n) 0)) (λ why. (why ≡ why_end n units left sums.now) × (why ≢ 0)) }
+{
+    let before = why_before(n, units);
+    if before != 0 {
+        return Err(before);
+    }
+    if left != 0 {
+        return Err(1);
+    }
+    split_by(&sums[..n], units)
 }
 
 // Numbers in member order put at the places of their members, and 0 at the other places.
@@ -225,12 +224,10 @@ fn spread(xs: [u64; 32], set: u32, shares: &mut [u64; 32])
     ensures { shares.new ≡ sets shares.old 0 (by_member set xs) }
 {
     let mut j: usize = 0;
-    let mut m: u8 = 0;
-    while m < 32 {
+    for m in 0..32u8 {
         let is = sets::has(set, m);
-        shares[m as usize] = lists::number_if(is, xs[j]);
-        j += lists::one_if(is) as usize;
-        m += 1;
+        shares[usize::from(m)] = lists::number_if(is, xs[j]);
+        j += usize::from(is);
     }
 }
 
@@ -239,33 +236,30 @@ fn spread(xs: [u64; 32], set: u32, shares: &mut [u64; 32])
 pub fn end(sums: &[u64; 32], set: u32, units: u64, left: usize, shares: &mut [u64; 32]) -> u8
     ensures { ◌≡◌ {A = Answer} (result, shares.new) (ended set units left sums.now shares.old) }
 {
-    let n = count_of(set);
-    let given = split_by(*sums, n, units);
-    let why = lists::decline_if(left != 0, 1, given.answer);
-    let before = why_before(n, units);
-    let answer = lists::decline_if(before != 0, before, why);
-    if answer == 0 {
-        let xs = given.shares;
-        spread(xs, set, shares);
+    match shares_of(sums, count_of(set), units, left) {
+        Ok(xs) => {
+            spread(xs, set, shares);
+            0
+        }
+        Err(why) => why,
     }
-    answer
 }
 
-// The sums over a whole run.
-fn sum_up(bytes: &[u8], n: usize) -> Sums
+// The sums over a whole run, or why its first bad record is declined.
+fn sum_up(bytes: &[u8], n: usize) -> Result<Sums, u8>
     requires { (1 ≤ n) × (n ≤ 32) }
-    ensures bytes_value { (taken n no_days 0 (days_of n bytes.now)).kept.sums ≡ result.sums }
-    ensures bytes_value_2 { (taken n no_days 0 (days_of n bytes.now)).used ≡ result.used }
-    ensures bytes_value_3 { (taken n no_days 0 (days_of n bytes.now)).answer ≡ result.answer }
+    ensures { MatchResult result (λ run. ((taken n no_days 0 (days_of n bytes.now)).answer ≡ 0) × ((taken n no_days 0 (days_of n bytes.now)).kept.sums ≡ run.sums) × ((taken n no_days 0 (days_of n bytes.now)).used ≡ run.used)) (λ why. ((taken n no_days 0 (days_of n bytes.now)).answer ≡ why) × (why ≢ 0)) }
 {
     let mut ring = [0u32; 2112];
     let mut sums = [0u64; 32];
     let part = take_records(&mut ring, &mut sums, 0, bytes, n);
-    Sums {
+    if part.answer != 0 {
+        return Err(part.answer);
+    }
+    Ok(Sums {
         sums,
         used: part.used,
-        answer: part.answer,
-    }
+    })
 }
 
 // The expected units from a whole run: answers 0 and gives each member its share of the units, or answers why not and leaves the shares untouched.
@@ -277,42 +271,8 @@ pub fn expected(set: u32, units: u64, bytes: &[u8], shares: &mut [u64; 32]) -> u
     if before != 0 {
         return before;
     }
-    let run = sum_up(bytes, n);
-    if run.answer != 0 {
-        return run.answer;
+    match sum_up(bytes, n) {
+        Ok(run) => end(&run.sums, set, units, bytes.len() - run.used, shares),
+        Err(why) => why,
     }
-    let sums = run.sums;
-    end(&sums, set, units, bytes.len() - run.used, shares)
-}
-
-// ---- for C and Rust
-
-pub fn ledger_expected(set: u32, units: u64, days: &[u8], shares: &mut [u64; 32]) -> u8
-    ensures { ◌≡◌ {A = Answer} (result, shares.new) (expected_units set units days.now shares.old) }
-{
-    expected(set, units, days, shares)
-}
-
-pub fn ledger_take_days(
-    ring: &mut [u32; 2112],
-    sums: &mut [u64; 32],
-    row: usize,
-    set: u32,
-    days: &[u8],
-) -> Part
-    ensures { took result.row ring.new sums.new result.used result.answer ≡ part_of (length (members set)) (keeping row ring.old sums.old) days.now }
-{
-    take_days(ring, sums, row, set, days)
-}
-
-pub fn ledger_end_days(
-    sums: &[u64; 32],
-    set: u32,
-    units: u64,
-    left: usize,
-    shares: &mut [u64; 32],
-) -> u8
-    ensures { ◌≡◌ {A = Answer} (result, shares.new) (ended set units left sums.now shares.old) }
-{
-    end(sums, set, units, left, shares)
 }

@@ -13,7 +13,7 @@ use positions::Part;
 pub extern "C" fn ledger_expected(set: u32, units: u64, days: &[u8], shares: &mut [u64; 32]) -> u8
     ensures { ◌≡◌ {A = Answer} (result, shares.new) (expected_units set units days.now shares.old) }
 {
-    positions::ledger_expected(set, units, days, shares)
+    positions::expected(set, units, days, shares)
 }
 
 #[unsafe(no_mangle)]
@@ -26,7 +26,7 @@ pub extern "C" fn ledger_take_days(
 ) -> Part
     ensures { took result.row ring.new sums.new result.used result.answer ≡ part_of (length (members set)) (keeping row ring.old sums.old) days.now }
 {
-    positions::ledger_take_days(ring, sums, row, set, days)
+    positions::take_days(ring, sums, row, set, days)
 }
 
 #[unsafe(no_mangle)]
@@ -39,5 +39,5 @@ pub extern "C" fn ledger_end_days(
 ) -> u8
     ensures { ◌≡◌ {A = Answer} (result, shares.new) (ended set units left sums.now shares.old) }
 {
-    positions::ledger_end_days(sums, set, units, left, shares)
+    positions::end(sums, set, units, left, shares)
 }

@@ -8,23 +8,23 @@ use native.Mathlib.Numerals.{add-one}
 use native.Mathlib.Omega.{arith}
 use lib.Dec.{eqb, ltb}
 use lib.ListN.{length, get_or, take, drop, length-take}
-use lib.Seq.{drop-cons, drop-length, drop-drop, get_or-take, length-take-le}
+use lib.Seq.{drop-cons, drop-length, drop-drop}
 use borrow.Author.Tests.{lt-ltb, le-ltb, eq-eqb, ne_eqb, eqb-true, not-false}
 use Rattle.lists.specs.Lists.{when◌then◌else◌, Each}
-use Rattle.lists.proofs.Bools.{cases, either, by-test}
+use Rattle.lists.proofs.Bools.{either, by-test}
 use Rattle.lists.proofs.Each.{each_take}
 use Rattle.machine.specs.Wire.{number}
 use Rattle.forms.specs.Encode.{bytes_of}
 use Rattle.forms.specs.Put.{Put}
 use Rattle.forms.proofs.Puts.{put_as}
 use Rattle.translation.proofs.Writing.{Writing, writing-starts}
-use Rattle.text_lines.specs.Lines.{length_to, line_size, good_size}
+use Rattle.text_lines.specs.Lines.{length_to, line_size, good_size, size_within}
 use Rattle.text_lines.proofs.Parts.{good-most}
-use Rattle.text_lines.proofs.Taking.{size_small, size-there, taking-first, taking-lent, taking-few, taking-within, taking-room, taking-behind, taking-goes, taking-ends}
+use Rattle.text_lines.proofs.Taking.{size_small, size-there, taking-lent, taking-few, taking-within, taking-room, taking-goes, taking-ends}
 use Rattle.rows.specs.declared.Row.{Row}
 use Rattle.rows.specs.declared.Day.{Day}
 use Rattle.rows.specs.Reading.{row_of}
-use Rattle.rows.specs.Days.{too_long, day_of, refused_day, four_each, record_of, day_size, IsDay, NextDay, WritesDays}
+use Rattle.rows.specs.Days.{too_long, day_of, refused_day, four_each, record_of, day_size, NextDay, WritesDays}
 use Rattle.rows.specs.Computing.{computing}
 use Rattle.rows.proofs.Limits.{row_within}
 
@@ -45,80 +45,51 @@ unfolding day_of
 day-few n line =
     either (λ (r : Row). r.count ≤ 32) (ltb 65536 (length_to line)) (omega arith) (omega (arith, (row_within n n 10000000 (take (length_to line) line)).few))
 
-empty-record : (n : ℕ) → record_of n [] ≡ []
-unfolding computing
-empty-record n = refl
-
 no_bytes : four_each [] ≡ []
 unfolding four_each
 no_bytes = refl
 
 -- ---- a line as its bytes and its numbers
 
-module _ (size : ℕ) (row : Row) where
-  pub is-refused : (r : Day) → (row.reason ≡ 0 → ⊥) → (r.size ≡ 0) × (r.count ≡ 0) → IsDay size row r
-  is-refused r h e =
-      record {
-        size = rw (ne_eqb row.reason 0 h) e.0;
-        numbers = rw (ne_eqb row.reason 0 h) (ap (λ (k : ℕ). take k r.numbers) e.1);
-        few = omega (arith, e.1);
-      }
-
-  pub is_read : row.reason ≡ 0 → IsDay size row (record { size = size; count = row.count; numbers = row.numbers })
-  is_read e = record { size = rw (eq-eqb row.reason 0 e) refl; numbers = rw (eq-eqb row.reason 0 e) refl; few = omega arith }
-
 module _ (n room : ℕ) (last : Bool) (s : List ℕ) where
   -- no room
-  pub next-none : (r : Day) → room < 128 → (r.size ≡ 0) × (r.count ≡ 0) → NextDay n room last s r
-  next-none r h e =
-      record {
-        size = e.0 ∙ sym (size_small 128 room (day_size n last) s h);
-        bytes =
-            ap (λ (k : ℕ). four_each (take k r.numbers)) e.1
-            ∙ no_bytes
-            ∙ sym (ap (λ (k : ℕ). record_of n (take k s)) e.0 ∙ empty-record n);
-        few = omega (arith, e.1);
-      }
+  pub next-none : room < 128 → size_within 128 room (day_size n last) s ≡ 0
+  next-none h = size_small 128 room (day_size n last) s h
 
-  pub next-is : (part : List ℕ) (size : ℕ) (row : Row) (r : Day) → 128 ≤ room → size ≡ line_size last s → part ≡ take size s → row ≡ day_of n part → IsDay size row r
-      → NextDay n room last s r
-  unfolding good_size refused_day record_of
-  next-is part size row r h is lends e d =
-      let same : row ≡ day_of n (take (line_size last s) s) = e ∙ ap (day_of n) (lends ∙ ap (λ (k : ℕ). take k s) is) in
-      record {
-        size =
-            d.size
-            ∙ ap₂ (λ (x : Row) (k : ℕ). when not (eqb x.reason 0) then 0 else k) same is
-            ∙ sym (size-there 128 room (day_size n last) s h);
-        bytes =
-            ap four_each d.numbers
-            ∙ cases (not (eqb row.reason 0)) (four_each (when not (eqb row.reason 0) then [] else take row.count row.numbers) ≡ record_of n (take r.size s))
-            (λ t.
-            ap (λ (b : Bool). four_each (when b then [] else take row.count row.numbers)) t
-            ∙ no_bytes
-            ∙ sym (ap (λ (k : ℕ). record_of n (take k s)) (d.size ∙ ap (λ (b : Bool). when b then 0 else size) t) ∙ empty-record n))
-            (λ t.
-            ap (λ (b : Bool). four_each (when b then [] else take row.count row.numbers)) t
-            ∙ ap (λ (x : Row). four_each (take x.count x.numbers)) (e ∙ ap (day_of n) lends)
-            ∙ sym (ap (λ (k : ℕ). record_of n (take k s)) (d.size ∙ ap (λ (b : Bool). when b then 0 else size) t)));
-        few = omega (arith, d.few, ap (λ (x : Row). x.count) e, day-few n part);
-      }
+  module _ (part : List ℕ) (size : ℕ) (row : Row) (h : 128 ≤ room) (is : size ≡ line_size last s) (lends : part ≡ take size s) (e : row ≡ day_of n part) where
+    same : row ≡ day_of n (take (line_size last s) s)
+    same = e ∙ ap (day_of n) (lends ∙ ap (λ (k : ℕ). take k s) is)
+
+    sized : size_within 128 room (day_size n last) s ≡ (when not (eqb row.reason 0) then 0 else size)
+    unfolding good_size refused_day
+    sized = size-there 128 room (day_size n last) s h ∙ sym (ap₂ (λ (x : Row) (k : ℕ). when not (eqb x.reason 0) then 0 else k) same is)
+
+    -- no line, or one that is refused
+    pub next-empty : size ≡ 0 → size_within 128 room (day_size n last) s ≡ 0
+    next-empty z = sized ∙ either (λ (k : ℕ). k ≡ 0) (not (eqb row.reason 0)) refl z
+
+    pub next-refused : (row.reason ≡ 0 → ⊥) → size_within 128 room (day_size n last) s ≡ 0
+    next-refused r = sized ∙ rw (ne_eqb row.reason 0 r) refl
+
+    -- a line that is taken
+    pub next-is : row.reason ≡ 0 → NextDay n room last s (record { size = size; count = row.count; numbers = row.numbers })
+    unfolding record_of
+    next-is r =
+        record {
+          size = sym (sized ∙ rw (eq-eqb row.reason 0 r) refl);
+          bytes = ap (λ (x : Row). four_each (take x.count x.numbers)) (e ∙ ap (day_of n) lends);
+          few = omega (arith, ap (λ (x : Row). x.count) e, day-few n part);
+        }
 
 -- ---- the numbers of a record
 
-module _ (count : ℕ) (xs : List ℕ) (inside : count ≤ length xs) where
-  pub four-next : (i : ℕ) → i < count → four_each (drop i (take count xs)) ≡ bytes_of 4 (get_or xs i 0) ++ four_each (drop (i + 1) (take count xs))
-  unfolding four_each
-  four-next i h =
-      let k : length (take count xs) ≡ count = length-take-le count xs inside in
-      rw (add-one i)
-      (ap four_each (drop-cons (take count xs) i 0 (omega arith) ∙ ap (λ (n : ℕ). n ∷ drop (suc i) (take count xs)) (get_or-take count xs i 0 h)))
+pub four-next : (i : ℕ) (xs : List ℕ) → i < length xs → four_each (drop i xs) ≡ bytes_of 4 (get_or xs i 0) ++ four_each (drop (i + 1) xs)
+unfolding four_each
+four-next i xs h = rw (add-one i) (ap four_each (drop-cons xs i 0 h))
 
-  pub four-none : (i : ℕ) → i ≤ count → count ≤ i → four_each (drop i (take count xs)) ≡ []
-  unfolding four_each
-  four-none i le ge =
-      let k : length (take count xs) ≡ i = length-take-le count xs inside ∙ omega arith in
-      ap (λ (j : ℕ). four_each (drop j (take count xs))) (sym k) ∙ ap four_each (drop-length (take count xs))
+pub four-none : (i : ℕ) (xs : List ℕ) → i ≡ length xs → four_each (drop i xs) ≡ []
+unfolding four_each
+four-none i xs e = ap four_each (ap (λ (j : ℕ). drop j xs) e ∙ drop-length xs)
 
 -- ---- the size of a record
 
@@ -188,41 +159,39 @@ Taking n last input old out count used to = Writing (day_size n last) (good-most
 pub days-start : (n : ℕ) (last : Bool) (input out : List ℕ) → Taking n last input out out 0 0 0
 days-start n last input out = writing-starts (day_size n last) (good-most (refused_day n) last) (record_of n) input out
 
-pub next-first : (n : ℕ) (last : Bool) (input out : List ℕ) (day : Day) → NextDay n (length out) last input day → NextDay n (length out - 0) last (drop 0 input) day
-next-first n last input out day d = taking-first (λ room s. NextDay n room last s day) input out d
-
 -- what is left, as the code lends it
 pub next-lent : (n room : ℕ) (last : Bool) (input : List ℕ) (used : ℕ) (day : Day) → NextDay n room last (take (length input - used) (drop used input)) day
     → NextDay n room last (drop used input) day
 next-lent n room last input used day d = taking-lent (λ s. NextDay n room last s day) input used d
 
-module _ (n : ℕ) (last : Bool) (input old out : List ℕ) (count used to : ℕ) (day : Day) (g : Taking n last input old out count used to)
-    (d : NextDay n (length out - to) last (drop used input) day) where
+module _ (n : ℕ) (last : Bool) (input old out : List ℕ) (count used to : ℕ) (g : Taking n last input old out count used to) where
   abbrev most : (s : List ℕ) → day_size n last s ≤ length s
   most = good-most (refused_day n) last
 
-  pub days-few : count ≤ length input
-  days-few = taking-few (day_size n last) most (record_of n) 128 input old out count used to g day.size d.size
+  module _ (day : Day) (d : NextDay n (length out - to) last (drop used input) day) where
+    pub days-few : count ≤ length input
+    days-few = taking-few (day_size n last) most (record_of n) 128 input old out count used to g day.size d.size
 
-  module _ (some : day.size ≡ 0 → ⊥) where
-    pub days-within : used + day.size ≤ length input
-    days-within = taking-within (day_size n last) most (record_of n) 128 input old out count used to g day.size d.size some
+    module _ (some : day.size ≡ 0 → ⊥) where
+      pub days-within : used + day.size ≤ length input
+      days-within = taking-within (day_size n last) most (record_of n) 128 input old out count used to g day.size d.size some
 
-    pub days-room : to + 128 ≤ length out
-    days-room = taking-room (day_size n last) most (record_of n) 128 input old out count used to g day.size d.size some
+      pub days-room : to + 128 ≤ length out
+      days-room = taking-room (day_size n last) most (record_of n) 128 input old out count used to g day.size d.size some
 
-    module _ (r : ℕ) (next : List ℕ) (put : Put out to (four_each (take day.count day.numbers)) 128 r next) where
-      written : Put out to (record_of n (take day.size (drop used input))) 128 r next
-      written = put_as 128 (omega arith) d.bytes put
+      module _ (r : ℕ) (next : List ℕ) (put : Put out to (four_each (take day.count day.numbers)) 128 r next) where
+        written : Put out to (record_of n (take day.size (drop used input))) 128 r next
+        written = put_as 128 (omega arith) d.bytes put
 
-      pub days-behind : r ≤ length next
-      days-behind = taking-behind (day_size n last) most (record_of n) 128 input old out count used to g day.size d.size some r next written
+        pub days-go : Taking n last input old next (count + 1) (used + day.size) r
+        days-go = taking-goes (day_size n last) most (record_of n) 128 input old out count used to g day.size d.size some r next written
 
-      pub days-go : Taking n last input old next (count + 1) (used + day.size) r
-      days-go = taking-goes (day_size n last) most (record_of n) 128 input old out count used to g day.size d.size some r next written
-
-  pub days-end : day.size ≡ 0 → WritesDays n last input old out (record { count = count; used = used; written = to })
-  days-end stop = taking-ends (day_size n last) most (record_of n) 128 input old out count used to g day.size d.size stop
+  -- no line is taken any more
+  pub days-end : size_within 128 (length out - to) (day_size n last) (take (length input - used) (drop used input)) ≡ 0
+      → WritesDays n last input old out (record { count = count; used = used; written = to })
+  days-end stop =
+      taking-ends (day_size n last) most (record_of n) 128 input old out count used to g 0
+      (taking-lent (λ s. 0 ≡ size_within 128 (length out - to) (day_size n last) s) input used (sym stop)) refl
 
 -- a number has four bytes
 pub four-long : (n : ℕ) → length (bytes_of 4 n) ≤ 4

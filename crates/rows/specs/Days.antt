@@ -34,12 +34,6 @@ record_of n line = four_each (take (day_of n line).count (day_of n line).numbers
 abbrev pub day_size : (n : ℕ) → Bool → List ℕ → ℕ
 day_size n last = good_size (refused_day n) last
 
--- a line of so many bytes by what it is read as: one that is refused has no bytes
-pub record IsDay (bytes : ℕ) (row : Row) (r : Day) : Type 0 where
-  pub size : r.size ≡ (when not (eqb row.reason 0) then 0 else bytes)
-  pub numbers : take r.count r.numbers ≡ (when not (eqb row.reason 0) then [] else take row.count row.numbers)
-  pub few : r.count ≤ row.count
-
 -- the contract of `next_day`: no bytes where the line is not to be taken, or there is no room for its record
 pub record NextDay (n room : ℕ) (last : Bool) (s : List ℕ) (r : Day) : Type 0 where
   pub size : r.size ≡ size_within 128 room (day_size n last) s

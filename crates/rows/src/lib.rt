@@ -2,11 +2,12 @@
 // as records.
 #![tactic(auto)]
 
-ghost use Rattle.std.specs.Prelude.{◌≡◌, cond, ◌+◌, ◌-◌, ◌*◌, ◌≤◌, min, length, take, set};
+ghost use Rattle.std.specs.Prelude.{◌≡◌, ◌≢◌, MatchOption, ◌+◌, ◌-◌, ◌*◌, ◌≤◌, length, take, set};
 ghost use Rattle.forms.specs.Put.{Put};
+ghost use Rattle.text_lines.specs.Lines.{size_within};
 ghost use Rattle.rows.specs.Scans.{begin, with_phase, in_number, stored, refused};
 ghost use Rattle.rows.specs.Reading.{strange, settle, grow, has_room, first_digit, on_digit, on_comma, ended, on_mark, byte_read, behind, step, scan, finish, outcome, row_of};
-ghost use Rattle.rows.specs.Days.{too_long, day_of, four_each, IsDay, NextDay, WritesDays};
+ghost use Rattle.rows.specs.Days.{too_long, day_of, four_each, day_size, NextDay, WritesDays};
 
 use text_lines::LONGEST;
 
@@ -30,7 +31,7 @@ pub struct Row {
     pub numbers: [u32; 32],
 }
 
-// A line's bytes, and the numbers in it; no bytes where it is not to be taken.
+// A line's bytes, and the numbers in it.
 #[derive(Clone, Copy)]
 struct Day {
     size: usize,
@@ -70,20 +71,22 @@ fn begun() -> Scan
 fn to_phase(s: Scan, phase: u8, at: usize) -> Scan
     ensures { result ≡ with_phase s phase at }
 {
-    let mut t = s;
-    t.phase = phase;
-    t.start = at;
-    t
+    Scan {
+        phase,
+        start: at,
+        ..s
+    }
 }
 
 fn in_number(s: Scan, at: usize, value: u32) -> Scan
     ensures { result ≡ in_number s at value }
 {
-    let mut t = s;
-    t.phase = 2;
-    t.start = at;
-    t.value = value;
-    t
+    Scan {
+        phase: 2,
+        start: at,
+        value,
+        ..s
+    }
 }
 
 // The numbers with one at a place, where there is such a place.
@@ -98,90 +101,74 @@ fn with_number(numbers: [u32; 32], i: usize, n: u32) -> [u32; 32]
     out
 }
 
-fn next_place(i: usize) -> usize
-    ensures { result ≡ min (i + 1) 32 }
-{
-    if i < 32 { i + 1 } else { 32 }
-}
-
 fn store(s: Scan) -> Scan
     ensures { result ≡ stored s }
 {
-    let old = s.numbers;
-    let numbers = with_number(old, s.count, s.value);
-    let count = next_place(s.count);
-    let mut t = s;
-    t.phase = 3;
-    t.count = count;
-    t.numbers = numbers;
-    t
+    Scan {
+        phase: 3,
+        count: s.count.saturating_add(1).min(32),
+        numbers: with_number(s.numbers, s.count, s.value),
+        ..s
+    }
 }
 
 fn refuse(s: Scan, at: usize, reason: u8) -> Scan
     ensures { result ≡ refused s at reason }
 {
-    let mut t = s;
-    t.phase = 6;
-    t.start = at;
-    t.reason = reason;
-    t
-}
-
-// One of two.
-fn pick(test: bool, a: Scan, b: Scan) -> Scan
-    ensures { result ≡ cond test a b }
-{
-    if test { a } else { b }
+    Scan {
+        phase: 6,
+        start: at,
+        reason,
+        ..s
+    }
 }
 
 // A byte that is not expected at its place.
+#[tactic(auto, unfolding(crate::specs::Reading::strange))]
 fn not_expected(s: Scan, at: usize) -> Scan
     ensures { result ≡ strange s at }
 {
-    let reason = lists::decline_if(s.phase < 2, 1, 2);
-    refuse(s, at, reason)
+    refuse(s, at, if s.phase < 2 { 1 } else { 2 })
 }
 
 // A number ends, if there is one.
+#[tactic(auto, unfolding(crate::specs::Reading::settle))]
 fn settled(s: Scan) -> Scan
     ensures { result ≡ settle s }
 {
-    let t = store(s);
-    pick(s.phase == 2, t, s)
+    if s.phase == 2 { store(s) } else { s }
 }
 
 // A number that began at a place, as far as it is read.
+#[tactic(auto, unfolding(crate::specs::Reading::grow))]
 fn grown(limit: u32, s: Scan, at: usize, v: u64) -> Scan
     ensures { result ≡ grow limit s at v }
 {
-    if v <= lists::wide32(limit) {
-        return in_number(s, at, v as u32);
+    if v <= u64::from(limit) {
+        in_number(s, at, v as u32)
+    } else {
+        refuse(s, at, 3)
     }
-    refuse(s, at, 3)
-}
-
-// The smaller of two.
-fn least_of(a: usize, b: usize) -> usize
-    ensures { result ≡ min a b }
-{
-    if a < b { a } else { b }
 }
 
 // Whether there may be one number more.
+#[tactic(auto, unfolding(crate::specs::Reading::has_room))]
 fn has_room(most: usize, s: Scan) -> bool
     ensures { result ≡ has_room most s }
 {
-    s.count < least_of(most, 32)
+    s.count < most.min(32)
 }
 
 // The first digit of a number at a place.
+#[tactic(auto, unfolding(crate::specs::Reading::first_digit))]
 fn on_first(most: usize, limit: u32, s: Scan, d: u64, at: usize) -> Scan
     ensures { result ≡ first_digit most limit s d at }
 {
-    let room = has_room(most, s);
-    let no = refuse(s, s.start, 4);
-    let yes = grown(limit, s, at, d);
-    pick(room, yes, no)
+    if has_room(most, s) {
+        grown(limit, s, at, d)
+    } else {
+        refuse(s, s.start, 4)
+    }
 }
 
 // The value of a number with a digit more.
@@ -189,56 +176,60 @@ fn longer(value: u32, d: u64) -> u64
     requires { d ≤ 9 }
     ensures { result ≡ value * 10 + d }
 {
-    lists::wide32(value) * 10 + d
+    u64::from(value) * 10 + d
 }
 
 // A digit at a place.
+#[tactic(auto, unfolding(crate::specs::Reading::on_digit))]
 fn on_digit(most: usize, limit: u32, s: Scan, d: u64, at: usize) -> Scan
     requires { d ≤ 9 }
     ensures { result ≡ on_digit most limit s d at }
 {
-    let phase = s.phase;
-    if phase < 2 {
-        return on_first(most, limit, s, d, at);
+    if s.phase < 2 {
+        on_first(most, limit, s, d, at)
+    } else if s.phase == 2 {
+        grown(limit, s, s.start, longer(s.value, d))
+    } else {
+        not_expected(s, at)
     }
-    if phase == 2 {
-        let v = longer(s.value, d);
-        return grown(limit, s, s.start, v);
-    }
-    not_expected(s, at)
 }
 
 // A comma at a place, behind a number that has ended.
+#[tactic(auto, unfolding(crate::specs::Reading::on_comma))]
 fn on_comma(most: usize, s: Scan, at: usize) -> Scan
     ensures { result ≡ on_comma most s at }
 {
-    let room = has_room(most, s);
-    let next = to_phase(s, 1, at);
-    let full = refuse(s, at, 4);
-    let yes = pick(room, next, full);
-    let no = not_expected(s, at);
-    pick(s.phase == 3, yes, no)
+    if s.phase != 3 {
+        not_expected(s, at)
+    } else if has_room(most, s) {
+        to_phase(s, 1, at)
+    } else {
+        refuse(s, at, 4)
+    }
 }
 
 // The line's end, or a carriage return, behind a number that has ended.
+#[tactic(auto, unfolding(crate::specs::Reading::ended))]
 fn end_at(least: usize, s: Scan, at: usize) -> Scan
     ensures { result ≡ ended least s at }
 {
-    let whole = lists::both(s.phase == 3, least <= s.count);
-    let test = lists::either(s.phase == 0, whole);
-    let no = refuse(s, at, 5);
-    let yes = to_phase(s, 5, at);
-    pick(test, yes, no)
+    if s.phase == 0 || s.phase == 3 && least <= s.count {
+        to_phase(s, 5, at)
+    } else {
+        refuse(s, at, 5)
+    }
 }
 
 // A byte that is neither a blank nor of a number nor behind one.
+#[tactic(auto, unfolding(crate::specs::Reading::on_mark))]
 fn on_mark(s: Scan, b: u8, at: usize) -> Scan
     ensures { result ≡ on_mark s b at }
 {
-    let test = lists::both(b == 35, s.phase == 0);
-    let no = not_expected(s, at);
-    let yes = to_phase(s, 4, at);
-    pick(test, yes, no)
+    if b == b'#' && s.phase == 0 {
+        to_phase(s, 4, at)
+    } else {
+        not_expected(s, at)
+    }
 }
 
 // The number of a digit.
@@ -246,50 +237,51 @@ fn digit_of(b: u8) -> u64
     requires { (48 ≤ b) × (b ≤ 57) }
     ensures { (result ≡ b - 48) × (result ≤ 9) }
 {
-    (b as u64) - 48
+    u64::from(b - b'0')
 }
 
 // A byte at a place.
+#[tactic(auto, unfolding(crate::specs::Reading::byte_read))]
 fn on_byte(least: usize, most: usize, limit: u32, s: Scan, b: u8, at: usize) -> Scan
     ensures { result ≡ byte_read least most limit s b at }
 {
-    let digit = lists::both(48 <= b, b <= 57);
-    if digit {
-        return on_digit(most, limit, s, digit_of(b), at);
+    if b'0' <= b && b <= b'9' {
+        on_digit(most, limit, s, digit_of(b), at)
+    } else if b == b' ' || b == b'\t' {
+        settled(s)
+    } else if b == b',' {
+        on_comma(most, settled(s), at)
+    } else if b == b'\r' {
+        end_at(least, settled(s), at)
+    } else {
+        on_mark(s, b, at)
     }
-    let t = settled(s);
-    let blank = lists::either(b == 32, b == 9);
-    if blank {
-        return t;
-    }
-    if b == 44 {
-        return on_comma(most, t, at);
-    }
-    if b == 13 {
-        return end_at(least, t, at);
-    }
-    on_mark(s, b, at)
 }
 
 // A byte in a comment or behind a carriage return; where the line is refused, nothing changes.
+#[tactic(auto, unfolding(crate::specs::Reading::behind))]
 fn on_rest(s: Scan, b: u8, at: usize) -> Scan
     ensures { result ≡ behind s b at }
 {
-    let test = lists::both(s.phase == 4, b == 13);
-    let end = to_phase(s, 5, at);
-    let rest = pick(test, end, s);
-    let no = refuse(s, s.start, 6);
-    pick(s.phase == 5, no, rest)
+    if s.phase == 5 {
+        refuse(s, s.start, 6)
+    } else if s.phase == 4 && b == b'\r' {
+        to_phase(s, 5, at)
+    } else {
+        s
+    }
 }
 
 // A byte at a place, whatever stands before it.
+#[tactic(auto, unfolding(crate::specs::Reading::step))]
 fn stepped(least: usize, most: usize, limit: u32, s: Scan, b: u8, at: usize) -> Scan
     ensures { result ≡ step least most limit s b at }
 {
     if 4 <= s.phase {
-        return on_rest(s, b, at);
+        on_rest(s, b, at)
+    } else {
+        on_byte(least, most, limit, s, b, at)
     }
-    on_byte(least, most, limit, s, b, at)
 }
 
 // The bytes of a line, from the left.
@@ -297,51 +289,54 @@ fn scanned(line: &[u8], least: usize, most: usize, limit: u32) -> Scan
     ensures { result ≡ scan least most limit begin 0 line.now }
 {
     let mut s = begun();
-    let mut i: usize = 0;
-    while i < line.len() {
-        s = stepped(least, most, limit, s, line[i], i);
-        i += 1;
+    for (i, b) in line.iter().enumerate() {
+        s = stepped(least, most, limit, s, *b, i);
     }
     s
 }
 
 // The line's end, whatever stands before it.
+#[tactic(auto, unfolding(crate::specs::Reading::finish))]
 fn finished(least: usize, s: Scan, at: usize) -> Scan
     ensures { result ≡ finish least s at }
 {
-    let t = settled(s);
-    let end = end_at(least, t, at);
-    pick(4 <= s.phase, s, end)
+    if 4 <= s.phase {
+        s
+    } else {
+        end_at(least, settled(s), at)
+    }
 }
 
 // What a line is, once it is read.
+#[tactic(auto, unfolding(crate::specs::Reading::outcome))]
 fn outcome_of(s: Scan) -> Row
     ensures { result ≡ outcome s }
 {
     if s.phase == 6 {
-        return Row {
+        Row {
             reason: s.reason,
             at: s.start,
             count: 0,
             numbers: [0u32; 32],
-        };
-    }
-    let numbers = s.numbers;
-    Row {
-        reason: 0,
-        at: 0,
-        count: s.count,
-        numbers,
+        }
+    } else {
+        let numbers = s.numbers;
+        Row {
+            reason: 0,
+            at: 0,
+            count: s.count,
+            numbers,
+        }
     }
 }
 
 // A line of text, without its end, as the numbers in it.
+#[tactic(auto, unfolding(crate::specs::Reading::row_of))]
 pub fn read_row(line: &[u8], least: usize, most: usize, limit: u32) -> Row
     ensures { result ≡ row_of least most limit line.now }
 {
     let s = scanned(line, least, most, limit);
-    let t = finished(least, s, line.len());
-    outcome_of(t)
+    outcome_of(finished(least, s, line.len()))
 }
 
 // ---- the lines of a text
@@ -365,57 +360,37 @@ pub fn read_day(n: usize, line: &[u8]) -> Row
     if LONGEST < k {
         return too_long();
     }
-    read_row(&line[0..k], n, n, POSITION)
+    read_row(&line[..k], n, n, POSITION)
 }
 
-// No line.
-fn no_day() -> Day
-    ensures { (result.size ≡ 0) × (result.count ≡ 0) }
+// The line at the front, where it is all there and not refused, and its record has room.
+fn next_day(last: bool, input: &[u8], n: usize, room: usize) -> Option<Day>
+    ensures { MatchOption result (size_within 128 room (day_size n last) input.now ≡ 0) (λ day. NextDay n room last input.now day × (day.size ≢ 0)) }
 {
-    Day {
-        size: 0,
-        count: 0,
-        numbers: [0u32; 32],
+    if room < RECORD {
+        return None;
     }
-}
-
-// A line of so many bytes by what it is read as; one that is refused is not to be taken.
-fn day_of(size: usize, row: Row) -> Day
-    ensures { IsDay size row result }
-{
-    if row.reason != 0 {
-        return no_day();
+    let size = text_lines::line_size(last, input);
+    let row = read_day(n, &input[..size]);
+    if size == 0 || row.reason != 0 {
+        return None;
     }
     let numbers = row.numbers;
-    Day {
+    Some(Day {
         size,
         count: row.count,
         numbers,
-    }
+    })
 }
 
-// The line at the front, with no bytes where it is refused or not all there, or its record has no room.
-fn next_day(last: bool, input: &[u8], n: usize, room: usize) -> Day
-    ensures { NextDay n room last input.now result }
-{
-    if room < RECORD {
-        return no_day();
-    }
-    let size = text_lines::line_size(last, input);
-    let row = read_day(n, &input[0..size]);
-    day_of(size, row)
-}
-
-// The first numbers, four bytes each, from a place on.
-fn put_numbers(out: &mut [u8], at: usize, count: usize, numbers: [u32; 32]) -> usize
-    requires { (count ≤ 32) × (at + 128 ≤ length out.old) }
-    ensures { Put out.old at (four_each (take count numbers)) 128 result out.new }
+// Numbers, four bytes each, from a place on.
+fn put_numbers(out: &mut [u8], at: usize, numbers: &[u32]) -> usize
+    requires { (length numbers.now ≤ 32) × (at + 128 ≤ length out.old) }
+    ensures { Put out.old at (four_each numbers.now) 128 result out.new }
 {
     let mut to = at;
-    let mut i: usize = 0;
-    while i < count {
-        to = forms::write_four(out, to, numbers[i]);
-        i += 1;
+    for n in numbers {
+        to = forms::write_four(out, to, *n);
     }
     to
 }
@@ -427,13 +402,10 @@ pub fn take_lines(last: bool, input: &[u8], n: usize, out: &mut [u8]) -> Part
     let mut count: usize = 0;
     let mut used: usize = 0;
     let mut to: usize = 0;
-    let mut day = next_day(last, input, n, out.len());
-    while day.size != 0 {
-        let numbers = day.numbers;
-        to = put_numbers(out, to, day.count, numbers);
+    while let Some(day) = next_day(last, &input[used..], n, out.len() - to) {
+        to = put_numbers(out, to, &day.numbers[..day.count]);
         used += day.size;
         count += 1;
-        day = next_day(last, &input[used..], n, out.len() - to);
     }
     Part {
         count,

@@ -1,10 +1,9 @@
 -- The tables of the code hold the pieces of text: each computed once. Assumes nothing.
 use mathlib.Core.Path.{◌≡◌, refl, sym, ap, ◌∙◌}
 use mathlib.Core.List.{List, [], ◌∷◌, map}
-use Prim.Native.Nat.{ℕ, zero, suc, ◌+◌, ◌*◌, ◌≤◌, ◌<◌}
+use Prim.Native.Nat.{ℕ, zero, suc, ◌+◌, ◌-◌, ◌*◌, ◌≤◌, ◌<◌}
 use native.Mathlib.Omega.{arith}
 use lib.ListN.{length, get_or, take, drop, length-take, length-drop}
-use lib.Seq.{drop-cons, get_or-take, get_or-drop}
 use lib.Dec.{leb}
 use mathlib.Core.Bool.{true}
 use borrow.Author.Tests.{lt-ltb, leb-true}
@@ -50,18 +49,21 @@ pub lengths-small : (k : ℕ) → get_or lengths k 0 ≤ 16
 unfolding all
 lengths-small k = entry-small 16 lengths k refl
 
--- a letter of a piece lies within the letters
-pub letter-in : (k j : ℕ) → k < 144 → j < get_or lengths k 0 → get_or starts k 0 + j < length letters
-letter-in k j h l =
-    let e : length (get_or pieces k []) ≡ length (take (get_or lengths k 0) (drop (get_or starts k 0) letters)) = ap length (piece_is k h) in
-    omega (arith, e, piece-long k h, simp (length-take, length-drop) at e)
+starts-small : (k : ℕ) → get_or starts k 0 ≤ 212
+unfolding all
+starts-small k = entry-small 212 starts k refl
 
--- a piece from letter j on
-pub piece-next : (k j : ℕ) → k < 144 → j < get_or lengths k 0 → drop j (get_or pieces k []) ≡ get_or letters (get_or starts k 0 + j) 0 ∷ drop (suc j) (get_or pieces k [])
-piece-next k j h l =
-    drop-cons (get_or pieces k []) j 0 (omega (arith, piece-long k h))
-    ∙ ap (λ (x : ℕ). x ∷ drop (suc j) (get_or pieces k []))
-    (ap (λ (t : List ℕ). get_or t j 0) (piece_is k h) ∙ get_or-take (get_or lengths k 0) (drop (get_or starts k 0) letters) j 0 l ∙ get_or-drop (get_or starts k 0) letters j 0)
+-- a piece lies within the letters
+pub piece-in : (k : ℕ) → k < 144 → get_or starts k 0 + get_or lengths k 0 ≤ length letters
+piece-in k h =
+    let e : length (get_or pieces k []) ≡ length (take (get_or lengths k 0) (drop (get_or starts k 0) letters)) = ap length (piece_is k h) in
+    omega (arith, e, piece-long k h, simp (length-take, length-drop) at e, starts-small k)
+
+-- the part of the letters that it is, by where it begins and how long it is
+pub piece-part : (k start n : ℕ) → k < 144 → start ≡ get_or starts k 0 → n ≡ get_or lengths k 0 → take (start + n - start) (drop start letters) ≡ get_or pieces k []
+piece-part k start n h e f =
+    let m : start + n - start ≡ n = omega arith in
+    rw m (sym (piece_is k h ∙ ap (λ (l : ℕ). take l (drop (get_or starts k 0) letters)) (sym f) ∙ ap (λ (s : ℕ). take n (drop s letters)) (sym e)))
 
 -- ---- the pieces of a call
 

@@ -5,6 +5,7 @@ use Prim.Native.Nat.{ℕ, zero, suc, ◌+◌, ◌-◌, ◌/◌, ◌≤◌, ◌<�
 use native.Mathlib.Numerals.{add-one}
 use native.Mathlib.Omega.{arith}
 use lib.ListN.{length, get_or, take, drop, length-append}
+use lib.Seq.{drop-cons, drop-length}
 use borrow.Author.Tests.{lt-ltb, le-ltb, le-leb, lt-leb, eq-eqb, ne_eqb}
 use Rattle.sets.specs.Set.{members}
 use Rattle.machine.specs.Printed.{decimal}
@@ -15,7 +16,7 @@ use Rattle.wire.specs.declared.Call.TheVariants.{Head as HeadCall, Pool, Member,
 use Rattle.forms.specs.declared.Tagged.{Tagged}
 use Rattle.forms.specs.Forms.{form_of, flattened}
 use Rattle.forms.specs.Put.{Put, Written}
-use Rattle.forms.proofs.Values.{rest-next, rest-none, flat-form, round-tag}
+use Rattle.forms.proofs.Values.{flat-form, round-tag}
 use Rattle.spelling.specs.Text.{money_text, price_text, members_text, more_text, number_text, item_text, items_text, line_text, line_form, key_into}
 use Rattle.spelling.specs.Words.{key_of, separator}
 
@@ -68,15 +69,14 @@ module _ (kind n : ℕ) where
 
 -- ---- a line
 
-pub items-next : (tag count i : ℕ) (xs : List ℕ) → length xs ≡ 8 → count ≤ 8 → i < count
-    → items_text tag i (drop i (take count xs)) ≡ item_text tag i (get_or xs i 0) ++ items_text tag (i + 1) (drop (i + 1) (take count xs))
+pub items-next : (tag i : ℕ) (xs : List ℕ) → i < length xs
+    → items_text tag i (drop i xs) ≡ item_text tag i (get_or xs i 0) ++ items_text tag (i + 1) (drop (i + 1) xs)
 unfolding items_text
-items-next tag count i xs l h lt = rw (add-one i) (ap (items_text tag i) (rest-next count i xs l h lt))
+items-next tag i xs lt = rw (add-one i) (ap (items_text tag i) (drop-cons xs i 0 lt))
 
-pub items-none : (tag count i : ℕ) (xs : List ℕ) → length xs ≡ 8 → count ≤ 8 → i ≤ count → count ≤ i
-    → 10 ∷ [] ≡ items_text tag i (drop i (take count xs))
+pub items-none : (tag i : ℕ) (xs : List ℕ) → i ≡ length xs → 10 ∷ [] ≡ items_text tag i (drop i xs)
 unfolding items_text
-items-none tag count i xs l h le ge = ap (items_text tag i) (sym (rest-none count i xs l h le ge))
+items-none tag i xs e = ap (items_text tag i) (sym (ap (λ (j : ℕ). drop j xs) e ∙ drop-length xs))
 
 form-some : (tag : ℕ) (ns : List ℕ) → (tag ≡ 0 → ⊥) → line_form (tag, ns) ≡ line_text tag ns
 unfolding line_form

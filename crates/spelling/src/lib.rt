@@ -59,20 +59,14 @@ const LENGTHS: [u8; 144] = *b"\
     \x00\x04\x04\x06\x05\x03\x05\x08\
     \x04\x04\x03\x04\x04\x06\x04\x08";
 
-// A byte as a place.
-fn place(b: u8) -> usize
-    ensures { (result ≡ b) × (result < 256) }
+// A text from a place of the buffer on, and the place behind it.
+fn put(out: &mut [u8], at: usize, text: &[u8]) -> usize
+    requires { at + length text.now ≤ length out.old }
+    ensures { Put out.old at text.now (length text.now) result out.new }
 {
-    b as usize
-}
-
-// A byte at a place of the buffer, and the next place.
-fn put(out: &mut [u8], at: usize, b: u8) -> usize
-    requires { at + 1 ≤ length out.old }
-    ensures { Put out.old at (b ∷ []) 1 result out.new }
-{
-    out[at] = b;
-    at + 1
+    let to = at + text.len();
+    out[at..to].copy_from_slice(text);
+    to
 }
 
 // A piece of text, from a place of the buffer on, and the place behind it.
@@ -80,15 +74,9 @@ fn put_piece(out: &mut [u8], at: usize, k: usize) -> usize
     requires { (k < 144) × (at + 16 ≤ length out.old) }
     ensures { Put out.old at (get_or pieces k []) 16 result out.new }
 {
-    let start = place(STARTS[k]);
-    let n = place(LENGTHS[k]);
-    let mut to = at;
-    let mut j: usize = 0;
-    while j < n {
-        to = put(out, to, TEXT[start + j]);
-        j += 1;
-    }
-    to
+    let start = usize::from(STARTS[k]);
+    let end = start + usize::from(LENGTHS[k]);
+    put(out, at, &TEXT[start..end])
 }
 
 // A number in decimal.
@@ -104,7 +92,7 @@ fn put_digit(out: &mut [u8], at: usize, d: u64) -> usize
     requires { (d < 10) × (at + 1 ≤ length out.old) }
     ensures { Put out.old at ((48 + d) ∷ []) 1 result out.new }
 {
-    put(out, at, 48 + d as u8)
+    put(out, at, &[b'0' + d as u8])
 }
 
 // Cents, with a point and two digits behind it.
@@ -113,7 +101,7 @@ fn put_money(out: &mut [u8], at: usize, n: u64) -> usize
     ensures { Put out.old at (money_text n) 23 result out.new }
 {
     let a = put_decimal(out, at, n / 100);
-    let b = put(out, a, b'.');
+    let b = put(out, a, b".");
     let c = put_digit(out, b, n / 10 % 10);
     put_digit(out, c, n % 10)
 }
@@ -123,7 +111,7 @@ fn put_negative(out: &mut [u8], at: usize, n: u64) -> usize
     requires { at + 24 ≤ length out.old }
     ensures { Put out.old at (45 ∷ money_text n) 24 result out.new }
 {
-    let a = put(out, at, b'-');
+    let a = put(out, at, b"-");
     put_money(out, a, n)
 }
 
@@ -146,7 +134,7 @@ fn put_member(out: &mut [u8], at: usize, m: u64) -> usize
     requires { at + 21 ≤ length out.old }
     ensures { Put out.old at (44 ∷ decimal 20 m) 21 result out.new }
 {
-    let a = put(out, at, b',');
+    let a = put(out, at, b",");
     put_decimal(out, a, m)
 }
 
@@ -156,11 +144,8 @@ fn put_more(out: &mut [u8], at: usize, set: u32) -> usize
     ensures { Put out.old at (more_text (members set)) 672 result out.new }
 {
     let mut to = at;
-    let mut left = set;
-    while left != 0 {
-        let m = sets::next(left) as u64;
-        left = sets::without_least(left);
-        to = put_member(out, to, m);
+    for m in sets::members_of(set) {
+        to = put_member(out, to, u64::from(m));
     }
     to
 }
@@ -171,9 +156,9 @@ fn put_members(out: &mut [u8], at: usize, set: u32) -> usize
     ensures { Put out.old at (members_text (members set)) 692 result out.new }
 {
     if set == 0 {
-        return put(out, at, b'-');
+        return put(out, at, b"-");
     }
-    let m = sets::next(set) as u64;
+    let m = u64::from(sets::next(set));
     let rest = sets::without_least(set);
     let a = put_decimal(out, at, m);
     put_more(out, a, rest)
@@ -184,16 +169,12 @@ fn put_number(out: &mut [u8], at: usize, kind: u8, n: u32) -> usize
     requires { at + 692 ≤ length out.old }
     ensures { Put out.old at (number_text kind n) 692 result out.new }
 {
-    if kind < 3 {
-        return put_decimal(out, at, n as u64);
+    match kind {
+        0..=2 => put_decimal(out, at, u64::from(n)),
+        3 => put_members(out, at, n),
+        4 => put_money(out, at, u64::from(n)),
+        5..=255 => put_price(out, at, u64::from(n)),
     }
-    if kind == 3 {
-        return put_members(out, at, n);
-    }
-    if kind == 4 {
-        return put_money(out, at, n as u64);
-    }
-    put_price(out, at, n as u64)
 }
 
 // A number behind its key or a comma.
@@ -201,31 +182,29 @@ fn put_item(out: &mut [u8], at: usize, tag: u8, i: usize, n: u32) -> usize
     requires { (tag < 16) × (i < 8) × (at + 708 ≤ length out.old) }
     ensures { Put out.old at (item_text tag i n) 708 result out.new }
 {
-    let a = put_piece(out, at, place(tag) * 8 + i);
+    let a = put_piece(out, at, usize::from(tag) * 8 + i);
     put_number(out, a, forms::kind(tag, i), n)
 }
 
 // The numbers of a call, and the line's end.
-fn put_items(out: &mut [u8], at: usize, tag: u8, count: usize, numbers: [u32; 8]) -> usize
-    requires { (tag < 16) × (count ≤ 8) × (at + 5665 ≤ length out.old) }
-    ensures { Put out.old at (items_text tag 0 (take count numbers)) 5665 result out.new }
+fn put_items(out: &mut [u8], at: usize, tag: u8, numbers: &[u32]) -> usize
+    requires { (tag < 16) × (length numbers.now ≤ 8) × (at + 5665 ≤ length out.old) }
+    ensures { Put out.old at (items_text tag 0 numbers.now) 5665 result out.new }
 {
     let mut to = at;
-    let mut i: usize = 0;
-    while i < count {
-        to = put_item(out, to, tag, i, numbers[i]);
-        i += 1;
+    for (i, n) in numbers.iter().enumerate() {
+        to = put_item(out, to, tag, i, *n);
     }
-    put(out, to, b'\n')
+    put(out, to, b"\n")
 }
 
 // A line from a place on, and the place behind it.
-fn put_form(out: &mut [u8], at: usize, tag: u8, count: usize, numbers: [u32; 8]) -> usize
-    requires { (tag < 16) × (count ≤ 8) × (at + 8192 ≤ length out.old) }
-    ensures { Put out.old at (line_text tag (take count numbers)) 5681 result out.new }
+fn put_form(out: &mut [u8], at: usize, tag: u8, numbers: &[u32]) -> usize
+    requires { (tag < 16) × (length numbers.now ≤ 8) × (at + 8192 ≤ length out.old) }
+    ensures { Put out.old at (line_text tag numbers.now) 5681 result out.new }
 {
-    let a = put_piece(out, at, 128 + place(tag));
-    put_items(out, a, tag, count, numbers)
+    let a = put_piece(out, at, 128 + usize::from(tag));
+    put_items(out, a, tag, numbers)
 }
 
 // The line of a call from a place on, and the place behind it. Nothing is put where the call is `Unknown`, or less than 8,192 bytes are left.
@@ -239,13 +218,10 @@ pub fn write_text(call: Call, out: &mut [u8], at: usize) -> usize
         return at;
     }
     let f = forms::flat(call);
-    let tag = f.tag;
-    let count = f.count;
-    let numbers = f.numbers;
-    if tag == 0 {
+    if f.tag == 0 {
         return at;
     }
-    put_form(out, at, tag, count, numbers)
+    put_form(out, at, f.tag, &f.numbers[..f.count])
 }
 
 // What stands before a call's number i, at the front of the buffer, and its length: its key between spaces, or a comma; 0 where there is no such number, or
@@ -256,13 +232,10 @@ pub fn write_key(tag: u8, i: usize, out: &mut [u8]) -> usize
     if out.len() < 16 {
         return 0;
     }
-    if 16 <= tag {
+    if 16 <= tag || 8 <= i {
         return 0;
     }
-    if 8 <= i {
-        return 0;
-    }
-    put_piece(out, 0, place(tag) * 8 + i)
+    put_piece(out, 0, usize::from(tag) * 8 + i)
 }
 
 // Cents from a place on, with a point and two digits behind it, and the place behind them. Nothing is put where less than 23 bytes are left.

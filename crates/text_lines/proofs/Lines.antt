@@ -4,11 +4,13 @@ use mathlib.Core.Bool.{Bool, true, false}
 use mathlib.Core.Logic.{⊎_elim}
 use mathlib.Core.List.{List, [], ◌∷◌}
 use Prim.Native.Nat.{ℕ, suc, ◌+◌, ◌-◌, ◌≤◌, ◌<◌}
-use native.Mathlib.Numerals.{add-one}
 use native.Mathlib.Omega.{arith}
 use lib.Dec.{eqb}
-use lib.ListN.{length, get_or, take, drop, drop_of_length-le, length-take}
-use lib.Seq.{drop-cons}
+use Rattle.std.proofs.Common.{◌==◌}
+use Rattle.std.specs.List.{position, position_or_len}
+use Rattle.std.specs.Option.{unwrap_or}
+use Rattle.std.proofs.lemmas.List.Recursion.{is_position_or_len}
+use lib.ListN.{length, take, drop, length-take}
 use borrow.Author.Tests.{lt-ltb, le-ltb, eq-eqb, ne_eqb, eqb-true, eqb-false}
 use Rattle.lists.specs.Lists.{when◌then◌else◌}
 use Rattle.lists.proofs.Bools.{cases, lt-or-le}
@@ -36,22 +38,17 @@ to-most (b ∷ s) =
     (λ e. omega (arith, to-here b s (eqb-true b 10 e)))
     (λ e. omega (arith, to-behind b s (eqb-false b 10 e), to-most s))
 
--- the bytes in front of byte i have no line end
-abbrev pub Seeking : List ℕ → ℕ → Type 0
-Seeking s i = length_to s ≡ i + length_to (drop i s)
+-- by the library's word
+pub to-position : (s : List ℕ) → length_to s ≡ position_or_len (λ b. b == 10) s
+unfolding length_to
+to-position s = is_position_or_len length_to (λ b. b == 10) no_end (λ b r. let e : suc (length_to r) ≡ 1 + length_to r = omega arith in ap (λ (n : ℕ). when eqb b 10 then 0 else n) e) s
 
-pub seek-starts : (s : List ℕ) → Seeking s 0
-seek-starts s = omega arith
-
-module _ (s : List ℕ) (i : ℕ) (g : Seeking s i) where
-  pub seek_finds : i < length s → get_or s i 0 ≡ 10 → i ≡ length_to s
-  seek_finds h e = omega (arith, g, ap length_to (drop-cons s i 0 h), to-here (get_or s i 0) (drop (suc i) s) e)
-
-  pub seek-goes : i < length s → (get_or s i 0 ≡ 10 → ⊥) → Seeking s (i + 1)
-  seek-goes h e = omega (arith, g, ap length_to (drop-cons s i 0 h), to-behind (get_or s i 0) (drop (suc i) s) e, ap (λ (n : ℕ). length_to (drop n s)) (add-one i))
-
-  pub seek-ends : length s ≤ i → i ≡ length_to s
-  seek-ends h = omega (arith, g, ap length_to (drop_of_length-le s {i = i} h), no_end)
+pub to-found : (s : List ℕ) → unwrap_or (position (λ b. b == 10) s) (length s) ≡ length_to s
+to-found s =
+    ⊎_elim
+    (λ l. rw (lt-ltb (position_or_len (λ b. b == 10) s) (length s) l) (sym (to-position s)))
+    (λ g. rw (le-ltb (position_or_len (λ b. b == 10) s) (length s) g) (omega (arith, to-position s, to-most s)))
+    (lt-or-le (position_or_len (λ b. b == 10) s) (length s))
 
 -- ---- the bytes of the first line
 

@@ -1,28 +1,29 @@
 // A text as its lines.
 #![tactic(auto)]
 
-ghost use Rattle.std.specs.Prelude.{◌≡◌};
+ghost use Rattle.std.specs.Prelude.{◌≡◌, ◌==◌, position};
 ghost use Rattle.lines.specs.Placed.{Placed, placed};
 ghost use Rattle.text_lines.specs.Lines.{length_to, line_size, start_of, line_at};
 
 // A line longer than this is refused.
 pub const LONGEST: usize = 65536;
 
+// The place of the first line end.
+fn line_end(input: &[u8]) -> Option<usize>
+    ensures { result ≡ position (λ b. b == 10) input.now }
+{
+    input.iter().position(|b| *b == b'\n')
+}
+
 // The bytes before the first line end, and all where there is none.
 pub fn length_to(input: &[u8]) -> usize
     ensures { result ≡ length_to input.now }
 {
-    let mut i: usize = 0;
-    while i < input.len() {
-        if input[i] == 10 {
-            return i;
-        }
-        i += 1;
-    }
-    i
+    line_end(input).unwrap_or(input.len())
 }
 
 // The bytes of the first line with its end, and 0 where it is not all there. Where the text ends here, a last line needs no end.
+#[tactic(auto, unfolding(crate::specs::Lines::line_size))]
 pub fn line_size(last: bool, input: &[u8]) -> usize
     ensures { result ≡ line_size last input.now }
 {
@@ -41,10 +42,8 @@ pub fn start_of(text: &[u8], k: usize) -> usize
     ensures { result ≡ start_of k text.now }
 {
     let mut at: usize = 0;
-    let mut i: usize = 0;
-    while i < k {
+    for _ in 0..k {
         at += line_size(true, &text[at..]);
-        i += 1;
     }
     at
 }

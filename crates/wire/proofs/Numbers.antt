@@ -1,12 +1,11 @@
 -- Big-endian numbers of one, two and four bytes, and the reserves of ROUND. Assumes nothing.
 use Rattle.std.proofs.Common.{◌≡◌, ℕ, zero, suc, ◌+◌, ◌-◌, ◌*◌, ◌/◌, ◌%◌, ◌<◌, ◌≤◌, true, false, ◌&&◌, eqb, leb, List, [], ◌∷◌, length, get_or, take, drop, sym, refl, ◌∙◌, add-one, arith, length-drop, take_all, drop-cons, eq-eqb, ne_eqb, eqb-true, le-leb, leb-true}
-use mathlib.Core.Option.{Option, none, some}
+use mathlib.Core.Option.{none, some}
 use native.Mathlib.Numerals.{add-two, add-three}
 use borrow.Author.Tests.{lt-leb}
-use Rattle.lists.specs.Lists.{when◌then◌else◌, between, sum, tab}
+use Rattle.lists.specs.Lists.{when◌then◌else◌, between, tab}
 use Rattle.lists.proofs.Bools.{and_left, and_right}
-use Rattle.lists.proofs.Sums.{entry-le}
-use Rattle.machine.specs.Wire.{Call, big_endian, number, right_length, call_of, decode}
+use Rattle.machine.specs.Wire.{big_endian, number, right_length, call_of, decode}
 
 module _ (s : List ℕ) (at : ℕ) where
   pub number-one : at + 1 ≤ length s → number at 1 s ≡ get_or s at 0
@@ -46,10 +45,6 @@ pub length-other : (tag n : ℕ) → (tag ≡ 4 → ⊥) → right_length tag n 
 unfolding right_length
 length-other tag n h = rw (ne_eqb tag 4 h)
 
-pub length-small : (i : ℕ) → get_or lengths i 0 ≤ 82
-unfolding sum
-length-small i = entry-le lengths i
-
 pub round-small : (n : ℕ) → right_length 4 n ≡ true → n ≤ 16
 unfolding right_length
 round-small n e = leb-true n 16 (and_right (leb 4 n) (leb n 16) (and_left (between 4 16 n) (eqb (n % 4) 0) e))
@@ -81,31 +76,6 @@ reserves-of n e f a b c d ha hb hc hd =
     go (suc (suc (suc zero))) l h ha hb hc hd = rw (ha (omega arith), hb (omega arith), hc (omega arith))
     go (suc (suc (suc (suc zero)))) l h ha hb hc hd = rw (ha (omega arith), hb (omega arith), hc (omega arith), hd (omega arith))
     go (suc (suc (suc (suc (suc k))))) l h ha hb hc hd = absurd (omega arith)
-
--- ---- a value's call, by its tag
-
-pub length-by-tag : (tag k n : ℕ) → tag ≡ k → right_length tag n ≡ true → right_length k n ≡ true
-length-by-tag tag k n e h = rw e at h
-
-pub call-by-tag : (tag k : ℕ) (v : List ℕ) {x : Option Call} → tag ≡ k → x ≡ some (call_of k v) → x ≡ some (call_of tag v)
-call-by-tag tag k v e h = rw e h
-
--- a tag from k on that is not k
-past : (tag k : ℕ) → k ≤ tag → (tag ≡ k → ⊥) → suc k ≤ tag
-past tag k low h = omega arith
-
--- the last of the tags has no test of its own
-pub last-tag : (tag : ℕ) → 1 ≤ tag → tag ≤ 15
-    → (tag ≡ 1 → ⊥) → (tag ≡ 2 → ⊥) → (tag ≡ 3 → ⊥) → (tag ≡ 4 → ⊥) → (tag ≡ 5 → ⊥) → (tag ≡ 6 → ⊥) → (tag ≡ 7 → ⊥)
-    → (tag ≡ 8 → ⊥) → (tag ≡ 9 → ⊥) → (tag ≡ 10 → ⊥) → (tag ≡ 11 → ⊥) → (tag ≡ 12 → ⊥) → (tag ≡ 13 → ⊥) → (tag ≡ 14 → ⊥)
-    → tag ≡ 15
-last-tag tag low high h1 h2 h3 h4 h5 h6 h7 h8 h9 h10 h11 h12 h13 h14 =
-    let low₅ = past tag 4 (past tag 3 (past tag 2 (past tag 1 low h1) h2) h3) h4 in
-    let low₁₀ = past tag 9 (past tag 8 (past tag 7 (past tag 6 (past tag 5 low₅ h5) h6) h7) h8) h9 in
-    at_most tag 15 high (past tag 14 (past tag 13 (past tag 12 (past tag 11 (past tag 10 low₁₀ h10) h11) h12) h13) h14)
-  where
-    at_most : (n k : ℕ) → n ≤ k → k ≤ n → n ≡ k
-    at_most n k h l = omega arith
 
 -- ---- the bytes of a call
 

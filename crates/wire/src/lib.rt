@@ -1,5 +1,5 @@
 // The calls of document 01, and SALE and WITHDRAW of document 02, as values, and how a call is read from any bytes.
-#![tactic(auto)]
+#![tactic(auto, unfolding(machine::specs::Wire::right_length, machine::specs::Wire::call_of, crate::specs::Asked::asked, lists::specs::Lists::tab))]
 
 ghost use Rattle.std.specs.Prelude.{◌≡◌, ◌+◌, ◌<◌, ◌≤◌, true, length};
 ghost use Rattle.std.proofs.Math.Option.{some};
@@ -136,13 +136,6 @@ pub const LAST_TAG: u8 = 15;
 // The length of each tag's value; ROUND's is not read here.
 const LENGTHS: [u8; 15] = [27, 4, 13, 0, 8, 0, 5, 5, 0, 5, 1, 5, 0, 6, 3];
 
-// A byte as a wider number.
-fn wide(b: u8) -> u32
-    ensures { (result ≡ b) × (result < 256) }
-{
-    b as u32
-}
-
 // The number in one byte from a place on.
 fn one(s: &[u8], at: usize) -> u8
     requires { at + 1 ≤ length s.now }
@@ -156,7 +149,7 @@ fn two(s: &[u8], at: usize) -> u16
     requires { at + 2 ≤ length s.now }
     ensures { result ≡ number at 2 s.now }
 {
-    (wide(s[at]) * 256 + wide(s[at + 1])) as u16
+    u16::from_be_bytes([s[at], s[at + 1]])
 }
 
 // The number in four bytes, big-endian.
@@ -164,7 +157,7 @@ fn four(s: &[u8], at: usize) -> u32
     requires { at + 4 ≤ length s.now }
     ensures { result ≡ number at 4 s.now }
 {
-    ((wide(s[at]) * 256 + wide(s[at + 1])) * 256 + wide(s[at + 2])) * 256 + wide(s[at + 3])
+    u32::from_be_bytes([s[at], s[at + 1], s[at + 2], s[at + 3]])
 }
 
 // The price in four bytes, two's complement.
@@ -172,7 +165,7 @@ fn price_at(s: &[u8], at: usize) -> u32
     requires { at + 4 ≤ length s.now }
     ensures { result ≡ price at s.now }
 {
-    std::num::wrapping_add_u32(four(s, at), 1_000_000)
+    four(s, at).wrapping_add(1_000_000)
 }
 
 // The price from a place on, or 0 where the value ends before it.
@@ -193,11 +186,9 @@ fn right_length(tag: u8, n: usize) -> bool
     ensures { result ≡ right_length tag n }
 {
     if tag == 4 {
-        let within = lists::both(4 <= n, n <= 16);
-        return lists::both(within, n % 4 == 0);
+        return 4 <= n && n <= 16 && n % 4 == 0;
     }
-    let i = (tag - 1) as usize;
-    n == LENGTHS[i] as usize
+    n == usize::from(LENGTHS[usize::from(tag - 1)])
 }
 
 fn read_head(v: &[u8]) -> Call
@@ -339,49 +330,23 @@ fn read_value(tag: u8, v: &[u8]) -> Call
     requires { (1 ≤ tag) × (tag ≤ 15) × (right_length tag (length v.now) ≡ true) }
     ensures { asked result ≡ some (call_of tag v.now) }
 {
-    if tag == 1 {
-        return read_head(v);
+    match tag {
+        1 => read_head(v),
+        2 => read_pool(v),
+        3 => read_member(v),
+        4 => read_round(v),
+        5 => read_bid(v),
+        6 => Call::Close,
+        7 => read_allocate(v),
+        8 => read_tear(v),
+        9 => Call::Call,
+        10 => read_pay(v),
+        11 => read_move(v),
+        12 => read_miss(v),
+        13 => Call::Finish,
+        14 => read_sale(v),
+        _ => read_withdraw(v),
     }
-    if tag == 2 {
-        return read_pool(v);
-    }
-    if tag == 3 {
-        return read_member(v);
-    }
-    if tag == 4 {
-        return read_round(v);
-    }
-    if tag == 5 {
-        return read_bid(v);
-    }
-    if tag == 6 {
-        return Call::Close;
-    }
-    if tag == 7 {
-        return read_allocate(v);
-    }
-    if tag == 8 {
-        return read_tear(v);
-    }
-    if tag == 9 {
-        return Call::Call;
-    }
-    if tag == 10 {
-        return read_pay(v);
-    }
-    if tag == 11 {
-        return read_move(v);
-    }
-    if tag == 12 {
-        return read_miss(v);
-    }
-    if tag == 13 {
-        return Call::Finish;
-    }
-    if tag == 14 {
-        return read_sale(v);
-    }
-    read_withdraw(v)
 }
 
 // The call that the bytes are, or `Unknown`: "Unknown tag, bytes that aren't exactly one field, or a wrong length".
@@ -393,14 +358,11 @@ pub fn read_call(bytes: &[u8]) -> Call
         return Call::Unknown;
     }
     let tag = bytes[0];
-    if tag < 1 {
-        return Call::Unknown;
-    }
-    if LAST_TAG < tag {
+    if tag < 1 || LAST_TAG < tag {
         return Call::Unknown;
     }
     let v = &bytes[3..];
-    if two(bytes, 1) as usize != v.len() {
+    if usize::from(two(bytes, 1)) != v.len() {
         return Call::Unknown;
     }
     if !right_length(tag, v.len()) {

@@ -24,19 +24,9 @@ pub fn put(out: &mut [u8], at: usize, text: &[u8]) -> usize
     if out.len() - at < text.len() {
         return at;
     }
-    let mut i: usize = 0;
-    while i < text.len() {
-        out[at + i] = text[i];
-        i += 1;
-    }
-    at + text.len()
-}
-
-// The lesser of a number of spaces and those of the widest column.
-fn at_most_widest(n: usize) -> usize
-    ensures { result ≡ min n 64 }
-{
-    if n < 64 { n } else { 64 }
+    let to = at + text.len();
+    out[at..to].copy_from_slice(text);
+    to
 }
 
 // Spaces at a place of the buffer, at most 64.
@@ -44,22 +34,14 @@ fn spaces(out: &mut [u8], at: usize, n: usize) -> usize
     ensures { ◌≡◌ {A = Placed} (result, out.new) (placed (blanks n) out.old at) }
 {
     let row = [b' '; 64];
-    let k = at_most_widest(n);
-    put(out, at, &row[0..k])
-}
-
-// What a word leaves of a column.
-fn gap(width: usize, n: usize) -> usize
-    ensures { result ≡ (width - n) }
-{
-    if n < width { width - n } else { 0 }
+    put(out, at, &row[..n.min(64)])
 }
 
 // A word at the right of a column.
 pub fn right(out: &mut [u8], at: usize, width: usize, word: &[u8]) -> usize
     ensures { ◌≡◌ {A = Placed} (result, out.new) (placed_right width word.now out.old at) }
 {
-    let to = spaces(out, at, gap(width, word.len()));
+    let to = spaces(out, at, width.saturating_sub(word.len()));
     put(out, to, word)
 }
 
@@ -71,6 +53,7 @@ pub fn number(out: &mut [u8], at: usize, n: u64) -> usize
 }
 
 // a − b as an amount of money.
+#[tactic(auto, unfolding(crate::specs::Amounts::difference_of))]
 pub fn difference(a: u64, b: u64) -> Amount
     ensures { result ≡ difference_of a b }
 {
@@ -87,11 +70,12 @@ pub fn difference(a: u64, b: u64) -> Amount
 }
 
 // A price that is held as cents + 1,000,000 modulo 2^32, as an amount of money: the wire's four bytes are two's complement.
+#[tactic(auto, unfolding(crate::specs::Amounts::amount_of))]
 pub fn price(p: u32) -> Amount
     ensures { result ≡ amount_of p }
 {
     if p < 2_148_483_648 {
-        return difference(p as u64, 1_000_000);
+        return difference(u64::from(p), 1_000_000);
     }
-    difference(p as u64, 4_295_967_296)
+    difference(u64::from(p), 4_295_967_296)
 }

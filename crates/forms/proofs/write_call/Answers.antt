@@ -10,16 +10,16 @@ returns-then-out-at c = (sym (into-short 64 _ _ _ (search rules)), search rules)
 pub returns-then-out-at-lt64 : goal.returns-then-out-at-lt64
 returns-then-out-at-lt64 c = (sym (into-short 64 _ _ _ (omega arith)), search rules)
 
-pub returns-then-tag-eq0 : goal.returns-then-tag-eq0
-returns-then-tag-eq0 c =
+pub returns-then-f-eq0 : goal.returns-then-f-eq0
+returns-then-f-eq0 c =
     let f = c.flat-f in
-    (into-put 64 _ (omega arith) (put_as 64 (omega arith) (encoded-none _ f.result f.ensures c.if-tag-eq0.true) (put-none _ _)), search rules)
+    (into-put 64 _ (omega arith) (put_as 64 (omega arith) (encoded-none _ f.result f.ensures c.if-f-eq0.true) (put-none _ _)), search rules)
 
-pub put_form-requires : goal.put_form-requires
-put_form-requires c = (rw c.flat-f.ensures (flat-few _), omega arith)
+pub shared_ref_as_front-put_form : goal.shared_ref_as_front-put_form
+shared_ref_as_front-put_form c = rw c.flat-f.ensures (flat-few _)
 
 pub returns : goal.returns
 returns c =
     let f = c.flat-f in
     let p = c.put_form.ensures in
-    (into-put 64 _ (omega arith) (put_as 64 (omega arith) (encoded-some _ f.result f.ensures c.if-tag-eq0.false) p), omega (arith, p.behind, p.short))
+    (into-put 64 _ (omega arith) (put_as 64 (omega arith) (encoded-some _ f.result f.ensures c.if-f-eq0.false) p), omega (arith, p.behind, p.short))

@@ -8,7 +8,7 @@ pub returns-then-n-lt3 : goal.returns-then-n-lt3
 returns-then-n-lt3 c = c.all_if.ensures ∙ front-short _ _ c.if-n-lt3.true
 
 pub returns-then-n-size : goal.returns-then-n-size
-returns-then-n-size c = c.all_if-then-n-size.ensures ∙ front_cut _ _ c.if-n-lt3.false _ (omega (arith, c.wide-2.ensures.0, c.wide.ensures.0)) c.if-n-size.true
+returns-then-n-size c = c.all_if-then-n-size.ensures ∙ front_cut _ _ c.if-n-lt3.false _ (omega arith) c.if-n-size.true
 
 pub returns-else-n-size : goal.returns-else-n-size
-returns-else-n-size c = front-whole _ _ c.if-n-lt3.false _ (omega (arith, c.wide-2.ensures.0, c.wide.ensures.0)) c.if-n-size.false
+returns-else-n-size c = front-whole _ _ c.if-n-lt3.false _ (omega arith) c.if-n-size.false

@@ -1,17 +1,14 @@
 -- `lines::write_numbers` meets its contract. The invariant: what is left, written behind what is written, gives the whole. Assumes nothing.
 use mathlib.Core.Path.{◌≡◌}
-use Prim.Native.Nat.{◌+◌, ◌-◌, ◌≤◌}
+use Prim.Native.Nat.{◌+◌, ◌≤◌}
 use lib.ListN.{length}
 use lib.Seq.{sets}
 use Rattle.lines.proofs.Numbers.{text_from}
 use Rattle.lines.proofs.write_numbers.Given as goal
 
-abbrev pub invariant-loop-i : goal.invariant-loop-i
-invariant-loop-i l =
-    (l.i ≤ l.count) × (l.count ≤ 8) × (length l.numbers ≡ 8) × (length l.out ≡ length l.initial.out)
-    × (l.at + length (text_from l.count l.numbers 0) ≤ length l.initial.out)
-    × (l.to + length (text_from l.count l.numbers l.i) ≡ l.at + length (text_from l.count l.numbers 0))
-    × (sets l.out l.to (text_from l.count l.numbers l.i) ≡ sets l.initial.out l.at (text_from l.count l.numbers 0))
-
-abbrev pub decreases-loop-i : goal.decreases-loop-i
-decreases-loop-i l = l.count - l.i
+abbrev pub invariant-loop-n : goal.invariant-loop-n
+invariant-loop-n l =
+    (length l.out ≡ length l.initial.out)
+    × (l.at + length (text_from l.numbers 0) ≤ length l.initial.out)
+    × (l.to + length (text_from l.numbers l.n-index) ≡ l.at + length (text_from l.numbers 0))
+    × (sets l.out l.to (text_from l.numbers l.n-index) ≡ sets l.initial.out l.at (text_from l.numbers 0))

@@ -1,11 +1,11 @@
 -- `notation::limit` meets its contract. Assumes nothing.
 use mathlib.Core.Path.{sym}
+use native.Mathlib.Omega.{arith}
 use Rattle.notation.proofs.Codes.{limit-high, limit-small, limit-in}
-use borrow.Author.Rules.{rules}
 use Rattle.notation.proofs.limit.Goals as goal
 
 pub returns-then-kind-ge6 : goal.returns-then-kind-ge6
-returns-then-kind-ge6 c = (sym (limit-high _ (search rules)), search rules)
+returns-then-kind-ge6 c = (sym (limit-high _ c.if-kind-ge6.true), omega arith)
 
 pub returns : goal.returns
-returns c = (rw c.place-k.ensures.0 (sym (limit-in _)), limit-small c.place-k.result)
+returns c = (rw c.from.ensures (sym (limit-in _)), limit-small c.from.result)

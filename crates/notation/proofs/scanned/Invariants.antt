@@ -1,13 +1,9 @@
 -- `notation::scanned` meets its contract. The invariant: what is read and what is left are the line. Assumes nothing.
 use mathlib.Core.Path.{◌≡◌}
-use Prim.Native.Nat.{◌≤◌, ◌-◌}
-use lib.ListN.{length, drop}
+use lib.ListN.{drop}
 use Rattle.notation.specs.Scans.{begin}
 use Rattle.notation.specs.Reading.{scan}
 use Rattle.notation.proofs.scanned.Given as goal
 
 abbrev pub invariant-loop-i : goal.invariant-loop-i
-invariant-loop-i l = (scan l.s l.i (drop l.i l.line) ≡ scan begin 0 l.line) × (l.i ≤ length l.line)
-
-abbrev pub decreases-loop-i : goal.decreases-loop-i
-decreases-loop-i l = length l.line - l.i
+invariant-loop-i l = scan l.s l.i (drop l.i l.line) ≡ scan begin 0 l.line

@@ -2,14 +2,12 @@
 use Rattle.positions.proofs.Ends.{end-declined, end-done}
 use Rattle.positions.proofs.end.Goals as goal
 
-pub returns-then-answer-eq0 : goal.returns-then-answer-eq0
-returns-then-answer-eq0 c =
+pub returns-in-Ok : goal.returns-in-Ok
+returns-in-Ok c =
     let a = c.args in
-    end-done a.set a.units a.left a.sums.now a.shares.now _ c.count_of-n.ensures.0 _ _ _ _ c.split_by-given.ensures.answer_value c.why_before-before.ensures
-    c.decline_if-why.ensures c.decline_if-answer.ensures c.if-answer-eq0.true _ _ c.split_by-given.ensures.shares_value c.spread.ensures
+    end-done a.set a.units a.left a.sums.now a.shares.now _ c.count_of.ensures.0 c.in-Ok.ensures.0 _ _ c.in-Ok.ensures.1 c.spread.ensures
 
-pub returns-else-answer-eq0 : goal.returns-else-answer-eq0
-returns-else-answer-eq0 c =
+pub returns-in-Err : goal.returns-in-Err
+returns-in-Err c =
     let a = c.args in
-    end-declined a.set a.units a.left a.sums.now a.shares.now _ c.count_of-n.ensures.0 _ _ _ _ c.split_by-given.ensures.answer_value c.why_before-before.ensures
-    c.decline_if-why.ensures c.decline_if-answer.ensures c.if-answer-eq0.false
+    end-declined a.set a.units a.left a.sums.now a.shares.now _ c.count_of.ensures.0 _ c.in-Err.ensures.0 c.in-Err.ensures.1

@@ -1,20 +1,19 @@
 -- `positions::take_day` meets its contract. The invariant: the positions passed stand in their row, and their sums have rolled. Assumes nothing.
-use Rattle.std.proofs.Common.{◌≡◌, sym, ◌∙◌, arith, rules}
+use Rattle.std.proofs.Common.{◌≡◌, sym, ◌∙◌, arith}
 use Rattle.positions.specs.Days.{day_at}
 use Rattle.positions.proofs.Taking.{begin, ring-turn, sums-turn}
 use Rattle.positions.proofs.take_day.Goals as goal
 
 pub loop-m-init : goal.loop-m-init
-loop-m-init c = (search rules, sym (begin _ _ _), sym (begin _ _ _))
+loop-m-init c = (sym (begin _ _ _), sym (begin _ _ _))
 
 pub loop-m-preserved : goal.loop-m-preserved
 loop-m-preserved c =
     let a = c.args in
     let at = c.loop-m in
     let comes = c.position-comes.ensures in (
-      omega arith,
-      c.roll.ensures.ring_after ∙ ring-turn _ _ a.row a.bytes.now a.at a.n at.m at.ring at.sums _ at.invariant.1 at.invariant.2 comes,
-      c.roll.ensures.sums_after ∙ sums-turn _ _ a.row a.bytes.now a.at a.n at.m at.ring at.sums _ at.invariant.1 at.invariant.2 comes (omega arith),
+      c.roll.ensures.ring_after ∙ ring-turn _ _ a.row a.bytes.now a.at a.n at.m at.ring at.sums _ at.invariant.0 at.invariant.1 comes,
+      c.roll.ensures.sums_after ∙ sums-turn _ _ a.row a.bytes.now a.at a.n at.m at.ring at.sums _ at.invariant.0 at.invariant.1 comes (omega arith),
     )
 
 pub returns : goal.returns
@@ -22,4 +21,4 @@ unfolding day_at
 returns c =
     let at = c.loop-m in
     let all : at.m ≡ c.args.n = omega arith in
-    record { ring_after = rw all at at.invariant.1; sums_after = rw all at at.invariant.2 }
+    record { ring_after = rw all at at.invariant.0; sums_after = rw all at at.invariant.1 }

@@ -16,6 +16,7 @@ returns-then-set-eq0 c = put_as 692 (omega arith) (members-none _ (ap members c.
 pub returns : goal.returns
 returns c =
     let a = c.args in
-    let t = taken a.set c.next-m.result c.without_least-rest.result c.if-set-eq0.false c.ranges.set.fits c.next-m.ensures c.without_least-rest.ensures in
-    put_as 692 (omega arith) (members-next a.set c.next-m.result c.without_least-rest.result t.cons)
-    (put_then (decimal 20 c.next-m.result) (more_text (members c.without_least-rest.result)) c.put_decimal-a.ensures c.put_more.ensures)
+    let m = c.from-m.ensures ∙ c.next.ensures in
+    let t = taken a.set c.from-m.result c.without_least-rest.result c.if-set-eq0.false c.ranges.set.fits m c.without_least-rest.ensures in
+    put_as 692 (omega arith) (members-next a.set c.from-m.result c.without_least-rest.result t.cons)
+    (put_then (decimal 20 c.from-m.result) (more_text (members c.without_least-rest.result)) c.put_decimal-a.ensures c.put_more.ensures)

@@ -1,48 +1,34 @@
 -- `spelling::put_more` meets its contract. The invariant: what is put and what is left make up the text. Assumes nothing.
-use mathlib.Core.Path.{ap, ◌∙◌}
 use Prim.Native.Nat.{◌*◌, ◌-◌}
 use native.Mathlib.Omega.{arith}
-use borrow.Author.Rules.{rules}
 use lib.ListN.{length}
-use Rattle.forms.proofs.Puts.{putting-start, putting-turn, putting-end, putting-most}
+use Rattle.forms.proofs.Puts.{putting-turn, putting-end, putting-most}
 use Rattle.sets.specs.Set.{members}
-use Rattle.sets.proofs.Bits.{members-none}
-use Rattle.sets.proofs.Members.{taken, members-few}
+use Rattle.sets.proofs.Members.{Taken, given, members-few}
 use Rattle.spelling.proofs.Texts.{more-next, more-none}
 use Rattle.spelling.proofs.put_more.Goals as goal
+use Rattle.spelling.proofs.put_more.Goals.{After-from}
 
-pub loop-left-init : goal.loop-left-init
-loop-left-init c = (putting-most _ (omega arith) (putting-start _ _ _), c.ranges.set.fits, c.requires)
-
-pub next-m-requires : goal.next-m-requires
-next-m-requires c = tt
-
-pub without_least-left-requires : goal.without_least-left-requires
-without_least-left-requires c = tt
+-- the next member, taken off
+next-taken : (c : After-from) → Taken c.loop-m.m-iterator.left c.from.result c.next.new.self.left
+next-taken c = rw c.from.ensures (given _ _ _ c.loop-m.m-iterator.fits c.in-Some.ensures.steps)
 
 pub put_member-to-requires : goal.put_member-to-requires
 put_member-to-requires c =
-    let l = c.loop-left in
-    let t = taken l.left c.next-m.result c.without_least-left.result c.loop-left-test.true l.invariant.1 c.next-m.ensures c.without_least-left.ensures in
-    let p = l.invariant.0.put in
-    omega (arith, p.behind, p.short, p.same, l.invariant.2, t.shorter)
+    let t = next-taken (goal.at.put_member-to-requires c).After-from in
+    let p = c.loop-m.invariant.put in
+    omega (arith, p.behind, p.short, p.same, t.shorter)
 
-pub loop-left-smaller : goal.loop-left-smaller
-loop-left-smaller c =
-    let l = c.loop-left in
-    (taken l.left c.next-m.result c.without_least-left.result c.loop-left-test.true l.invariant.1 c.next-m.ensures c.without_least-left.ensures).shorter
-
-pub loop-left-preserved : goal.loop-left-preserved
-loop-left-preserved c =
-    let l = c.loop-left in
-    let t = taken l.left c.next-m.result c.without_least-left.result c.loop-left-test.true l.invariant.1 c.next-m.ensures c.without_least-left.ensures in
-    let e = more-next l.left c.next-m.result c.without_least-left.result t.cons in
-    (putting-most ((32 - length (members c.without_least-left.result)) * 21) (omega (arith, t.shorter, members-few l.left)) (putting-turn _ _ l.invariant.0 e c.put_member-to.ensures), search rules, l.invariant.2)
+pub loop-m-preserved : goal.loop-m-preserved
+loop-m-preserved c =
+    let l = c.loop-m in
+    let t = next-taken (goal.at.loop-m-preserved c).After-from in
+    let left = c.next.new.self.left in
+    let e = more-next l.m-iterator.left c.from.result left t.cons in
+    putting-most ((32 - length (members left)) * 21) (omega (arith, t.shorter, members-few l.m-iterator.left)) (putting-turn _ _ l.invariant e c.put_member-to.ensures)
 
 pub shape_of-out : goal.shape_of-out
-shape_of-out c = c.loop-left.invariant.0.put.same
+shape_of-out c = c.loop-m.invariant.put.same
 
 pub returns : goal.returns
-returns c =
-    let l = c.loop-left in
-    putting-end 672 (omega arith) (more-none l.left (ap members c.loop-left-test.false ∙ members-none)) l.invariant.0
+returns c = putting-end 672 (omega arith) (more-none c.loop-m.m-iterator.left c.in-None.ensures.steps.0) c.loop-m.invariant

@@ -1,18 +1,20 @@
 -- `spelling::put_number` meets its contract. Assumes nothing.
+use mathlib.Core.Path.{ap, ◌∙◌}
 use native.Mathlib.Omega.{arith}
 use Rattle.forms.proofs.Puts.{put_as}
+use Rattle.spelling.specs.Text.{money_text, price_text}
+use Rattle.machine.specs.Printed.{decimal}
 use Rattle.spelling.proofs.Texts.{number-low, number-set, number-money, number-price}
-use borrow.Author.Rules.{rules}
 use Rattle.spelling.proofs.put_number.Goals as goal
 
-pub returns-then-kind-lt3 : goal.returns-then-kind-lt3
-returns-then-kind-lt3 c = put_as 692 (omega arith) (number-low _ _ c.if-kind-lt3.true) c.put_decimal.ensures
+pub returns-in-0-to-2 : goal.returns-in-0-to-2
+returns-in-0-to-2 c = put_as 692 (omega arith) (ap (decimal 20) c.from-in-0-to-2.ensures ∙ number-low _ _ (omega arith)) c.put_decimal.ensures
 
-pub returns-then-kind-eq3 : goal.returns-then-kind-eq3
-returns-then-kind-eq3 c = put_as 692 (omega arith) (number-set _ _ c.if-kind-eq3.true) c.put_members.ensures
+pub returns-in-3 : goal.returns-in-3
+returns-in-3 c = put_as 692 (omega arith) (number-set _ _ c.in-3.is) c.put_members.ensures
 
-pub returns-then-kind-eq4 : goal.returns-then-kind-eq4
-returns-then-kind-eq4 c = put_as 692 (omega arith) (number-money _ _ c.if-kind-eq4.true) c.put_money.ensures
+pub returns-in-4 : goal.returns-in-4
+returns-in-4 c = put_as 692 (omega arith) (ap money_text c.from.ensures ∙ number-money _ _ c.in-4.is) c.put_money.ensures
 
-pub returns : goal.returns
-returns c = put_as 692 (omega arith) (number-price _ _ (search rules) c.if-kind-eq3.false c.if-kind-eq4.false) c.put_price.ensures
+pub returns-in-5-to-255 : goal.returns-in-5-to-255
+returns-in-5-to-255 c = put_as 692 (omega arith) (ap price_text c.from-in-5-to-255.ensures ∙ number-price _ _ (omega arith) (λ e. omega arith) (λ e. omega arith)) c.put_price.ensures

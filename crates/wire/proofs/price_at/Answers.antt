@@ -4,4 +4,4 @@ use Rattle.wire.proofs.price_at.Goals as goal
 
 pub returns : goal.returns
 unfolding price
-returns c = rw (c.wrapping_add_u32.ensures.value, c.four.ensures)
+returns c = rw c.four.ensures

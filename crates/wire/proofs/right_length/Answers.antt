@@ -1,15 +1,19 @@
 -- `wire::right_length` meets its contract. ROUND has lengths of its own; every other tag has one. Assumes nothing.
-use Rattle.std.proofs.Common.{◌-◌, sym, arith}
-use Rattle.wire.proofs.Numbers.{length-round, length-other, length-small}
+use Rattle.std.proofs.Common.{sym, arith}
+use Rattle.std.proofs.lemmas.Bool.Decides.{nat_tests}
+use Rattle.wire.proofs.Numbers.{length-round, length-other}
 use Rattle.wire.proofs.right_length.Goals as goal
+use Rattle.wire.proofs.right_length.Goals.{then-n-ge4, else-n-ge4}
 
-pub returns-then-tag-eq4 : goal.returns-then-tag-eq4
-returns-then-tag-eq4 c =
-    let a = c.args in
-    rw (length-round a.tag a.n c.if-tag-eq4.true, c.both.ensures, c.both-within.ensures)
+pub returns-then-n-le16 : goal.returns-then-n-le16
+returns-then-n-le16 c =
+    rw (length-round c.args.tag c.args.n c.if-tag-eq4.true)
+    (elim c.if-n-ge4.branch [ then-n-ge4 w ↦ grind (arith, nat_tests) | else-n-ge4 w ↦ grind (arith, nat_tests) ])
 
-pub overflow_cast-result : goal.overflow_cast-result
-overflow_cast-result c = omega (arith, length-small (c.args.tag - 1))
+pub returns-else-n-le16 : goal.returns-else-n-le16
+returns-else-n-le16 c =
+    rw (length-round c.args.tag c.args.n c.if-tag-eq4.true)
+    (elim c.if-n-ge4.branch [ then-n-ge4 w ↦ grind (arith, nat_tests) | else-n-ge4 w ↦ grind (arith, nat_tests) ])
 
 pub returns : goal.returns
-returns c = sym (length-other c.args.tag c.args.n c.if-tag-eq4.false)
+returns c = rw (c.from-2.ensures, c.from.ensures) (sym (length-other c.args.tag c.args.n c.if-tag-eq4.false))

@@ -1,10 +1,7 @@
--- `words::put` meets its contract. The invariant: the bytes copied stand in the buffer. Assumes nothing.
-use mathlib.Core.Path.{refl, sym, ◌∙◌}
-use Prim.Native.Nat.{◌+◌}
-use native.Mathlib.Omega.{arith}
-use lib.ListN.{length-set}
-use Rattle.lines.proofs.Numbers.{placed-not}
-use Rattle.words.proofs.Copying.{copied_next, copied_all}
+-- `words::put` meets its contract. Assumes nothing.
+use Rattle.std.proofs.Common.{ℕ, ◌+◌, List, length, sym, ap, ◌∙◌, arith}
+use Rattle.lines.proofs.Numbers.{placed-fits, placed-not}
+use Rattle.lines.proofs.Copies.{copied}
 use Rattle.words.proofs.put.Goals as goal
 
 pub returns-then-out-at : goal.returns-then-out-at
@@ -17,21 +14,8 @@ returns-then-out-at-2 c =
     let a = c.args in
     sym (placed-not a.text.now a.out.now a.at (omega arith))
 
-pub loop-i-init : goal.loop-i-init
-loop-i-init c = (refl, omega arith, omega arith, refl)
-
-pub loop-i-preserved : goal.loop-i-preserved
-loop-i-preserved c =
-    let a = c.args in
-    let l = c.loop-i in (
-      copied_next a.text.now a.out.now l.out a.at l.i (omega arith) l.invariant.0,
-      omega arith,
-      l.invariant.2,
-      length-set l.out (a.at + l.i) _ ∙ l.invariant.3,
-    )
-
 pub returns : goal.returns
 returns c =
     let a = c.args in
-    let l = c.loop-i in
-    copied_all a.text.now a.out.now l.out a.at l.i (omega arith) l.invariant.2 l.invariant.0
+    ap (λ (o : List ℕ). (a.at + length a.text.now, o)) (copied a.text.now a.out.now _ a.at (omega arith) c.copy_from_slice.ensures.after)
+    ∙ sym (placed-fits a.text.now a.out.now a.at (omega arith))

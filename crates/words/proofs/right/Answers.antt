@@ -11,4 +11,4 @@ returns c =
     let a = c.args in
     c.put.ensures
     ∙ ap (λ (p : Placed). placed a.word.now p.1 p.0) c.spaces-to.ensures
-    ∙ ap (λ (k : ℕ). let p = placed (blanks k) a.out.now a.at in placed a.word.now p.1 p.0) c.gap.ensures
+    ∙ ap (λ (k : ℕ). let p = placed (blanks k) a.out.now a.at in placed a.word.now p.1 p.0) c.saturating_sub.ensures

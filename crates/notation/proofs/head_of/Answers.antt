@@ -1,7 +1,0 @@
--- `notation::head_of` meets its contract. Assumes nothing.
-use Rattle.notation.specs.Reading.{call_of}
-use Rattle.notation.proofs.head_of.Goals as goal
-
-pub returns : goal.returns
-unfolding call_of
-returns c = simp (c.one-pools.ensures, c.two-least.ensures)

@@ -1,7 +1,0 @@
--- `notation::round_of` meets its contract. Assumes nothing.
-use Rattle.notation.specs.Reading.{call_of}
-use Rattle.notation.proofs.round_of.Goals as goal
-
-pub returns : goal.returns
-unfolding call_of
-returns c = simp c.few.ensures

@@ -1,7 +1,0 @@
--- `notation::sale_of` meets its contract. Assumes nothing.
-use Rattle.notation.specs.Reading.{call_of}
-use Rattle.notation.proofs.sale_of.Goals as goal
-
-pub returns : goal.returns
-unfolding call_of
-returns c = simp (c.one-pool.ensures, c.one-member.ensures)
