@@ -2,6 +2,7 @@
 #![tactic(auto)]
 
 ghost use Rattle.std.specs.Prelude.{◌≡◌, cond, ◌<◌, ◌≤◌, min, leb, length, get_or};
+ghost use Rattle.lists.specs.Refusals.{answer_of};
 ghost use Rattle.lists.specs.Lists.{between, all};
 ghost use Rattle.splitting.specs.Limits.{Answer};
 ghost use Rattle.auction.specs.Price.{price_limit, price_ok};
@@ -10,6 +11,8 @@ ghost use Rattle.auction.specs.Limits.{unit_limit, bid_limit, place_limit, refus
 ghost use Rattle.auction.specs.Lent.{held, alone_lent};
 ghost use Rattle.auction.specs.Gathered.{gathered, alone_over};
 ghost use Rattle.auction.specs.Edge.{BidsFit, Ready, from, Edge, below_at, below, settled};
+
+use lists::refusal::{Refusal, decline_if};
 
 // The most bids of an auction that is run alone, and the most places of one that is not; the most units that are open or bid; the highest price.
 pub const BID_LIMIT: usize = 256;
@@ -131,7 +134,7 @@ impl<'a> Auction<'a> {
         let t = self.edge();
         let balance = self.open_units - self.units_from(t);
         self.weigh(t, weights);
-        splitting::split(balance, weights, won);
+        let _ = splitting::split(balance, weights, won);
         self.settle(t, won);
     }
 
@@ -146,39 +149,40 @@ impl<'a> Auction<'a> {
         self.allot_with(&mut weights[..n], won);
     }
 
-    // Why an auction with n counts is declined, or 0: the answers of document 01.
-    fn refusal(self, least: u64, places: usize, n: usize) -> u8
-        ensures { result ≡ refusal least places self.entry.open_units self.entry.reserve self.entry.units.now self.entry.prices.now n }
+    // Why an auction with n counts is declined: the reasons of document 01.
+    #[tactic(auto, unfolding(crate::specs::Limits::refusal, lists::specs::Tests::first_of))]
+    fn refusal(self, least: u64, places: usize, n: usize) -> Result<(), Refusal>
+        ensures { answer_of result ≡ refusal least places self.entry.open_units self.entry.reserve self.entry.units.now self.entry.prices.now n }
     {
-        if self.prices.len() != self.units.len() || n != self.units.len() || n > places {
-            return 1;
-        }
-        if self.open_units > UNIT_LIMIT
-            || self.reserve > PRICE_LIMIT
-            || !units_fit(least, self.units)
-            || !prices_fit(self.prices)
-        {
-            return 5;
-        }
-        0
+        decline_if(self.prices.len() != self.units.len(), Refusal::Unreadable)?;
+        decline_if(n != self.units.len(), Refusal::Unreadable)?;
+        decline_if(n > places, Refusal::Unreadable)?;
+        decline_if(self.open_units > UNIT_LIMIT, Refusal::OutOfRange)?;
+        decline_if(self.reserve > PRICE_LIMIT, Refusal::OutOfRange)?;
+        decline_if(!units_fit(least, self.units), Refusal::OutOfRange)?;
+        decline_if(!prices_fit(self.prices), Refusal::OutOfRange)
     }
 
-    // Runs an auction of at most `places` bids of at least `least` units, or answers why not and leaves the counts untouched.
-    fn run(self, least: u64, places: usize, counts: &mut [u64]) -> u8
+    // Runs an auction of at most `places` bids of at least `least` units, or says why not and leaves the counts untouched.
+    fn run(self, least: u64, places: usize, counts: &mut [u64]) -> Result<(), Refusal>
         requires { places ≤ place_limit }
-        ensures { ◌≡◌ {A = Answer} (result, counts.new) (allot_into least places self.entry.open_units self.entry.reserve self.entry.units.now self.entry.prices.now counts.old) }
+        ensures { ◌≡◌ {A = Answer} (answer_of result, counts.new) (allot_into least places self.entry.open_units self.entry.reserve self.entry.units.now self.entry.prices.now counts.old) }
     {
-        let why = self.refusal(least, places, counts.len());
-        if why == 0 {
-            self.allot_within(counts);
-        }
-        why
+        self.refusal(least, places, counts.len())?;
+        self.allot_within(counts);
+        Ok(())
     }
 }
 
 // Writes what each bid wins of the open units. A bid of 0 units is as if it were not there.
-pub fn allot(open_units: u64, reserve: u32, units: &[u64], prices: &[u32], won: &mut [u64]) -> u8
-    ensures { ◌≡◌ {A = Answer} (result, won.new) (allot_into 0 place_limit open_units reserve units.now prices.now won.old) }
+pub fn allot(
+    open_units: u64,
+    reserve: u32,
+    units: &[u64],
+    prices: &[u32],
+    won: &mut [u64],
+) -> Result<(), Refusal>
+    ensures { ◌≡◌ {A = Answer} (answer_of result, won.new) (allot_into 0 place_limit open_units reserve units.now prices.now won.old) }
 {
     let auction = Auction {
         open_units,
@@ -190,8 +194,14 @@ pub fn allot(open_units: u64, reserve: u32, units: &[u64], prices: &[u32], won: 
 }
 
 // The auction run alone, over flat runs of units and prices.
-pub fn alone(open_units: u64, reserve: u32, units: &[u64], prices: &[u32], counts: &mut [u64]) -> u8
-    ensures { ◌≡◌ {A = Answer} (result, counts.new) (allot_into 1 bid_limit open_units reserve units.now prices.now counts.old) }
+pub fn alone(
+    open_units: u64,
+    reserve: u32,
+    units: &[u64],
+    prices: &[u32],
+    counts: &mut [u64],
+) -> Result<(), Refusal>
+    ensures { ◌≡◌ {A = Answer} (answer_of result, counts.new) (allot_into 1 bid_limit open_units reserve units.now prices.now counts.old) }
 {
     let auction = Auction {
         open_units,
@@ -240,8 +250,14 @@ fn gather(bids: &[BidRecord]) -> Bids
 }
 
 // The auction run alone over the first n of the bids.
-fn alone_over(bids: Bids, n: usize, open_units: u16, reserve: i32, counts: &mut [u64]) -> u8
-    ensures { ◌≡◌ {A = Answer} (result, counts.new) (alone_over bids n open_units reserve counts.old) }
+fn alone_over(
+    bids: Bids,
+    n: usize,
+    open_units: u16,
+    reserve: i32,
+    counts: &mut [u64],
+) -> Result<(), Refusal>
+    ensures { ◌≡◌ {A = Answer} (answer_of result, counts.new) (alone_over bids n open_units reserve counts.old) }
 {
     let least = held(reserve);
     let units = bids.units;
@@ -255,7 +271,7 @@ fn alone_over(bids: Bids, n: usize, open_units: u16, reserve: i32, counts: &mut 
             counts,
         )
     } else {
-        1
+        Err(Refusal::Unreadable)
     }
 }
 
@@ -265,8 +281,8 @@ pub fn ledger_auction_records(
     open_units: u16,
     reserve: i32,
     counts: &mut [u64],
-) -> u8
-    ensures { ◌≡◌ {A = Answer} (result, counts.new) (alone_lent bids.now open_units reserve counts.old) }
+) -> Result<(), Refusal>
+    ensures { ◌≡◌ {A = Answer} (answer_of result, counts.new) (alone_lent bids.now open_units reserve counts.old) }
 {
     let f = gather(bids);
     alone_over(f, bids.len(), open_units, reserve, counts)

@@ -19,7 +19,7 @@ pub extern "C" fn ledger_auction(
 ) -> u8
     ensures { ◌≡◌ {A = Answer} (result, counts.new) (allot_into 1 bid_limit open_units reserve units.now prices.now counts.old) }
 {
-    auction::alone(open_units, reserve, units, prices, counts)
+    lists::refusal::answer(auction::alone(open_units, reserve, units, prices, counts))
 }
 
 // The auction run alone, over a lent run of bid records. Every record is checked before a count is written.
@@ -32,5 +32,5 @@ pub extern "C" fn ledger_auction_records(
 ) -> u8
     ensures { ◌≡◌ {A = Answer} (result, counts.new) (alone_lent bids.now open_units reserve counts.old) }
 {
-    auction::ledger_auction_records(bids, open_units, reserve, counts)
+    lists::refusal::answer(auction::ledger_auction_records(bids, open_units, reserve, counts))
 }

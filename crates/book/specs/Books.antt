@@ -43,6 +43,10 @@ with_units b v = record { head = b.head; pools = b.pools; members = b.members; r
 abbrev pub open_in : Book → ℕ → ℕ
 open_in b pool = open_of b.units pool
 
+-- in which pools a unit is open
+abbrev pub opened_in : Book → List Bool
+opened_in b = ltb 0 (open_in b 0) ∷ ltb 0 (open_in b 1) ∷ ltb 0 (open_in b 2) ∷ ltb 0 (open_in b 3) ∷ []
+
 -- whether any unit is open
 unfoldable pub any_open_in : Book → Bool
 any_open_in b = any (λ p. ltb 0 (open_in b p)) (places 4)

@@ -6,7 +6,7 @@ ghost use Rattle.lists.specs.Lists.{sum};
 ghost use Rattle.lists.specs.Adding.{most16};
 ghost use Rattle.accounts.specs.Members.{shortfalls_of};
 ghost use Rattle.book.specs.Stages.{letter_of, round_of, next_round};
-ghost use Rattle.book.specs.Books.{open_in, any_open_in, sold_pools, passed_in, prices_in, too_dear_in, requirement_in, contributions_in, prefunded_in, short_in, allocation_in, calls_in};
+ghost use Rattle.book.specs.Books.{open_in, opened_in, any_open_in, sold_pools, passed_in, prices_in, too_dear_in, requirement_in, contributions_in, prefunded_in, short_in, allocation_in, calls_in, wins_in};
 ghost use Rattle.book.specs.Books.{new_book, pool_book, member_book, round_book, bid_book, close_book, allocate_book, tear_book, call_book, pay_book, move_book, miss_book, sale_book, withdraw_book};
 ghost use Rattle.book.specs.Results.{limits_in, ranks_in, result_in};
 
@@ -51,6 +51,7 @@ pub struct Result {
 // ---- the stage
 
 // The letter of a stage: S 1, B 2, A 3, C 4, F 5.
+#[tactic(auto, unfolding(machine::specs::State::letter))]
 pub fn letter(stage: Stage) -> u8
     ensures { result ≡ letter_of stage }
 {
@@ -64,6 +65,7 @@ pub fn letter(stage: Stage) -> u8
 }
 
 // The round of a stage, and 0 outside the rounds.
+#[tactic(auto, unfolding(machine::specs::State::round_of))]
 pub fn round_of(stage: Stage) -> u8
     ensures { result ≡ round_of stage }
 {
@@ -77,24 +79,11 @@ pub fn round_of(stage: Stage) -> u8
 }
 
 // The number of the next round.
+#[tactic(auto, unfolding(crate::specs::Stages::next_round))]
 pub fn next_round(round: u8) -> u8
     ensures { result ≡ next_round round }
 {
-    if round < 255 { round + 1 } else { 255 }
-}
-
-// The sum of 32 shortfalls.
-fn sum_of_shortfalls(xs: [u64; 32]) -> u64
-    requires { (k : ℕ) → get_or xs k 0 ≤ most16 }
-    ensures { result ≡ sum xs }
-{
-    let mut total: u64 = 0;
-    let mut m: usize = 0;
-    while m < 32 {
-        total += xs[m];
-        m += 1;
-    }
-    total
+    round.saturating_add(1)
 }
 
 // The total shortfall of a pool.
@@ -107,12 +96,14 @@ pub fn total_shortfall(
 ) -> u64
     ensures { result ≡ sum (shortfalls_of set expected won allocated pool) }
 {
-    let xs = accounts::members::shortfalls(set, expected, won, allocated, pool);
-    sum_of_shortfalls(xs)
+    accounts::members::shortfalls(set, expected, won, allocated, pool)
+        .iter()
+        .sum()
 }
 
 impl Book {
     // HEAD: the book of a new case.
+    #[tactic(auto, unfolding(crate::specs::Books::new_book))]
     pub fn new(head: Head) -> Book
         ensures { result ≡ new_book head }
     {
@@ -132,34 +123,37 @@ impl Book {
     pub fn open_units(self, pool: u8) -> u16
         ensures { result ≡ open_in self pool }
     {
-        let units = self.units;
-        units.open_units(pool)
+        self.units.open_units(pool)
+    }
+
+    // In which pools a unit is open.
+    fn opened(self) -> [bool; 4]
+        ensures { result ≡ opened_in self }
+    {
+        [
+            0 < self.open_units(0),
+            0 < self.open_units(1),
+            0 < self.open_units(2),
+            0 < self.open_units(3),
+        ]
     }
 
     // Whether any unit is open.
     pub fn any_open(self) -> bool
         ensures { result ≡ any_open_in self }
     {
-        let last = lists::either(
-            0 < self.open_units(2),
-            lists::either(0 < self.open_units(3), false),
-        );
-        lists::either(
-            0 < self.open_units(0),
-            lists::either(0 < self.open_units(1), last),
-        )
+        self.opened().iter().any(|open| *open)
     }
 
     // Which pools were sold by agreement.
     pub fn sold_pools(self) -> [bool; 4]
         ensures { result ≡ sold_pools self }
     {
-        let units = self.units;
         [
-            0 < units.agreed_units(0),
-            0 < units.agreed_units(1),
-            0 < units.agreed_units(2),
-            0 < units.agreed_units(3),
+            0 < self.units.agreed_units(0),
+            0 < self.units.agreed_units(1),
+            0 < self.units.agreed_units(2),
+            0 < self.units.agreed_units(3),
         ]
     }
 
@@ -167,16 +161,14 @@ impl Book {
     pub fn passed(self, m: u8) -> u64
         ensures { result ≡ passed_in self m }
     {
-        let units = self.units;
-        units.passed(m)
+        self.units.passed(m)
     }
 
     // The sum of the prices of all units not open, as cents + 4,000,000,000.
     pub fn prices(self) -> u64
         ensures { (result ≡ prices_in self) × (result ≤ 17179869180) }
     {
-        let units = self.units;
-        units.prices()
+        self.units.prices()
     }
 
     // Whether a SALE of a pool at a price is too dear: "hedge loss + other loss − the prices of all units so sold, this pool's included, passes margin and
@@ -184,70 +176,65 @@ impl Book {
     pub fn too_dear(self, pool: u8, price: u32) -> bool
         ensures { result ≡ too_dear_in self pool price }
     {
-        let head = self.head;
-        let n = lists::wide16(self.open_units(pool));
-        let funds = head.margin as u64 + head.fund as u64;
-        let losses = head.hedge as u64 + head.other as u64;
-        funds + self.prices() + n * lists::wide32(price)
-            < losses + Units::ZERO_PRICES + n * 1_000_000
+        let n = u64::from(self.open_units(pool));
+        let funds = u64::from(self.head.margin) + u64::from(self.head.fund);
+        let losses = u64::from(self.head.hedge) + u64::from(self.head.other);
+        funds + self.prices() + n * u64::from(price) < losses + Units::ZERO_PRICES + n * 1_000_000
     }
 
     // The requirement: "hedge loss + other loss − the prices of all units not open, at least 0".
+    #[tactic(auto, unfolding(crate::specs::Books::requirement_in))]
     pub fn requirement(self) -> u64
         ensures { result ≡ requirement_in self }
     {
-        let head = self.head;
-        let losses = head.hedge as u64 + head.other as u64;
-        lists::less(losses + Units::ZERO_PRICES, self.prices())
+        let losses = u64::from(self.head.hedge) + u64::from(self.head.other);
+        (losses + Units::ZERO_PRICES).saturating_sub(self.prices())
     }
 
     // "all contributions"
+    #[tactic(auto, unfolding(crate::specs::Books::contributions_in))]
     pub fn contributions(self) -> u64
         ensures { result ≡ contributions_in self }
     {
-        let members = self.members;
-        let head = self.head;
-        let xs = members.contribution;
-        accounts::members::amounts(head.set, xs)
+        accounts::members::amounts(self.head.set, self.members.contribution)
     }
 
     // "margin, defaulter's fund, house money and all contributions added"
     pub fn prefunded(self) -> u64
         ensures { result ≡ prefunded_in self }
     {
-        let head = self.head;
-        let members = self.members;
-        let xs = members.contribution;
-        let funds = accounts::members::amounts(head.set, xs);
-        head.margin as u64 + head.fund as u64 + head.house as u64 + funds
+        let funds = accounts::members::amounts(self.head.set, self.members.contribution);
+        u64::from(self.head.margin) + u64::from(self.head.fund) + u64::from(self.head.house) + funds
     }
 
     // The total shortfall of a pool.
+    #[tactic(auto, unfolding(crate::specs::Books::short_in))]
     pub fn short(self, pool: u8) -> u64
         ensures { result ≡ short_in self pool }
     {
-        let head = self.head;
-        let members = self.members;
-        let expected = members.expected;
-        let won = members.won;
-        let allocated = members.allocated;
-        total_shortfall(head.set, expected, won, allocated, pool)
+        total_shortfall(
+            self.head.set,
+            self.members.expected,
+            self.members.won,
+            self.members.allocated,
+            pool,
+        )
     }
 
     // ALLOCATE: each member's share of the pool's open units.
     pub fn allocation(self, pool: u8) -> [u16; 32]
         ensures { result ≡ allocation_in self pool }
     {
-        let members = self.members;
-        let head = self.head;
-        let expected = members.expected;
-        let won = members.won;
-        let allocated = members.allocated;
-        let weights = accounts::members::shortfalls(head.set, expected, won, allocated, pool);
-        let short = total_shortfall(head.set, expected, won, allocated, pool);
-        let q = lists::smaller(self.open_units(pool) as u64, short);
+        let weights = accounts::members::shortfalls(
+            self.head.set,
+            self.members.expected,
+            self.members.won,
+            self.members.allocated,
+            pool,
+        );
+        let q = u64::from(self.open_units(pool)).min(self.short(pool));
         let mut shares = [0u64; 32];
-        splitting::split(q, &weights, &mut shares);
+        let _ = splitting::split(q, &weights, &mut shares);
         accounts::members::narrowed16(shares)
     }
 
@@ -255,254 +242,235 @@ impl Book {
     pub fn calls(self) -> [u32; 32]
         ensures { result ≡ calls_in self }
     {
-        let members = self.members;
-        let xs = members.contribution;
-        let weights = accounts::members::widened(xs);
-        let lack = lists::less(self.requirement(), self.prefunded());
-        let q = lists::smaller(lack, self.contributions());
+        let weights = accounts::members::widened(self.members.contribution);
+        let lack = self.requirement().saturating_sub(self.prefunded());
+        let q = lack.min(self.contributions());
         let mut shares = [0u64; 32];
-        splitting::split(q, &weights, &mut shares);
+        let _ = splitting::split(q, &weights, &mut shares);
         accounts::members::narrowed32(shares)
     }
 
     // ---- how each call changes it
 
     // POOL
+    #[tactic(auto, unfolding(crate::specs::Books::pool_book))]
     pub fn take_pool(self, pool: u8, units: u16, mark: u8) -> Book
         ensures { result ≡ pool_book self pool units mark }
     {
-        let pools = self.pools;
-        let old = self.units;
-        let given = pools.put(units, mark);
-        let more = old.put_up(pool, units);
-        let mut next = self;
-        next.pools = given;
-        next.units = more;
-        next
+        Book {
+            pools: self.pools.put(units, mark),
+            units: self.units.put_up(pool, units),
+            ..self
+        }
     }
 
     // MEMBER
+    #[tactic(auto, unfolding(crate::specs::Books::member_book))]
     pub fn take_member(self, m: u8, contribution: u32, p: u16, q: u16, r: u16, s: u16) -> Book
         ensures { result ≡ member_book self m contribution p q r s }
     {
-        let members = self.members;
-        let more = members.put(m, contribution, p, q, r, s);
-        let mut next = self;
-        next.members = more;
-        next
+        Book {
+            members: self.members.put(m, contribution, p, q, r, s),
+            ..self
+        }
     }
 
     // ROUND
+    #[tactic(auto, unfolding(crate::specs::Books::round_book))]
     pub fn take_round(self, p: u32, q: u32, r: u32, s: u32) -> Book
         ensures { result ≡ round_book self p q r s }
     {
-        let rounds = self.rounds;
-        let opened = [
-            0 < self.open_units(0),
-            0 < self.open_units(1),
-            0 < self.open_units(2),
-            0 < self.open_units(3),
-        ];
-        let more = rounds.put([p, q, r, s], opened);
-        let mut next = self;
-        next.rounds = more;
-        next
+        Book {
+            rounds: self.rounds.put([p, q, r, s], self.opened()),
+            ..self
+        }
     }
 
     // BID
+    #[tactic(auto, unfolding(crate::specs::Books::bid_book))]
     pub fn take_bid(self, round: u8, pool: u8, m: u8, units: u16, price: u32) -> Book
         ensures { result ≡ bid_book self round pool m units price }
     {
-        let bids = self.bids;
-        let more = bids.put(round, pool, m, units, price);
-        let mut next = self;
-        next.bids = more;
-        next
+        Book {
+            bids: self.bids.put(round, pool, m, units, price),
+            ..self
+        }
+    }
+
+    // What each bid of a round wins of a pool's open units.
+    fn wins(self, round: u8, pool: u8) -> [u64; 256]
+        ensures { result ≡ wins_in self round pool }
+    {
+        let reserve = self.rounds.reserve(round, pool);
+        self.bids.wins(round, pool, self.open_units(pool), reserve)
     }
 
     // CLOSE
+    #[tactic(auto, unfolding(crate::specs::Books::close_book))]
     pub fn take_close(self, round: u8) -> Book
         ensures { result ≡ close_book self round }
     {
-        let bids = self.bids;
-        let rounds = self.rounds;
-        let members = self.members;
-        let units = self.units;
-        let a = bids.wins(round, 0, self.open_units(0), rounds.reserve(round, 0));
-        let b = bids.wins(round, 1, self.open_units(1), rounds.reserve(round, 1));
-        let c = bids.wins(round, 2, self.open_units(2), rounds.reserve(round, 2));
-        let d = bids.wins(round, 3, self.open_units(3), rounds.reserve(round, 3));
-        let won = bids.take_wins(round, a, b, c, d);
-        let round_of_bid = won.round;
-        let pools = won.pool;
-        let prices = won.price;
-        let wins = won.won;
-        let sold = units.sell(won.kept, round, &round_of_bid, &pools, &prices, &wins);
-        let table = members.win(won.won_table());
-        let mut next = self;
-        next.bids = won;
-        next.members = table;
-        next.units = sold;
-        next
+        let bids = self.bids.take_wins(
+            round,
+            self.wins(round, 0),
+            self.wins(round, 1),
+            self.wins(round, 2),
+            self.wins(round, 3),
+        );
+        let units = self.units.sell(
+            bids.kept,
+            round,
+            &bids.round,
+            &bids.pool,
+            &bids.price,
+            &bids.won,
+        );
+        Book {
+            members: self.members.win(bids.won_table()),
+            bids,
+            units,
+            ..self
+        }
     }
 
     // ALLOCATE
+    #[tactic(auto, unfolding(crate::specs::Books::allocate_book))]
     pub fn take_allocate(self, pool: u8, price: u32) -> Book
         ensures { result ≡ allocate_book self pool price }
     {
-        let head = self.head;
         let shares = self.allocation(pool);
-        let members = self.members;
-        let units = self.units;
-        let ever = members.allocate(head.set, pool, shares);
-        let given = units.allocate(head.set, pool, price, &shares);
-        let mut next = self;
-        next.members = ever;
-        next.units = given;
-        next
+        Book {
+            members: self.members.allocate(self.head.set, pool, shares),
+            units: self.units.allocate(self.head.set, pool, price, &shares),
+            ..self
+        }
     }
 
     // TEAR
+    #[tactic(auto, unfolding(crate::specs::Books::tear_book))]
     pub fn take_tear(self, pool: u8, price: u32) -> Book
         ensures { result ≡ tear_book self pool price }
     {
-        let units = self.units;
-        let torn = units.tear(pool, price);
-        let mut next = self;
-        next.units = torn;
-        next
+        Book {
+            units: self.units.tear(pool, price),
+            ..self
+        }
     }
 
     // SALE
+    #[tactic(auto, unfolding(crate::specs::Books::sale_book))]
     pub fn take_sale(self, pool: u8, m: u8, price: u32) -> Book
         ensures { result ≡ sale_book self pool m price }
     {
-        let units = self.units;
-        let sold = units.sell_pool(pool, m, price);
-        let mut next = self;
-        next.units = sold;
-        next
+        Book {
+            units: self.units.sell_pool(pool, m, price),
+            ..self
+        }
     }
 
     // WITHDRAW
+    #[tactic(auto, unfolding(crate::specs::Books::withdraw_book))]
     pub fn take_withdraw(self, n: u16) -> Book
         ensures { result ≡ withdraw_book self n }
     {
-        let bids = self.bids;
-        let marked = bids.withdraw(n);
-        let mut next = self;
-        next.bids = marked;
-        next
+        Book {
+            bids: self.bids.withdraw(n),
+            ..self
+        }
     }
 
     // CALL
+    #[tactic(auto, unfolding(crate::specs::Books::call_book))]
     pub fn take_call(self) -> Book
         ensures { result ≡ call_book self }
     {
-        let members = self.members;
-        let called = members.call(self.calls());
-        let mut next = self;
-        next.members = called;
-        next
+        Book {
+            members: self.members.call(self.calls()),
+            ..self
+        }
     }
 
     // PAY
+    #[tactic(auto, unfolding(crate::specs::Books::pay_book))]
     pub fn take_pay(self, m: u8, amount: u32) -> Book
         ensures { result ≡ pay_book self m amount }
     {
-        let members = self.members;
-        let paid = members.pay(m, amount);
-        let mut next = self;
-        next.members = paid;
-        next
+        Book {
+            members: self.members.pay(m, amount),
+            ..self
+        }
     }
 
     // MOVE
+    #[tactic(auto, unfolding(crate::specs::Books::move_book))]
     pub fn take_move(self, m: u8) -> Book
         ensures { result ≡ move_book self m }
     {
-        let members = self.members;
-        let bids = self.bids;
-        let units = self.units;
-        let owed = members.owes(m);
-        let out = members.move_out(m);
-        let prices = bids.price;
-        let pools = bids.pool;
-        let passed = units.move_to(m, owed, &prices, &pools);
-        let mut next = self;
-        next.members = out;
-        next.units = passed;
-        next
+        let owed = self.members.owes(m);
+        Book {
+            members: self.members.move_out(m),
+            units: self
+                .units
+                .move_to(m, owed, &self.bids.price, &self.bids.pool),
+            ..self
+        }
     }
 
     // MISS
+    #[tactic(auto, unfolding(crate::specs::Books::miss_book))]
     pub fn take_miss(self, m: u8, price: u32) -> Book
         ensures { result ≡ miss_book self m price }
     {
-        let units = self.units;
-        let torn = units.miss(m, price);
-        let mut next = self;
-        next.units = torn;
-        next
+        Book {
+            units: self.units.miss(m, price),
+            ..self
+        }
     }
 
     // ---- what FINISH charges
 
     // The six limits, in the order in which they are charged.
+    #[tactic(auto, unfolding(crate::specs::Results::limits_in))]
     pub fn limits(self) -> [u64; 6]
         ensures { result ≡ limits_in self }
     {
-        let head = self.head;
-        let members = self.members;
-        let house = head.house as u64;
+        let house = u64::from(self.head.house);
         let first = 3 * house / 5;
-        let funds = self.contributions();
-        let xs = members.paid;
-        let paid = accounts::members::amounts(head.set, xs);
         [
-            head.margin as u64,
-            head.fund as u64,
+            u64::from(self.head.margin),
+            u64::from(self.head.fund),
             first,
-            funds,
+            self.contributions(),
             house - first,
-            paid,
+            accounts::members::amounts(self.head.set, self.members.paid),
         ]
     }
 
     // Each place's rank.
+    #[tactic(auto, unfolding(crate::specs::Results::ranks_in))]
     pub fn ranks(self) -> [u8; 32]
         ensures { result ≡ ranks_in self }
     {
-        let head = self.head;
-        let rounds = self.rounds;
-        let bids = self.bids;
-        let members = self.members;
-        let gains = bids.gain_table(rounds.worsts());
-        let won = members.won;
-        let expected = members.expected;
-        let w = accounts::members::over_pools(won);
-        let counted = accounts::members::without_pools(expected, self.sold_pools());
+        let gains = self.bids.gain_table(self.rounds.worsts());
+        let w = accounts::members::over_pools(self.members.won);
+        let counted = accounts::members::without_pools(self.members.expected, self.sold_pools());
         let e = accounts::members::over_pools(counted);
-        waterfall::ranks(gains, w, e, head.set)
+        waterfall::ranks(gains, w, e, self.head.set)
     }
 
     // The loss, the charges and the ranks.
     pub fn result(self) -> Result
         ensures { result ≡ result_in self }
     {
-        let head = self.head;
-        let members = self.members;
         let loss = self.requirement();
         let charged = waterfall::charge_layers(loss, self.limits());
         let charges = charged.charges;
         let ranks = self.ranks();
-        let xs = members.contribution;
-        let funds = accounts::members::widened(xs);
-        let contributions = waterfall::charge_by_rank(charges[3], ranks, funds, head.set);
-        let ys = members.paid;
-        let weights = accounts::members::widened(ys);
+        let funds = accounts::members::widened(self.members.contribution);
+        let contributions = waterfall::charge_by_rank(charges[3], ranks, funds, self.head.set);
+        let weights = accounts::members::widened(self.members.paid);
         let mut payments = [0u64; 32];
-        splitting::split(charges[5], &weights, &mut payments);
+        let _ = splitting::split(charges[5], &weights, &mut payments);
         Result {
             loss,
             charges,

@@ -13,6 +13,9 @@ use lib.Seq.{get_or-take}
 use borrow.Author.Tests.{eq-eqb, ne_eqb, leb-true, ltb-true, ltb-false}
 use Rattle.lists.specs.Lists.{when◌then◌else◌, between}
 use Rattle.lists.proofs.Bools.{by-test, cases, either, and_right}
+use Rattle.lists.specs.declared.refusal.Refusal.{Refusal}
+use Rattle.lists.specs.Refusals.{number_of}
+use Rattle.lists.proofs.Refused.{not-accepted}
 use Rattle.machine.specs.Wire as Wire
 use Rattle.wire.specs.declared.Head.{Head}
 use Rattle.wire.specs.Asked.{asked}
@@ -38,16 +41,16 @@ abbrev after-answer : ℕ → Held → Held → Applied
 after-answer n old new = record { answer = n; held = when eqb n 0 then new else old }
 
 module _ (c : Case) (a : Option Wire.Call) where
-  pub declined : (n : ℕ) → n ≡ case_answer_to c a → (n ≡ 0 → ⊥) → (o : Outcome) → o ≡ record { answer = n; case = c } → o ≡ outcome_of c a
+  pub declined : (r : Refusal) → number_of r ≡ case_answer_to c a → (o : Outcome) → o ≡ record { answer = number_of r; case = c } → o ≡ outcome_of c a
   unfolding outcome_of
-  declined n e h o is = is ∙ go ∙ ap (λ (k : ℕ). outcome k c (after_asked c a)) e
+  declined r e o is = is ∙ go ∙ ap (λ (k : ℕ). outcome k c (after_asked c a)) e
     where
-      go : ◌≡◌ {A = Outcome} (record { answer = n; case = c }) (outcome n c (after_asked c a))
-      go = rw (ne_eqb n 0 h)
+      go : ◌≡◌ {A = Outcome} (record { answer = number_of r; case = c }) (outcome (number_of r) c (after_asked c a))
+      go = rw (ne_eqb (number_of r) 0 (not-accepted r))
 
-  pub accepted : (n : ℕ) → n ≡ case_answer_to c a → n ≡ 0 → (d : Case) → d ≡ after_asked c a → (o : Outcome) → o ≡ record { answer = 0; case = d } → o ≡ outcome_of c a
+  pub accepted : 0 ≡ case_answer_to c a → (d : Case) → d ≡ after_asked c a → (o : Outcome) → o ≡ record { answer = 0; case = d } → o ≡ outcome_of c a
   unfolding outcome_of
-  accepted n e z d f o is = is ∙ ap (λ (x : Case). outcome 0 c x) f ∙ ap (λ (k : ℕ). outcome k c (after_asked c a)) (sym z ∙ e)
+  accepted e d f o is = is ∙ ap (λ (x : Case). outcome 0 c x) f ∙ ap (λ (k : ℕ). outcome k c (after_asked c a)) e
 
   -- the case that an accepted call hands back, where only a method of the case can have taken it
   pub handed : (first_answer_to a ≡ 0 → ⊥) → (o : Outcome) → o ≡ outcome_of c a → (present : Bool) → answer_to present c a ≡ 0 → o.case ≡ after_asked c a
@@ -57,19 +60,20 @@ module _ (c : Case) (a : Option Wire.Call) where
 
 -- ---- a call that is taken
 
-module _ (h : Held) (a : Option Wire.Call) (n : ℕ) (answered : n ≡ answer_to h.present h.case a) where
-  pub take-declined : (n ≡ 0 → ⊥) → ◌≡◌ {A = Applied} (record { answer = n; held = h }) (take_asked h a)
+module _ (h : Held) (a : Option Wire.Call) where
+  pub take-declined : (r : Refusal) → number_of r ≡ answer_to h.present h.case a → ◌≡◌ {A = Applied} (record { answer = number_of r; held = h }) (take_asked h a)
   unfolding take_asked
-  take-declined g = go ∙ ap (λ (k : ℕ). after-answer k h (record { present = true; case = after_asked h.case a })) answered
+  take-declined r answered = go ∙ ap (λ (k : ℕ). after-answer k h (record { present = true; case = after_asked h.case a })) answered
     where
-      go : ◌≡◌ {A = Applied} (record { answer = n; held = h }) (after-answer n h (record { present = true; case = after_asked h.case a }))
-      go = rw (ne_eqb n 0 g)
+      go : ◌≡◌ {A = Applied} (record { answer = number_of r; held = h }) (after-answer (number_of r) h (record { present = true; case = after_asked h.case a }))
+      go = rw (ne_eqb (number_of r) 0 (not-accepted r))
 
-  pub take-accepted : n ≡ 0 → (d : Case) → d ≡ after_asked h.case a → ◌≡◌ {A = Applied} (record { answer = 0; held = record { present = true; case = d } }) (take_asked h a)
+  pub take-accepted : 0 ≡ answer_to h.present h.case a → (d : Case) → d ≡ after_asked h.case a
+      → ◌≡◌ {A = Applied} (record { answer = 0; held = record { present = true; case = d } }) (take_asked h a)
   unfolding take_asked
-  take-accepted z d f =
+  take-accepted answered d f =
       ap (λ (x : Case). after-answer 0 h (record { present = true; case = x })) f
-      ∙ ap (λ (k : ℕ). after-answer k h (record { present = true; case = after_asked h.case a })) (sym z ∙ answered)
+      ∙ ap (λ (k : ℕ). after-answer k h (record { present = true; case = after_asked h.case a })) answered
 
 -- ---- the reserves of ROUND
 
@@ -119,14 +123,15 @@ round-later n p q r s e =
 
 -- ---- HEAD
 
-pub head-declined : (h : Head) (n : ℕ) → n ≡ head_answer h → (n ≡ 0 → ⊥) → (k : Held) → k ≡ no_held → ◌≡◌ {A = Applied} (record { answer = n; held = k }) (head_outcome h)
+pub head-declined : (h : Head) (r : Refusal) → number_of r ≡ head_answer h → (k : Held) → k ≡ no_held
+    → ◌≡◌ {A = Applied} (record { answer = number_of r; held = k }) (head_outcome h)
 unfolding head_outcome
-head-declined h n e g k is = rw (ne_eqb (head_answer h) 0 (λ z. g (e ∙ z)), e, is)
+head-declined h r e k is = rw (ne_eqb (head_answer h) 0 (λ z. not-accepted r (e ∙ z)), e, is)
 
-pub head-accepted : (h : Head) (n : ℕ) → n ≡ head_answer h → n ≡ 0 → (c : Case) → c ≡ new_case h
+pub head-accepted : (h : Head) → 0 ≡ head_answer h → (c : Case) → c ≡ new_case h
     → ◌≡◌ {A = Applied} (record { answer = 0; held = record { present = true; case = c } }) (head_outcome h)
 unfolding head_outcome
-head-accepted h n e z c is = let a : head_answer h ≡ 0 = sym e ∙ z in rw (a, is)
+head-accepted h e c is = let a : head_answer h ≡ 0 = sym e in rw (a, is)
 
 -- ---- SALE
 

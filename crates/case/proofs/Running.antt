@@ -10,6 +10,8 @@ use native.Mathlib.Omega.{arith}
 use lib.ListN.{length, take, drop, length-drop, length-append, take-append-drop, drop_of_length-le}
 use lib.Seq.{drop-drop, length-take-le, take-append-add, drop-append-add}
 use Rattle.lists.proofs.Bools.{lt-or-le}
+use Rattle.lists.specs.declared.refusal.Refusal.{Refusal}
+use Rattle.lists.specs.Refusals.{number_of}
 use Rattle.machine.specs.Wire as Wire
 use Rattle.machine.specs.Printed.{fields_in}
 use Rattle.case.specs.declared.Case.{Case}
@@ -27,16 +29,16 @@ use Rattle.input.proofs.Fronts.{front-most, fields-front, rest_all, no-entry}
 
 -- ---- one call, asked first
 
-module _ (h : Held) (a : Option Wire.Call) (s : List ℕ) (n : ℕ) (answered : n ≡ answer_to h.present h.case a) (read : a ≡ Wire.decode s) where
+module _ (h : Held) (a : Option Wire.Call) (s : List ℕ) (read : a ≡ Wire.decode s) where
   -- a call that is declined leaves what is held
-  pub asked-declined : (n ≡ 0 → ⊥) → ◌≡◌ {A = Applied} (record { answer = n; held = h }) (applied h s)
+  pub asked-declined : (r : Refusal) → number_of r ≡ answer_to h.present h.case a → ◌≡◌ {A = Applied} (record { answer = number_of r; held = h }) (applied h s)
   unfolding applied
-  asked-declined g = take-declined h a n answered g ∙ ap (take_asked h) read
+  asked-declined r answered = take-declined h a r answered ∙ ap (take_asked h) read
 
-  pub asked-accepted : n ≡ 0 → (d : Case) → d ≡ after_asked h.case a → ◌≡◌ {A = Applied} (record { answer = n; held = record { present = true; case = d } }) (applied h s)
+  pub asked-accepted : 0 ≡ answer_to h.present h.case a → (d : Case) → d ≡ after_asked h.case a
+      → ◌≡◌ {A = Applied} (record { answer = 0; held = record { present = true; case = d } }) (applied h s)
   unfolding applied
-  asked-accepted z d e =
-      ap (λ (k : ℕ). record { answer = k; held = record { present = true; case = d } }) z ∙ take-accepted h a n answered z d e ∙ ap (take_asked h) read
+  asked-accepted answered d e = take-accepted h a answered d e ∙ ap (take_asked h) read
 
 -- ---- fields behind fields
 

@@ -4,6 +4,7 @@
 ghost use Rattle.std.specs.Prelude.{◌≡◌, Bool, [], ◌∷◌, ◌<◌, ◌^◌, set};
 ghost use Rattle.std.proofs.Math.Option.{some};
 ghost use Rattle.std.proofs.Math.IntN.{sub_ℕ};
+ghost use Rattle.lists.specs.Refusals.{number_of, answer_of};
 ghost use Rattle.machine.specs.Wire.{POOL, MEMBER, BID, CLOSE, ALLOCATE, TEAR, CALL, PAY, MOVE, MISS, FINISH, SALE, WITHDRAW};
 ghost use Rattle.wire.specs.Asked.{asked};
 ghost use Rattle.wire.specs.declared.Call.TheVariants.{Round};
@@ -14,6 +15,7 @@ ghost use Rattle.input.specs.Strings.{strings_in};
 ghost use Rattle.case.specs.Input.{Replays, TakesFields, Runs};
 
 use book::{Book, Stage};
+use lists::refusal::{Refusal, decline_if};
 use units::Units;
 use wire::{Call, Head};
 
@@ -116,22 +118,20 @@ fn reserve_if(n: u8, i: u8, x: u32) -> u32
     if i < n { x } else { 0 }
 }
 
-// Why ROUND with n reserves is declined, or 0. As on the wire, it has one to four of them.
-fn reserves_answer(case: Case, n: u8, p: u32, q: u32, r: u32, s: u32) -> u8
-    ensures { result ≡ reserves_answer case n p q r s }
+// Why ROUND with n reserves is declined. As on the wire, it has one to four of them.
+fn reserves_answer(case: Case, n: u8, p: u32, q: u32, r: u32, s: u32) -> Result<(), Refusal>
+    ensures { answer_of result ≡ reserves_answer case n p q r s }
 {
-    if lists::both(1 <= n, n <= 4) {
-        return refusals::round_answer(
-            case.book,
-            case.stage,
-            n,
-            reserve_if(n, 0, p),
-            reserve_if(n, 1, q),
-            reserve_if(n, 2, r),
-            reserve_if(n, 3, s),
-        );
-    }
-    1
+    decline_if(!(1..=4).contains(&n), Refusal::Unreadable)?;
+    refusals::round_answer(
+        case.book,
+        case.stage,
+        n,
+        reserve_if(n, 0, p),
+        reserve_if(n, 1, q),
+        reserve_if(n, 2, r),
+        reserve_if(n, 3, s),
+    )
 }
 
 impl Case {
@@ -147,10 +147,13 @@ impl Case {
     }
 
     // A call that is declined hands the case back unchanged.
-    fn declined(self, answer: u8) -> Outcome
-        ensures { result ≡ record { answer = answer; case = self } }
+    fn declined(self, refusal: Refusal) -> Outcome
+        ensures { result ≡ record { answer = number_of refusal; case = self } }
     {
-        Outcome { answer, case: self }
+        Outcome {
+            answer: refusal.number(),
+            case: self,
+        }
     }
 
     // A call that is accepted hands back another.
@@ -167,179 +170,173 @@ impl Case {
     pub fn head(head: Head) -> Applied
         ensures { result ≡ head_outcome head }
     {
-        let answer = refusals::head_answer(head);
-        if answer != 0 {
-            let held = Held::none();
-            return Applied { answer, held };
+        match refusals::head_answer(head) {
+            Err(refusal) => Applied {
+                answer: refusal.number(),
+                held: Held::none(),
+            },
+            Ok(()) => Applied {
+                answer: 0,
+                held: Held {
+                    present: true,
+                    case: Case::new(head),
+                },
+            },
         }
-        let held = Held {
-            present: true,
-            case: Case::new(head),
-        };
-        Applied { answer: 0, held }
     }
 
     pub fn pool(self, pool: u8, units: u16, mark: u8) -> Outcome
         ensures { result ≡ outcome_of self (some (POOL pool units mark)) }
     {
-        let answer = refusals::pool_answer(self.book, self.stage, pool, units, mark);
-        if answer != 0 {
-            return self.declined(answer);
+        match refusals::pool_answer(self.book, self.stage, pool, units, mark) {
+            Err(refusal) => self.declined(refusal),
+            Ok(()) => Case::accepted(self.stage, self.book.take_pool(pool, units, mark)),
         }
-        Case::accepted(self.stage, self.book.take_pool(pool, units, mark))
     }
 
     pub fn member(self, m: u8, contribution: u32, p: u16, q: u16, r: u16, s: u16) -> Outcome
         ensures { result ≡ outcome_of self (some (MEMBER m contribution (p ∷ q ∷ r ∷ s ∷ []))) }
     {
-        let answer = refusals::member_answer(self.book, self.stage, m, contribution, p, q, r, s);
-        if answer != 0 {
-            return self.declined(answer);
+        match refusals::member_answer(self.book, self.stage, m, contribution, p, q, r, s) {
+            Err(refusal) => self.declined(refusal),
+            Ok(()) => Case::accepted(
+                self.stage,
+                self.book.take_member(m, contribution, p, q, r, s),
+            ),
         }
-        Case::accepted(
-            self.stage,
-            self.book.take_member(m, contribution, p, q, r, s),
-        )
     }
 
     // ROUND, of which the first n reserves count.
     pub fn round(self, n: u8, p: u32, q: u32, r: u32, s: u32) -> Outcome
         ensures { result ≡ outcome_of self (asked (Round n p q r s)) }
     {
-        let answer = reserves_answer(self, n, p, q, r, s);
-        if answer != 0 {
-            return self.declined(answer);
+        match reserves_answer(self, n, p, q, r, s) {
+            Err(refusal) => self.declined(refusal),
+            Ok(()) => {
+                let next = Stage::Bidding(book::next_round(book::round_of(self.stage)));
+                let more = self.book.take_round(
+                    reserve_if(n, 0, p),
+                    reserve_if(n, 1, q),
+                    reserve_if(n, 2, r),
+                    reserve_if(n, 3, s),
+                );
+                Case::accepted(next, more)
+            }
         }
-        let next = Stage::Bidding(book::next_round(book::round_of(self.stage)));
-        let more = self.book.take_round(
-            reserve_if(n, 0, p),
-            reserve_if(n, 1, q),
-            reserve_if(n, 2, r),
-            reserve_if(n, 3, s),
-        );
-        Case::accepted(next, more)
     }
 
     pub fn bid(self, pool: u8, m: u8, units: u16, price: u32) -> Outcome
         ensures { result ≡ outcome_of self (some (BID pool m units price)) }
     {
-        let answer = refusals::bid_answer(self.book, self.stage, pool, m, units, price);
-        if answer != 0 {
-            return self.declined(answer);
+        match refusals::bid_answer(self.book, self.stage, pool, m, units, price) {
+            Err(refusal) => self.declined(refusal),
+            Ok(()) => {
+                let round = book::round_of(self.stage);
+                Case::accepted(self.stage, self.book.take_bid(round, pool, m, units, price))
+            }
         }
-        let round = book::round_of(self.stage);
-        Case::accepted(self.stage, self.book.take_bid(round, pool, m, units, price))
     }
 
     pub fn close(self) -> Outcome
         ensures { result ≡ outcome_of self (some CLOSE) }
     {
-        let answer = refusals::close_answer(self.stage);
-        if answer != 0 {
-            return self.declined(answer);
+        match refusals::close_answer(self.stage) {
+            Err(refusal) => self.declined(refusal),
+            Ok(()) => {
+                let round = book::round_of(self.stage);
+                Case::accepted(Stage::After(round), self.book.take_close(round))
+            }
         }
-        let round = book::round_of(self.stage);
-        let next = Stage::After(round);
-        Case::accepted(next, self.book.take_close(round))
     }
 
     pub fn allocate(self, pool: u8, price: u32) -> Outcome
         ensures { result ≡ outcome_of self (some (ALLOCATE pool price)) }
     {
-        let answer = refusals::allocate_answer(self.book, self.stage, pool, price);
-        if answer != 0 {
-            return self.declined(answer);
+        match refusals::allocate_answer(self.book, self.stage, pool, price) {
+            Err(refusal) => self.declined(refusal),
+            Ok(()) => Case::accepted(self.stage, self.book.take_allocate(pool, price)),
         }
-        Case::accepted(self.stage, self.book.take_allocate(pool, price))
     }
 
     pub fn tear(self, pool: u8, price: u32) -> Outcome
         ensures { result ≡ outcome_of self (some (TEAR pool price)) }
     {
-        let answer = refusals::tear_answer(self.book, self.stage, pool, price);
-        if answer != 0 {
-            return self.declined(answer);
+        match refusals::tear_answer(self.book, self.stage, pool, price) {
+            Err(refusal) => self.declined(refusal),
+            Ok(()) => Case::accepted(self.stage, self.book.take_tear(pool, price)),
         }
-        Case::accepted(self.stage, self.book.take_tear(pool, price))
     }
 
     pub fn call(self) -> Outcome
         ensures { result ≡ outcome_of self (some CALL) }
     {
-        let answer = refusals::call_answer(self.book, self.stage);
-        if answer != 0 {
-            return self.declined(answer);
+        match refusals::call_answer(self.book, self.stage) {
+            Err(refusal) => self.declined(refusal),
+            Ok(()) => Case::accepted(Stage::CallsOut, self.book.take_call()),
         }
-        let next = Stage::CallsOut;
-        Case::accepted(next, self.book.take_call())
     }
 
     pub fn pay(self, m: u8, amount: u32) -> Outcome
         ensures { result ≡ outcome_of self (some (PAY m amount)) }
     {
-        let answer = refusals::pay_answer(self.book, self.stage, m, amount);
-        if answer != 0 {
-            return self.declined(answer);
+        match refusals::pay_answer(self.book, self.stage, m, amount) {
+            Err(refusal) => self.declined(refusal),
+            Ok(()) => Case::accepted(self.stage, self.book.take_pay(m, amount)),
         }
-        Case::accepted(self.stage, self.book.take_pay(m, amount))
     }
 
     // MOVE; `move` is a word of the language.
     pub fn move_units(self, m: u8) -> Outcome
         ensures { result ≡ outcome_of self (some (MOVE m)) }
     {
-        let answer = refusals::move_answer(self.book, self.stage, m);
-        if answer != 0 {
-            return self.declined(answer);
+        match refusals::move_answer(self.book, self.stage, m) {
+            Err(refusal) => self.declined(refusal),
+            Ok(()) => Case::accepted(self.stage, self.book.take_move(m)),
         }
-        Case::accepted(self.stage, self.book.take_move(m))
     }
 
     pub fn miss(self, m: u8, price: u32) -> Outcome
         ensures { result ≡ outcome_of self (some (MISS m price)) }
     {
-        let answer = refusals::miss_answer(self.book, self.stage, m, price);
-        if answer != 0 {
-            return self.declined(answer);
+        match refusals::miss_answer(self.book, self.stage, m, price) {
+            Err(refusal) => self.declined(refusal),
+            Ok(()) => Case::accepted(self.stage, self.book.take_miss(m, price)),
         }
-        Case::accepted(self.stage, self.book.take_miss(m, price))
     }
 
     pub fn finish(self) -> Outcome
         ensures { result ≡ outcome_of self (some FINISH) }
     {
-        let answer = refusals::finish_answer(self.book, self.stage);
-        if answer != 0 {
-            return self.declined(answer);
+        match refusals::finish_answer(self.book, self.stage) {
+            Err(refusal) => self.declined(refusal),
+            Ok(()) => Case::accepted(Stage::Finished, self.book),
         }
-        let next = Stage::Finished;
-        Case::accepted(next, self.book)
     }
 
     // SALE: "If no unit is open afterwards the stage becomes A1".
     pub fn sale(self, pool: u8, m: u8, price: u32) -> Outcome
         ensures { result ≡ outcome_of self (some (SALE pool m price)) }
     {
-        let answer = refusals::sale_answer(self.book, self.stage, pool, m, price);
-        if answer != 0 {
-            return self.declined(answer);
+        match refusals::sale_answer(self.book, self.stage, pool, m, price) {
+            Err(refusal) => self.declined(refusal),
+            Ok(()) => {
+                let sold = self.book.take_sale(pool, m, price);
+                if sold.any_open() {
+                    Case::accepted(self.stage, sold)
+                } else {
+                    Case::accepted(Stage::After(1), sold)
+                }
+            }
         }
-        let sold = self.book.take_sale(pool, m, price);
-        if sold.any_open() {
-            return Case::accepted(self.stage, sold);
-        }
-        let next = Stage::After(1);
-        Case::accepted(next, sold)
     }
 
     pub fn withdraw(self, m: u8, n: u16) -> Outcome
         ensures { result ≡ outcome_of self (some (WITHDRAW m n)) }
     {
-        let answer = refusals::withdraw_answer(self.book, self.stage, m, n);
-        if answer != 0 {
-            return self.declined(answer);
+        match refusals::withdraw_answer(self.book, self.stage, m, n) {
+            Err(refusal) => self.declined(refusal),
+            Ok(()) => Case::accepted(self.stage, self.book.take_withdraw(n)),
         }
-        Case::accepted(self.stage, self.book.take_withdraw(n))
     }
 
     // ---- what is read of a case
@@ -386,8 +383,8 @@ fn difference(a: u64, b: u64) -> i64
 
 // The answer to a call, from whether a case is held, and the case.
 #[tactic(auto, unfolding(crate::specs::Cases::answer_to))]
-pub fn answer_to(present: bool, case: Case, call: Call) -> u8
-    ensures { result ≡ answer_to present case (asked call) }
+pub fn answer_to(present: bool, case: Case, call: Call) -> Result<(), Refusal>
+    ensures { answer_of result ≡ answer_to present case (asked call) }
 {
     if present {
         answer_in(case, call)
@@ -398,37 +395,40 @@ pub fn answer_to(present: bool, case: Case, call: Call) -> u8
 
 // The answer to a call where no case is held.
 #[tactic(auto, unfolding(wire::specs::Asked::asked, crate::specs::Cases::first_answer, crate::specs::Cases::first_answer_to))]
-fn first_answer(call: Call) -> u8
-    ensures { result ≡ first_answer_to (asked call) }
+fn first_answer(call: Call) -> Result<(), Refusal>
+    ensures { answer_of result ≡ first_answer_to (asked call) }
 {
     match call {
         Call::Head(head) => refusals::head_answer(head),
-        Call::Round { count, .. } => lists::decline_if(!lists::both(1 <= count, count <= 4), 1, 2),
-        Call::Pool { .. } => 2,
-        Call::Member { .. } => 2,
-        Call::Bid { .. } => 2,
-        Call::Close => 2,
-        Call::Allocate { .. } => 2,
-        Call::Tear { .. } => 2,
-        Call::Call => 2,
-        Call::Pay { .. } => 2,
-        Call::Move { .. } => 2,
-        Call::Miss { .. } => 2,
-        Call::Finish => 2,
-        Call::Sale { .. } => 2,
-        Call::Withdraw { .. } => 2,
-        Call::Unknown => 1,
+        Call::Round { count, .. } => {
+            decline_if(!(1..=4).contains(&count), Refusal::Unreadable)?;
+            Err(Refusal::WrongStage)
+        }
+        Call::Pool { .. } => Err(Refusal::WrongStage),
+        Call::Member { .. } => Err(Refusal::WrongStage),
+        Call::Bid { .. } => Err(Refusal::WrongStage),
+        Call::Close => Err(Refusal::WrongStage),
+        Call::Allocate { .. } => Err(Refusal::WrongStage),
+        Call::Tear { .. } => Err(Refusal::WrongStage),
+        Call::Call => Err(Refusal::WrongStage),
+        Call::Pay { .. } => Err(Refusal::WrongStage),
+        Call::Move { .. } => Err(Refusal::WrongStage),
+        Call::Miss { .. } => Err(Refusal::WrongStage),
+        Call::Finish => Err(Refusal::WrongStage),
+        Call::Sale { .. } => Err(Refusal::WrongStage),
+        Call::Withdraw { .. } => Err(Refusal::WrongStage),
+        Call::Unknown => Err(Refusal::Unreadable),
     }
 }
 
 // The answer to a call where a case is held. The book is read in place: one in a local of its own would be a copy for every call.
 #[tactic(auto, unfolding(wire::specs::Asked::asked, crate::specs::Cases::case_answer, crate::specs::Cases::case_answer_to))]
-fn answer_in(case: Case, call: Call) -> u8
-    ensures { result ≡ case_answer_to case (asked call) }
+fn answer_in(case: Case, call: Call) -> Result<(), Refusal>
+    ensures { answer_of result ≡ case_answer_to case (asked call) }
 {
     let stage = case.stage;
     match call {
-        Call::Head(_) => 2,
+        Call::Head(_) => Err(Refusal::WrongStage),
         Call::Pool { pool, units, mark } => refusals::pool_answer(
             case.book, stage, pool, units, mark,
         ),
@@ -461,7 +461,7 @@ fn answer_in(case: Case, call: Call) -> u8
             price,
         } => refusals::sale_answer(case.book, stage, pool, member, price),
         Call::Withdraw { member, bid } => refusals::withdraw_answer(case.book, stage, member, bid),
-        Call::Unknown => 1,
+        Call::Unknown => Err(Refusal::Unreadable),
     }
 }
 
@@ -529,17 +529,18 @@ pub fn take(held: Held, call: Call) -> Applied
     ensures { result ≡ take_asked held (asked call) }
 {
     let case = held.case;
-    let answer = answer_to(held.present, case, call);
-    if answer != 0 {
-        return Applied { answer, held };
-    }
-    let next = Held {
-        present: true,
-        case: after(case, call),
-    };
-    Applied {
-        answer: 0,
-        held: next,
+    match answer_to(held.present, case, call) {
+        Err(refusal) => Applied {
+            answer: refusal.number(),
+            held,
+        },
+        Ok(()) => Applied {
+            answer: 0,
+            held: Held {
+                present: true,
+                case: after(case, call),
+            },
+        },
     }
 }
 
@@ -572,12 +573,14 @@ pub fn replay(held: Held, bytes: &[u8], ends: &[usize], answers: &mut [u8]) -> H
     for (k, place) in ends.iter().enumerate() {
         let end = input::cut_at(at, bytes.len(), *place);
         let call = wire::read_call(&bytes[at..end]);
-        let answer = answer_to(present, case, call);
-        put(answers, k, answer);
         at = end;
-        if answer == 0 {
-            present = true;
-            case = after(case, call);
+        match answer_to(present, case, call) {
+            Err(refusal) => put(answers, k, refusal.number()),
+            Ok(()) => {
+                put(answers, k, 0);
+                present = true;
+                case = after(case, call);
+            }
         }
     }
     Held { present, case }

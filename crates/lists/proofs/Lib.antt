@@ -12,6 +12,7 @@ pub mod Pairs
 pub mod Orders
 pub mod Pass
 pub mod Passed
+pub mod Refused
 pub mod Adding
 pub mod Ascending
 pub mod Made

@@ -6,6 +6,8 @@ ghost use Rattle.lists.specs.Lists.{one_if};
 ghost use Rattle.lists.specs.Adding.{most16, most32, most64, add_at};
 ghost use Rattle.lists.specs.Widths.{Adds, adds_at};
 
+pub mod refusal;
+
 // 1 where the test passes, 0 where it fails: a sum needs no branch in its loop.
 pub fn one_if(test: bool) -> u64
     ensures { result ≡ one_if test }

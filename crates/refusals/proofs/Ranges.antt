@@ -1,4 +1,4 @@
--- The ranges of MEMBER and ROUND, number by number, as the code tests them, for every number of pools. Assumes nothing.
+-- The ranges of HEAD, MEMBER and ROUND, number by number, as the code tests them, for every number of pools. Assumes nothing.
 use mathlib.Core.Path.{◌≡◌, refl}
 use mathlib.Core.Bool.{◌&&◌, ◌||◌, and-true, and_assoc}
 use mathlib.Core.List.{[], ◌∷◌}
@@ -8,10 +8,17 @@ use lib.Dec.{leb, ltb}
 use lib.ListN.{take}
 use lib.Seq.{take-nil, drop-nil}
 use borrow.Author.Tests.{lt-ltb, lt-leb}
-use Rattle.lists.specs.Lists.{all}
+use Rattle.lists.specs.Lists.{between, all}
 use Rattle.auction.specs.Price.{price_ok}
-use Rattle.machine.specs.Refusals.{member_ok}
-use Rattle.refusals.specs.Answers.{expected_ok}
+use Rattle.machine.specs.Wire.{Head}
+use Rattle.machine.specs.Refusals.{head_ok, member_ok}
+use Rattle.refusals.specs.Answers.{amounts_ok, expected_ok}
+
+-- the numbers of HEAD
+pub head-tested : (h : Head)
+    → head_ok h ≡ (between 1 4 h.pools && (between 1 1000 h.least_bid && (ltb 0 h.set && amounts_ok h)))
+unfolding head_ok all amounts_ok
+head-tested h = simp and-true
 
 -- the numbers of MEMBER: a pool lies in the case if its number is below the number of pools
 pub member-tested : (n contribution p q r s : ℕ)

@@ -5,6 +5,7 @@ use Rattle.lists.specs.Lists.{all}
 use Rattle.lists.specs.Tests.{first_of}
 use Rattle.sets.specs.Set.{member}
 use Rattle.auction.specs.Price.{price_ok}
+use Rattle.machine.specs.Wire as Wire
 use Rattle.machine.specs.Refusals.{head_ok, pool_ok, member_ok, bid_ok, payment_ok}
 use Rattle.wire.specs.declared.Head.{Head}
 use Rattle.wire.specs.Asked.{head_of}
@@ -14,6 +15,15 @@ use Rattle.book.specs.declared.Stage.{Stage}
 use Rattle.book.specs.declared.Book.{Book}
 use Rattle.book.specs.Stages.{letter_of, round_of}
 use Rattle.book.specs.Books.{open_in, any_open_in, passed_in, too_dear_in, requirement_in, prefunded_in, short_in}
+
+-- the amounts of HEAD: "hedge and other loss to 2×10^9; margin and house money to 4×10^9; a fund .. to 5×10^8"
+unfoldable pub amounts_ok : Wire.Head → Bool
+amounts_ok h =
+    leb h.hedge_loss 2_000_000_000
+    && (leb h.other_loss 2_000_000_000
+    && (leb h.margin 4_000_000_000
+    && (leb h.fund 500_000_000
+    && leb h.house 4_000_000_000)))
 
 -- "expected units to 1,000, and 0 for a pool the case lacks": whether the case has the pool, and the units
 abbrev pub expected_ok : Bool → ℕ → Bool

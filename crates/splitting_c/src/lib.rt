@@ -11,7 +11,7 @@ use splitting::Ranked;
 pub extern "C" fn ledger_split(q: u64, weights: &[u64], shares: &mut [u64]) -> u8
     ensures { ◌≡◌ {A = Answer} (result, shares.new) (split_into q weights.now shares.old) }
 {
-    splitting::split(q, weights, shares)
+    lists::refusal::answer(splitting::split(q, weights, shares))
 }
 
 // The ranking for C.

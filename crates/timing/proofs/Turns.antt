@@ -9,6 +9,9 @@ use native.Mathlib.Omega.{arith}
 use lib.ListN.{length, set, get_or, take, drop, length-set, length-append, drop_of_length-le}
 use lib.Seq.{drop-cons}
 use borrow.Author.Tests.{ne_eqb}
+use Rattle.lists.specs.declared.refusal.Refusal.{Refusal}
+use Rattle.lists.specs.Refusals.{number_of as refusal_number}
+use Rattle.lists.proofs.Refused.{not-accepted}
 use Rattle.machine.specs.Wire.{Call, decode}
 use Rattle.case.specs.declared.Case.{Case}
 use Rattle.case.specs.declared.Held.{Held}
@@ -31,16 +34,16 @@ module _ (h : Held) (result : Bool) (s : List ℕ) (o : Applied) (e : o ≡ appl
   number-declined g r = rw (← e, ne_eqb o.answer 0 g) r
 
 -- it is asked of the same case first
-module _ (h : Held) (result : Bool) (case : Case) (same : case ≡ h.case) (a : Option Call) (s : List ℕ) (n : ℕ) (answered : n ≡ answer_to h.present case a) (read : a ≡ decode s) (x : ℕ) where
-  answered-same : n ≡ answer_to h.present h.case a
-  answered-same = answered ∙ ap (λ (c : Case). answer_to h.present c a) same
+module _ (h : Held) (result : Bool) (case : Case) (same : case ≡ h.case) (a : Option Call) (s : List ℕ) (read : a ≡ decode s) (x : ℕ) where
+  answered-same : answer_to h.present case a ≡ answer_to h.present h.case a
+  answered-same = ap (λ (c : Case). answer_to h.present c a) same
 
-  pub declined : (n ≡ 0 → ⊥) → x ≡ n → x ≡ number_of h result s
-  declined g r = number-declined h result s _ (asked-declined h a s n answered-same read g) x g r
+  pub declined : (r : Refusal) → refusal_number r ≡ answer_to h.present case a → x ≡ refusal_number r → x ≡ number_of h result s
+  declined r answered w = number-declined h result s _ (asked-declined h a s read r (answered ∙ answered-same)) x (not-accepted r) w
 
-  pub accepted : n ≡ 0 → (d : Case) → d ≡ after_asked case a → x ≡ reading_of d.book result → x ≡ number_of h result s
-  accepted z d f r =
-      number-accepted h result s _ (asked-accepted h a s n answered-same read z d (f ∙ ap (λ (c : Case). after_asked c a) same)) x z r
+  pub accepted : 0 ≡ answer_to h.present case a → (d : Case) → d ≡ after_asked case a → x ≡ reading_of d.book result → x ≡ number_of h result s
+  accepted answered d f r =
+      number-accepted h result s _ (asked-accepted h a s read (answered ∙ answered-same) d (f ∙ ap (λ (c : Case). after_asked c a) same)) x refl r
 
 -- ---- the turns
 

@@ -33,14 +33,14 @@ fn each(held: Held, bytes: &[u8], ends: &[usize], res: bool, numbers: &mut [u64]
     for (k, place) in ends.iter().enumerate() {
         let end = input::cut_at(at, bytes.len(), *place);
         let call = wire::read_call(&bytes[at..end]);
-        let answer = case::answer_to(present, case, call);
         at = end;
-        if answer == 0 {
-            case = case::after(case, call);
-            case::put(numbers, k, reading(case.book, res));
-            case = kept;
-        } else {
-            case::put(numbers, k, u64::from(answer));
+        match case::answer_to(present, case, call) {
+            Err(refusal) => case::put(numbers, k, u64::from(refusal.number())),
+            Ok(()) => {
+                case = case::after(case, call);
+                case::put(numbers, k, reading(case.book, res));
+                case = kept;
+            }
         }
     }
 }

@@ -222,7 +222,7 @@ impl Holdings {
         let equal = self.held_from(r) - junior;
         let due = amount.saturating_sub(junior).min(equal);
         let mut shares = [0; 32];
-        splitting::split(due, &self.of_rank(r), &mut shares);
+        let _ = splitting::split(due, &self.of_rank(r), &mut shares);
         shares[m]
     }
 }

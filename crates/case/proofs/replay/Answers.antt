@@ -8,7 +8,7 @@ use Rattle.case.proofs.Running.{asked-declined, asked-accepted}
 use Rattle.case.proofs.Replaying.{starts, goes, replays}
 use borrow.Author.Rules.{rules}
 use Rattle.case.proofs.replay.Goals as goal
-use Rattle.case.proofs.replay.Goals.{then-answer-eq0, else-answer-eq0}
+use Rattle.case.proofs.replay.Goals.{in-Err, in-Ok}
 
 pub loop-k-init : goal.loop-k-init
 loop-k-init c = starts _ _ _ _
@@ -26,14 +26,14 @@ pub loop-k-preserved : goal.loop-k-preserved
 loop-k-preserved c =
     let l = c.loop-k in
     let held : Held = record { present = l.present; case = l.case } in
-    elim c.if-answer-eq0.branch [
-      | then-answer-eq0 w ↦ rw (w.present-is, w.case-is)
+    elim c.match-answer_to.branch [
+      | in-Err w ↦ rw (w.present-is, w.case-is)
           (goes _ _ _ _ _ _ _ _ l.invariant c.loop-k-test.true _ c.cut_at-end.ensures _
-          (asked-accepted held _ _ _ c.answer_to-answer.ensures c.read_call-call.ensures w.if-answer-eq0.true _ (w.after-case.ensures l.present (sym c.answer_to-answer.ensures ∙ w.if-answer-eq0.true))) _
-          c.put.ensures)
-      | else-answer-eq0 w ↦ rw (w.present-is, w.case-is)
+          (asked-declined held _ _ c.read_call-call.ensures _ w.in-Err.ensures) _ (w.answers-is ∙ w.put.ensures ∙ rw w.number.ensures))
+      | in-Ok w ↦ rw (w.present-is, w.case-is)
           (goes _ _ _ _ _ _ _ _ l.invariant c.loop-k-test.true _ c.cut_at-end.ensures _
-          (asked-declined held _ _ _ c.answer_to-answer.ensures c.read_call-call.ensures w.if-answer-eq0.false) _ c.put.ensures)
+          (asked-accepted held _ _ c.read_call-call.ensures w.in-Ok.ensures _ (w.after-case.ensures l.present (sym w.in-Ok.ensures))) _
+          (w.answers-is ∙ w.put-in-Ok.ensures))
     ]
 
 pub shape_of-answers : goal.shape_of-answers

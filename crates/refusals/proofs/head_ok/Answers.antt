@@ -1,19 +1,10 @@
 -- `refusals::head_ok` meets its contract. The tests stand in the order of the definition. Assumes nothing.
-use Rattle.lists.specs.Lists.{all}
-use Rattle.machine.specs.Refusals.{head_ok}
+use borrow.Author.Rules.{rules}
+use Rattle.refusals.proofs.Ranges.{head-tested}
 use Rattle.refusals.proofs.head_ok.Goals as goal
 
-pub returns : goal.returns
-unfolding head_ok all
-returns c = simp (
-  c.both-6.ensures,
-  c.both-5.ensures,
-  c.both-least.ensures,
-  c.both-4.ensures,
-  c.both-rest.ensures,
-  c.both-3.ensures,
-  c.both-losses.ensures,
-  c.both-2.ensures,
-  c.both-money.ensures,
-  c.both.ensures,
-)
+pub returns-then-h-ne-NO_MEMBER : goal.returns-then-h-ne-NO_MEMBER
+returns-then-h-ne-NO_MEMBER c = rw head-tested (search rules)
+
+pub returns-else-h-ne-NO_MEMBER : goal.returns-else-h-ne-NO_MEMBER
+returns-else-h-ne-NO_MEMBER c = rw head-tested (search rules)

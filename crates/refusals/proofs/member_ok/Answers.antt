@@ -1,16 +1,10 @@
 -- `refusals::member_ok` meets its contract. Assumes nothing.
+use borrow.Author.Rules.{rules}
 use Rattle.refusals.proofs.Ranges.{member-tested}
 use Rattle.refusals.proofs.member_ok.Goals as goal
 
-pub returns : goal.returns
-returns c = simp (
-  c.both-2.ensures,
-  c.both.ensures,
-  c.both-last.ensures,
-  c.expected_ok-4.ensures,
-  c.expected_ok-3.ensures,
-  c.both-first.ensures,
-  c.expected_ok-2.ensures,
-  c.expected_ok.ensures,
-  member-tested,
-)
+pub returns-then-expected_ok-3 : goal.returns-then-expected_ok-3
+returns-then-expected_ok-3 c = rw member-tested (search rules)
+
+pub returns-else-expected_ok-3 : goal.returns-else-expected_ok-3
+returns-else-expected_ok-3 c = rw member-tested (search rules)

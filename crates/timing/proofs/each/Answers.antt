@@ -7,7 +7,7 @@ use Rattle.input.proofs.Strings.{cut-from, cut-to}
 use Rattle.timing.proofs.Turns.{declined, accepted, starts, goes, all_told}
 use borrow.Author.Rules.{rules}
 use Rattle.timing.proofs.each.Goals as goal
-use Rattle.timing.proofs.each.Goals.{then-answer-eq0, else-answer-eq0}
+use Rattle.timing.proofs.each.Goals.{in-Err, in-Ok}
 
 pub loop-k-init : goal.loop-k-init
 loop-k-init c = starts _ _ _ _ _
@@ -35,14 +35,14 @@ slice_bounds-read_call-end c =
 pub loop-k-preserved : goal.loop-k-preserved
 loop-k-preserved c =
     let l = c.loop-k in
-    elim c.if-answer-eq0.branch [
-      | then-answer-eq0 w ↦ rw w.case-is
+    elim c.match-answer_to.branch [
+      | in-Err w ↦ rw w.case-is
           (goes _ _ _ _ _ _ _ _ _ l.invariant c.loop-k-test.true _ c.cut_at-end.ensures _
-          (accepted _ _ _ l.invariant.same _ _ _ c.answer_to-answer.ensures c.read_call-call.ensures _ w.if-answer-eq0.true _
-          (w.after-case.ensures _ (sym c.answer_to-answer.ensures ∙ w.if-answer-eq0.true)) w.reading.ensures) _ (w.numbers-is ∙ w.put.ensures) _ refl)
-      | else-answer-eq0 w ↦ rw w.case-is
+          (declined _ _ _ l.invariant.same _ _ c.read_call-call.ensures _ _ w.in-Err.ensures (w.from.ensures ∙ w.number.ensures)) _ (w.numbers-is ∙ w.put.ensures) _ l.invariant.same)
+      | in-Ok w ↦ rw w.case-is
           (goes _ _ _ _ _ _ _ _ _ l.invariant c.loop-k-test.true _ c.cut_at-end.ensures _
-          (declined _ _ _ l.invariant.same _ _ _ c.answer_to-answer.ensures c.read_call-call.ensures _ w.if-answer-eq0.false w.from.ensures) _ (w.numbers-is ∙ w.put-else-answer-eq0.ensures) _ l.invariant.same)
+          (accepted _ _ _ l.invariant.same _ _ c.read_call-call.ensures _ w.in-Ok.ensures _ (w.after-case.ensures _ (sym w.in-Ok.ensures)) w.reading.ensures) _
+          (w.numbers-is ∙ w.put-in-Ok.ensures) _ refl)
     ]
 
 pub shape_of-numbers : goal.shape_of-numbers

@@ -2,9 +2,9 @@
 use mathlib.Core.Path.{ap, ◌∙◌}
 use Rattle.lists.specs.Adding.{most16, held_to}
 use Rattle.splitting.specs.Limits.{Answer}
-use Rattle.book.specs.Books.{short_in, allocation_in}
+use Rattle.book.specs.Books.{allocation_in}
 use Rattle.book.proofs.Book.allocation.Goals as goal
 
 pub returns : goal.returns
-unfolding allocation_in short_in
-returns c = c.narrowed16.ensures ∙ ap (held_to most16) (ap (λ (r : Answer). r.1) c.split.ensures ∙ simp (c.smaller-q.ensures, c.open_units.ensures, c.total_shortfall-short.ensures, c.shortfalls-weights.ensures.0))
+unfolding allocation_in
+returns c = c.narrowed16.ensures ∙ ap (held_to most16) (ap (λ (r : Answer). r.1) c.split.ensures ∙ simp (c.min-q.ensures, c.from.ensures, c.open_units.ensures, c.short.ensures, c.shortfalls-weights.ensures.0))

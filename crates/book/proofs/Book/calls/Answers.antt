@@ -7,4 +7,4 @@ use Rattle.book.proofs.Book.calls.Goals as goal
 
 pub returns : goal.returns
 unfolding calls_in
-returns c = c.narrowed32.ensures ∙ ap (held_to most32) (ap (λ (r : Answer). r.1) c.split.ensures ∙ simp (c.smaller-q.ensures, c.contributions.ensures, c.less-lack.ensures, c.prefunded.ensures, c.requirement.ensures, c.widened-weights.ensures))
+returns c = c.narrowed32.ensures ∙ ap (held_to most32) (ap (λ (r : Answer). r.1) c.split.ensures ∙ simp (c.min-q.ensures, c.contributions.ensures, c.saturating_sub-lack.ensures, c.prefunded.ensures, c.requirement.ensures, c.widened-weights.ensures))

@@ -2,8 +2,8 @@
 use Rattle.case.proofs.Outcomes.{head-declined, head-accepted}
 use Rattle.case.proofs.Case.head.Goals as goal
 
-pub returns-then-answer-ne0 : goal.returns-then-answer-ne0
-returns-then-answer-ne0 c = head-declined _ _ c.head_answer-answer.ensures c.if-answer-ne0.true _ c.none-held.ensures
+pub returns-in-Err : goal.returns-in-Err
+returns-in-Err c = rw c.number.ensures (head-declined _ _ c.in-Err.ensures _ c.none.ensures)
 
-pub returns : goal.returns
-returns c = head-accepted _ _ c.head_answer-answer.ensures c.if-answer-ne0.false _ c.new.ensures
+pub returns-in-Ok : goal.returns-in-Ok
+returns-in-Ok c = head-accepted _ c.in-Ok.ensures _ c.new.ensures

@@ -6,10 +6,10 @@ use Rattle.case.specs.Cases.{case_of, case_answer_to, case_answer, after_asked, 
 use Rattle.case.proofs.Outcomes.{declined, accepted}
 use Rattle.case.proofs.Case.withdraw.Goals as goal
 
-pub returns-then-answer-ne0 : goal.returns-then-answer-ne0
+pub returns-in-Err : goal.returns-in-Err
 unfolding case_answer_to case_answer
-returns-then-answer-ne0 c = declined c.args.self (some (WITHDRAW c.args.m c.args.n)) _ c.withdraw_answer-answer.ensures c.if-answer-ne0.true _ c.declined.ensures
+returns-in-Err c = declined c.args.self (some (WITHDRAW c.args.m c.args.n)) _ c.in-Err.ensures _ c.declined.ensures
 
-pub returns : goal.returns
+pub returns-in-Ok : goal.returns-in-Ok
 unfolding case_answer_to case_answer after_asked case_after
-returns c = accepted c.args.self (some (WITHDRAW c.args.m c.args.n)) _ c.withdraw_answer-answer.ensures c.if-answer-ne0.false _ (ap (case_of c.args.self.stage) c.take_withdraw.ensures) _ c.accepted.ensures
+returns-in-Ok c = accepted c.args.self (some (WITHDRAW c.args.m c.args.n)) c.in-Ok.ensures _ (ap (case_of c.args.self.stage) c.take_withdraw.ensures) _ c.accepted.ensures

@@ -1,7 +1,0 @@
--- `refusals::payment_ok` meets its contract. Assumes nothing.
-use Rattle.machine.specs.Refusals.{payment_ok}
-use Rattle.refusals.proofs.payment_ok.Goals as goal
-
-pub returns : goal.returns
-unfolding payment_ok
-returns c = cc
