@@ -14,7 +14,8 @@ ghost use Rattle.positions.specs.Days.{size, day_at, days_of, in_range, why_befo
 ghost use Rattle.positions.specs.Keeping.{keeping, no_days, row_of, rolled, rolled_at, TakesDay, took, taken, part_of, why_end, ended};
 
 // Where a part of a run led to: the row of the ring that the next day takes, how many bytes of the part were records that were taken, and why the next one is
-// declined, or 0. The bytes that were not used go before the next part.
+// declined, or 0. The bytes that were not used go before the next part. C has these
+// fields (include/ledger.h).
 #[repr(C)]
 #[derive(Clone, Copy)]
 pub struct Part {
@@ -64,6 +65,7 @@ fn in_range(bytes: &[u8], at: usize, n: usize) -> bool
     requires { (n ≤ 32) × (at + 4 * n ≤ length bytes.now) }
     ensures { result ≡ in_range (day_at n bytes.now at) }
 {
+    // `all` over the range was tried: that its answer is `in_range` of the record did not close.
     for m in 0..n {
         if MOST_POSITION < position(bytes, at + 4 * m) {
             return false;

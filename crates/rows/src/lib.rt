@@ -11,7 +11,7 @@ ghost use Rattle.rows.specs.Days.{too_long, day_of, four_each, day_size, NextDay
 
 use text_lines::LONGEST;
 
-// What is known of a line while it is read.
+// What is known of a line while it is read. The phase and the reason are numbers, as in the definitions of specs/.
 #[derive(Clone, Copy)]
 struct Scan {
     phase: u8,
@@ -320,6 +320,7 @@ fn outcome_of(s: Scan) -> Row
             numbers: [0u32; 32],
         }
     } else {
+        // An array goes from one struct into another through a variable: without it no proof is generated.
         let numbers = s.numbers;
         Row {
             reason: 0,
@@ -375,6 +376,7 @@ fn next_day(last: bool, input: &[u8], n: usize, room: usize) -> Option<Day>
     if size == 0 || row.reason != 0 {
         return None;
     }
+    // As above: an array goes through a variable.
     let numbers = row.numbers;
     Some(Day {
         size,
