@@ -394,7 +394,6 @@ pub fn answer_to(present: bool, case: Case, call: Call) -> Result<(), Refusal>
 }
 
 // The answer to a call where no case is held.
-#[tactic(auto, unfolding(wire::specs::Asked::asked, crate::specs::Cases::first_answer, crate::specs::Cases::first_answer_to))]
 fn first_answer(call: Call) -> Result<(), Refusal>
     ensures { answer_of result ≡ first_answer_to (asked call) }
 {
@@ -422,7 +421,6 @@ fn first_answer(call: Call) -> Result<(), Refusal>
 }
 
 // The answer to a call where a case is held. The book is read in place: one in a local of its own would be a copy for every call.
-#[tactic(auto, unfolding(wire::specs::Asked::asked, crate::specs::Cases::case_answer, crate::specs::Cases::case_answer_to))]
 fn answer_in(case: Case, call: Call) -> Result<(), Refusal>
     ensures { answer_of result ≡ case_answer_to case (asked call) }
 {

@@ -1,4 +1,3 @@
--- `asking::read_case` meets its contract. Assumes nothing.
 use Rattle.std.proofs.Common.{rules}
 use Rattle.case_feed.proofs.Turning.{fed-none, fed-turn}
 use Rattle.asking.proofs.read_case.Goals as goal

@@ -1,4 +1,3 @@
--- `asking::take_part` meets its contract. The invariant: the fields that are left lead to what is held after all. The measure is the number of bytes left. Assumes nothing.
 use mathlib.Core.Path.{refl, ◌∙◌}
 use mathlib.Core.Bool.{false}
 use native.Mathlib.Omega.{arith}

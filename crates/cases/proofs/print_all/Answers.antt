@@ -1,4 +1,3 @@
--- `cases::print_all` meets its contract: it ends. Assumes nothing.
 use borrow.Author.Rules.{rules}
 use Rattle.cases.proofs.print_all.Goals as goal
 

@@ -1,4 +1,3 @@
--- `forms::put_fields` meets its contract. The invariant: what is put and what is left make up the value. Assumes nothing.
 use Rattle.std.proofs.Common.{ℕ, ◌+◌, ◌*◌, get_or, ap, arith}
 use Rattle.forms.proofs.Puts.{putting-start, putting-turn, putting-end, putting-most, put_as}
 use Rattle.forms.specs.Encode.{field_bytes}

@@ -1,4 +1,3 @@
--- `from_lines::take_input` meets its contract. Assumes nothing.
 use Rattle.std.proofs.Common.{◌∙◌, false, sym, refl, rules}
 use mathlib.Core.Bool.{false≢true}
 use Rattle.feed.proofs.Turning.{fed-read}

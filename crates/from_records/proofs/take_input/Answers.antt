@@ -1,4 +1,3 @@
--- `from_records::take_input` meets its contract. Assumes nothing.
 use Rattle.std.proofs.Common.{refl, rules}
 use Rattle.positions.specs.Keeping.{no_days}
 use Rattle.from_records.proofs.Turning.{fed-none, fed-turn, turn-declines}

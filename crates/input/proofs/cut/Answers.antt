@@ -1,4 +1,3 @@
--- `input::cut` meets its contract. The invariant is `Cutting`; its laws begin, keep and end it. Assumes nothing.
 use mathlib.Core.Path.{◌≡◌, refl, ap, ◌∙◌}
 use mathlib.Core.Logic.{inl, inr}
 use native.Mathlib.Omega.{arith}

@@ -1,4 +1,3 @@
--- `lines::digits` meets its contract. The invariant: what is counted are the digits spelled from the last on, and one more. Assumes nothing.
 use mathlib.Core.Path.{refl, ap}
 use mathlib.Core.List.{[], ◌∷◌}
 use Prim.Native.Nat.{◌+◌, ◌%◌}

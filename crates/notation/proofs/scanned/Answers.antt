@@ -1,4 +1,3 @@
--- `notation::scanned` meets its contract. The invariant: what is read and what is left are the line. Assumes nothing.
 use mathlib.Core.Path.{sym, ◌∙◌}
 use native.Mathlib.Omega.{arith}
 use Rattle.notation.proofs.Scanning.{scan-next, scan-end}

@@ -1,4 +1,3 @@
--- `positions::in_range` meets its contract. The invariant: all positions are within the limit exactly if those left to look at are. Assumes nothing.
 use Rattle.std.proofs.Common.{◌≡◌, ◌+◌, ◌*◌, true, false, sym, refl, ◌∙◌, arith, le-leb}
 use borrow.Author.Tests.{lt-leb}
 use Rattle.machine.specs.Wire.{number}

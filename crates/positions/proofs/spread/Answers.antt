@@ -1,4 +1,3 @@
--- `positions::spread` meets its contract. The invariant: the places passed hold the numbers of their members. Assumes nothing.
 use Rattle.std.proofs.Common.{◌≡◌, ℕ, ◌+◌, set, sym, ap, ◌∙◌, arith}
 use Rattle.lists.proofs.Stores.{front-turn}
 use Rattle.lists.proofs.Sums.{sum_to-none, count_small}

@@ -1,4 +1,3 @@
--- `positions::take_day` meets its contract. The invariant: the positions passed stand in their row, and their sums have rolled. Assumes nothing.
 use Rattle.std.proofs.Common.{◌≡◌, sym, ◌∙◌, arith}
 use Rattle.positions.specs.Days.{day_at}
 use Rattle.positions.proofs.Taking.{begin, ring-turn, sums-turn}

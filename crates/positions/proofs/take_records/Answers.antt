@@ -1,4 +1,3 @@
--- `positions::take_records` meets its contract. The invariant: what is left of the records goes on from what is kept. Assumes nothing.
 use Rattle.std.proofs.Common.{◌≡◌, ◌+◌, ◌*◌, ◌/◌, length, drop, sym, refl, ap, ◌∙◌, arith}
 use Rattle.positions.specs.Days.{size, days_of}
 use Rattle.positions.specs.Keeping.{keeping, taken}

@@ -1,4 +1,3 @@
--- `rows::put_numbers` meets its contract. The invariant: what is put and what is left make up the record. Assumes nothing.
 use Prim.Native.Nat.{◌+◌, ◌*◌}
 use native.Mathlib.Omega.{arith}
 use lib.ListN.{get_or}

@@ -1,4 +1,3 @@
--- `rows::scanned` meets its contract. The invariant: what is read and what is left are the line. Assumes nothing.
 use mathlib.Core.Path.{sym, ◌∙◌}
 use native.Mathlib.Omega.{arith}
 use Rattle.rows.proofs.Scanning.{scan-next, scan-end}

@@ -1,4 +1,3 @@
--- `spelling::put_items` meets its contract. The invariant: what is put and what is left make up the text. Assumes nothing.
 use mathlib.Core.Path.{refl, ◌∙◌}
 use Prim.Native.Nat.{◌+◌, ◌*◌}
 use native.Mathlib.Omega.{arith}

@@ -1,4 +1,3 @@
--- `stream::take_input` meets its contract. Assumes nothing.
 use Rattle.std.proofs.Common.{arith, rules}
 use Rattle.stream.proofs.Turning.{fed-none, fed-turn}
 use Rattle.stream.proofs.take_input.Goals as goal

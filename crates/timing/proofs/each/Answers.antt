@@ -1,4 +1,3 @@
--- `timing::each` meets its contract. The invariant is `Going`; its laws begin, keep and end it. Assumes nothing.
 use mathlib.Core.Path.{refl, sym, ◌∙◌}
 use Prim.Native.Nat.{◌≤◌}
 use native.Mathlib.Omega.{arith}

@@ -1,4 +1,3 @@
--- `to_fields::take_input` meets its contract. Assumes nothing.
 use Rattle.std.proofs.Common.{rules}
 use mathlib.Core.Bool.{false≢true}
 use Rattle.to_fields.proofs.Turning.{fed-none, fed-turn, turn-room}

@@ -1,4 +1,3 @@
--- `to_fields::take_some` meets its contract. Assumes nothing.
 use Rattle.std.proofs.Common.{◌+◌, refl, ◌∙◌, arith, rules}
 use Rattle.to_fields.proofs.Sizes.{taking-starts, next-first, next-lent, lines-few, lines-within, lines-behind, lines-go, lines_end}
 use Rattle.to_fields.proofs.take_some.Goals as goal

@@ -1,4 +1,3 @@
--- `to_fields::write_all` meets its contract. Assumes nothing.
 use Rattle.std.proofs.Common.{refl, arith, rules}
 use Rattle.input.proofs.Fronts.{rest_all}
 use Rattle.to_fields.proofs.Turning.{passed_none, passed-within, passed-some, passed-goes, passed-all}

@@ -1,4 +1,3 @@
--- `to_text::put_bytes` meets its contract. Assumes nothing.
 use Rattle.std.proofs.Common.{arith}
 use Rattle.to_text.proofs.Texts.{hex-starts, hex-goes, hex-ends}
 use Rattle.to_text.proofs.put_bytes.Goals as goal

@@ -1,4 +1,3 @@
--- `to_text::take_input` meets its contract. Assumes nothing.
 use Rattle.std.proofs.Common.{rules}
 use Rattle.to_text.proofs.Turning.{fed-none, fed-turn}
 use Rattle.to_text.proofs.take_input.Goals as goal

@@ -1,4 +1,3 @@
--- `to_text::write_all` meets its contract. Assumes nothing.
 use Rattle.std.proofs.Common.{arith, rules}
 use Rattle.input.proofs.Fronts.{rest_all}
 use Rattle.to_text.proofs.Turning.{passed_none, passed-within, passed-some, passed-goes, passed-all}
