@@ -113,4 +113,3 @@ pub fn add_at<T: Width>(a: &mut [T], k: usize, v: T)
         a[k] = a[k].plus(v);
     }
 }
-
