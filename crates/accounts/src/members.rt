@@ -165,9 +165,9 @@ impl Members {
         }
     }
 
-    // What a member owes.
-    pub fn owes(self, m: u8) -> u64
-        ensures { result ≡ owes_of self m }
+    // What a member owes, read where it stands: nothing is copied where all members are asked.
+    fn owes_at(&self, m: u8) -> u64
+        ensures { result ≡ owes_of self.now m }
     {
         if m < 32 {
             let at = usize::from(m);
@@ -177,11 +177,18 @@ impl Members {
         }
     }
 
+    // What a member owes.
+    pub fn owes(self, m: u8) -> u64
+        ensures { result ≡ owes_of self m }
+    {
+        self.owes_at(m)
+    }
+
     // Whether a member of the set owes.
     pub fn someone_owes(self, set: u32) -> bool
         ensures { result ≡ someone_owes_in self set }
     {
-        sets::members_of(set).any(|m| 0 < self.owes(m))
+        sets::members_of(set).any(|m| 0 < self.owes_at(m))
     }
 
     // MEMBER: a member with its contribution and its expected units in pools 0 to 3.
