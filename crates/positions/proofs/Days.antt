@@ -1,7 +1,9 @@
 -- The records of a run and their days. Assumes nothing.
-use Rattle.std.proofs.Common.{◌≡◌, ℕ, ◌+◌, ◌*◌, ◌/◌, ◌<◌, ◌≤◌, Bool, true, ◌&&◌, leb, List, [], length, get_or, drop, refl, ap, ◌∙◌, mul_comm, le-div_iff_mul-le, mul-one, mul-add, arith, leb-true}
+use Rattle.std.proofs.Common.{◌≡◌, ℕ, ◌+◌, ◌*◌, ◌/◌, ◌<◌, ◌≤◌, Bool, true, ◌&&◌, leb, List, [], ◌∷◌, map, length, get_or, refl, sym, ap, ◌∙◌, mul_comm, le-div_iff_mul-le, mul-one, mul-add, arith, leb-true}
+use Rattle.std.specs.List.{list_all, range_with_len}
+use Rattle.std.proofs.lemmas.List.FromFn.{fill_by_all}
 use Rattle.lists.specs.Lists.{all, Each}
-use Rattle.lists.proofs.Counts.{all-turn, all_done, all-get, each_all}
+use Rattle.lists.proofs.Counts.{all-get, each_all}
 use Rattle.lists.proofs.Each.{each_more, each-tab}
 use Rattle.lists.proofs.Places.{length-tab, get_or-tab}
 use Rattle.machine.specs.Wire.{number}
@@ -21,13 +23,18 @@ module _ (n : ℕ) (bytes : List ℕ) (at : ℕ) where
   unfolding day_at
   day-get m l = get_or-tab n (λ j. number (at + 4 * j) 4 bytes) m 0 l
 
-  pub range-turn : (m : ℕ) → m < n → all ok (drop m (day_at n bytes at)) ≡ (ok (number (at + 4 * m) 4 bytes) && all ok (drop (m + 1) (day_at n bytes at)))
-  range-turn m l =
-      all-turn ok m (day_at n bytes at) 0 (omega (arith, day-length))
-      ∙ ap (λ (p : ℕ). ok p && all ok (drop (m + 1) (day_at n bytes at))) (day-get m l)
+  -- the positions in their order
+  day-is : day_at n bytes at ≡ map (λ m. number (at + 4 * m) 4 bytes) (range_with_len 0 n)
+  day-is = fill_by_all (λ m. number (at + 4 * m) 4 bytes) (day_at n bytes at) n 0 day-length day-get
 
-  pub range-done : (m : ℕ) → n ≤ m → all ok (drop m (day_at n bytes at)) ≡ true
-  range-done m h = all_done ok m (day_at n bytes at) (omega (arith, day-length))
+all-map : (f : ℕ → ℕ) (l : List ℕ) → all ok (map f l) ≡ list_all (λ m. ok (f m)) l
+unfolding all
+all-map f [] = refl
+all-map f (x ∷ l) = ap (λ (b : Bool). ok (f x) && b) (all-map f l)
+
+pub range-is : (n : ℕ) (bytes : List ℕ) (at : ℕ) → list_all (λ m. ok (number (at + 4 * m) 4 bytes)) (range_with_len 0 n) ≡ in_range (day_at n bytes at)
+unfolding in_range
+range-is n bytes at = sym (ap (all ok) (day-is n bytes at) ∙ all-map (λ m. number (at + 4 * m) 4 bytes) (range_with_len 0 n))
 
 -- no position is above its limit
 abbrev pub Fits : Day → Type 0

@@ -3,14 +3,15 @@
 // `take_days` for each part, and `end`.
 #![tactic(auto)]
 
-ghost use Rattle.std.specs.Prelude.{◌≡◌, ◌≢◌, MatchResult, ◌+◌, ◌-◌, ◌*◌, ◌<◌, ◌≤◌, ◌++◌, length, take, set, replicate, slice_index};
+ghost use Rattle.std.specs.Prelude.{◌≡◌, ◌≢◌, nat_le, MatchResult, ◌+◌, ◌-◌, ◌*◌, ◌<◌, ◌≤◌, ◌++◌, length, take, set, replicate, slice_index};
 ghost use Rattle.std.proofs.lemmas.List.Edits.{sets};
 ghost use Rattle.lists.specs.Lists.{tab};
+ghost use Rattle.std.specs.List.{range_with_len, list_all};
 ghost use Rattle.sets.specs.Set.{members};
 ghost use Rattle.machine.specs.Wire.{number};
 ghost use Rattle.splitting.specs.Split.{split};
 ghost use Rattle.splitting.specs.Limits.{Answer, refusal};
-ghost use Rattle.positions.specs.Days.{size, day_at, days_of, in_range, why_before, by_member, expected_units};
+ghost use Rattle.positions.specs.Days.{size, day_at, days_of, why_before, by_member, expected_units};
 ghost use Rattle.positions.specs.Keeping.{keeping, no_days, row_of, rolled, rolled_at, TakesDay, took, taken, part_of, why_end, ended};
 
 // Where a part of a run led to: the row of the ring that the next day takes, how many bytes of the part were records that were taken, and why the next one is
@@ -63,15 +64,9 @@ fn position(s: &[u8], at: usize) -> u32
 // Whether every position of the record that begins at a place is within its limit.
 fn in_range(bytes: &[u8], at: usize, n: usize) -> bool
     requires { (n ≤ 32) × (at + 4 * n ≤ length bytes.now) }
-    ensures { result ≡ in_range (day_at n bytes.now at) }
+    ensures { result ≡ list_all (λ m. nat_le (number (at + 4 * m) 4 bytes.now) 10000000) (range_with_len 0 n) }
 {
-    // `all` over the range was tried: that its answer is `in_range` of the record did not close.
-    for m in 0..n {
-        if MOST_POSITION < position(bytes, at + 4 * m) {
-            return false;
-        }
-    }
-    true
+    (0..n).all(|m| position(bytes, at + 4 * m) <= MOST_POSITION)
 }
 
 // The position of the member at place m comes: its sum gains it and loses the one that stands in the ring, whose place it takes.
