@@ -11,7 +11,7 @@ use Rattle.lines.specs.Placed.{Placed, placed}
 use Rattle.lines.proofs.Decimals.{decimal-le}
 use Rattle.forms.specs.Put.{Put, Written as Stored}
 use Rattle.forms.proofs.Puts.{put_then, put_as, put-into, put-placed}
-use Rattle.case.specs.declared.Reading.{Reading}
+use Rattle.std.specs.Prelude.{Result, Ok, Err}
 use Rattle.case.specs.Readings.{reading_in}
 use Rattle.case.specs.Cases.{no_held}
 use Rattle.spelling.specs.Text.{money_text, money_into}
@@ -85,14 +85,13 @@ told_none said out h = rw (lt-leb 128 (length out) h)
 pub told-as : {r : Told} {out' : List ℕ} {s t : Said} (out : List ℕ) → s ≡ t → ◌≡◌ {A = Written} (r, out') (told_into s out) → ◌≡◌ {A = Written} (r, out') (told_into t out)
 told-as out e is = is ∙ ap (λ (s : Said). told_into s out) e
 
-module _ (r : Reading) where
-  pub reading-refused : (r.answer ≡ 0 → ⊥) → (false, refusal_text r.answer) ≡ reading_said r
-  unfolding reading_said
-  reading-refused h = rw (ne_eqb r.answer 0 h)
+pub reading-refused : (r : Result ℕ ℕ) (n : ℕ) → r ≡ Err n → (false, refusal_text n) ≡ reading_said r
+unfolding reading_said
+reading-refused r n e = rw e
 
-  pub reading-answered : r.answer ≡ 0 → (true, requirement_text r.cents) ≡ reading_said r
-  unfolding reading_said
-  reading-answered h = rw (eq-eqb r.answer 0 h)
+pub reading-answered : (r : Result ℕ ℕ) (cents : ℕ) → r ≡ Ok cents → (true, requirement_text cents) ≡ reading_said r
+unfolding reading_said
+reading-answered r cents e = rw e
 
 -- ---- what is said of what was read
 
@@ -109,7 +108,7 @@ module _ (q : Question) (r : Rest) where
   unfolding said_at
   at-end e none_left = rw (e, eq-eqb r.len 0 none_left)
 
-  pub at-requirement : r.ended ≡ true → r.len ≡ 0 → q ≡ Requirement → (reading : Reading) → reading ≡ reading_in r.held → reading_said reading ≡ said_at q r
+  pub at-requirement : r.ended ≡ true → r.len ≡ 0 → q ≡ Requirement → (reading : Result ℕ ℕ) → reading ≡ reading_in r.held → reading_said reading ≡ said_at q r
   unfolding said_to
   at-requirement e none_left asked reading is = ap reading_said is ∙ ap (λ (p : Question). said_to p r.held) (sym asked) ∙ at-end e none_left
 

@@ -1,12 +1,11 @@
 -- What is said to a question about a case, and the text of it in a lent buffer. Letters are given by their ASCII codes.
-use Rattle.std.specs.Prelude.{◌≡◌, Bool, true, false, List, [], ◌∷◌, ◌++◌, ℕ, eqb, leb, length}
+use Rattle.std.specs.Prelude.{◌≡◌, Bool, true, false, List, [], ◌∷◌, ◌++◌, ℕ, eqb, leb, length, Result, Ok, Err}
 use Rattle.std.proofs.lemmas.List.Edits.{sets}
 use Rattle.lists.specs.Lists.{when◌then◌else◌, Each, Bytes}
 use Rattle.machine.specs.Printed.{decimal}
 use Rattle.reserves.specs.Reserves.{SameButReserves}
 use Rattle.input.specs.Fields.{rest}
 use Rattle.case.specs.declared.Held.{Held}
-use Rattle.case.specs.declared.Reading.{Reading}
 use Rattle.case.specs.Readings.{reading_in}
 use Rattle.case.specs.Cases.{no_held}
 use Rattle.case.specs.Input.{ledger_after, HeldAfter}
@@ -65,8 +64,9 @@ abbrev pub Said : Type 0
 Said = Bool × List ℕ
 
 -- the requirement, or the refusal
-unfoldable pub reading_said : Reading → Said
-reading_said r = when eqb r.answer 0 then (true, requirement_text r.cents) else (false, refusal_text r.answer)
+unfoldable pub reading_said : Result ℕ ℕ → Said
+reading_said (Ok cents) = (true, requirement_text cents)
+reading_said (Err n) = (false, refusal_text n)
 
 -- of what is held; to what is no question, how to ask
 unfoldable pub said_to : Question → Held → Said

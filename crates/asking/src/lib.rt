@@ -12,7 +12,7 @@ ghost use Rattle.feed.specs.Feeds.{Keeps, Fed};
 ghost use Rattle.asking.specs.Questions.{Asks};
 ghost use Rattle.asking.specs.Answers.{sentence, requirement_text, refusal_text, Written, told_into, reading_said, said_at, usage_text, Runs};
 
-use case::{Held, Reading};
+use case::Held;
 use feed::Streams;
 
 // The questions about a case; `Unknown` is none of them.
@@ -201,7 +201,7 @@ fn tell_usage(out: &mut [u8]) -> Told
 }
 
 // What is read of a case, or the refusal.
-fn tell_reading(reading: Reading, out: &mut [u8]) -> Told
+fn tell_reading(reading: Result<u64, u8>, out: &mut [u8]) -> Told
     ensures { ◌≡◌ {A = Written} (result, out.new) (told_into (reading_said reading) out.old) }
 {
     if out.len() < 128 {
@@ -210,15 +210,15 @@ fn tell_reading(reading: Reading, out: &mut [u8]) -> Told
             len: 0,
         };
     }
-    if reading.answer != 0 {
-        return Told {
+    match reading {
+        Ok(cents) => Told {
+            good: true,
+            len: put_requirement(out, cents),
+        },
+        Err(number) => Told {
             good: false,
-            len: put_refusal(out, reading.answer),
-        };
-    }
-    Told {
-        good: true,
-        len: put_requirement(out, reading.cents),
+            len: put_refusal(out, number),
+        },
     }
 }
 

@@ -64,6 +64,7 @@ pub struct Ran {
 
 impl Held {
     // No case.
+    #[tactic(auto, unfolding(crate::specs::Cases::no_held))]
     pub fn none() -> Held
         ensures { result ≡ no_held }
     {
@@ -84,6 +85,7 @@ impl Held {
     }
 
     // The requirement in cents, read from the sums that the case keeps and the two losses; "with no case the reading is declined by 2".
+    #[tactic(auto, unfolding(crate::specs::Readings::reading_in))]
     pub fn requirement(self) -> Result<u64, u8>
         ensures { result ≡ reading_in self }
     {
@@ -117,6 +119,7 @@ fn reserve_if(n: u8, i: u8, x: u32) -> u32
 }
 
 // Why ROUND with n reserves is declined. As on the wire, it has one to four of them.
+#[tactic(auto, unfolding(crate::specs::Cases::reserves_answer))]
 fn reserves_answer(case: Case, n: u8, p: u32, q: u32, r: u32, s: u32) -> Result<(), Refusal>
     ensures { answer_of result ≡ reserves_answer case n p q r s }
 {
@@ -134,6 +137,7 @@ fn reserves_answer(case: Case, n: u8, p: u32, q: u32, r: u32, s: u32) -> Result<
 
 impl Case {
     // The case that HEAD makes.
+    #[tactic(auto, unfolding(crate::specs::Cases::new_case))]
     fn new(head: Head) -> Case
         ensures { result ≡ new_case head }
     {
@@ -346,6 +350,7 @@ impl Case {
     }
 
     // The units of a pool that a member holds at a price.
+    #[tactic(auto, unfolding(crate::specs::Readings::holding_in))]
     pub fn holding(self, m: u8, pool: u8, price: u32) -> u64
         ensures { result ≡ holding_in self m pool price }
     {
@@ -378,6 +383,7 @@ fn difference(a: u64, b: u64) -> i64
 // ---- any call
 
 // The answer to a call, from whether a case is held, and the case.
+#[tactic(auto, unfolding(crate::specs::Cases::answer_to))]
 pub fn answer_to(present: bool, case: Case, call: Call) -> Result<(), Refusal>
     ensures { answer_of result ≡ answer_to present case (asked call) }
 {
@@ -389,6 +395,7 @@ pub fn answer_to(present: bool, case: Case, call: Call) -> Result<(), Refusal>
 }
 
 // The answer to a call where no case is held.
+#[tactic(auto, unfolding(wire::specs::Asked::asked, crate::specs::Cases::first_answer, crate::specs::Cases::first_answer_to))]
 fn first_answer(call: Call) -> Result<(), Refusal>
     ensures { answer_of result ≡ first_answer_to (asked call) }
 {
@@ -416,6 +423,7 @@ fn first_answer(call: Call) -> Result<(), Refusal>
 }
 
 // The answer to a call where a case is held. The book is read in place: one in a local of its own would be a copy for every call.
+#[tactic(auto, unfolding(wire::specs::Asked::asked, crate::specs::Cases::case_answer, crate::specs::Cases::case_answer_to))]
 fn answer_in(case: Case, call: Call) -> Result<(), Refusal>
     ensures { answer_of result ≡ case_answer_to case (asked call) }
 {
@@ -538,6 +546,7 @@ pub fn take(held: Held, call: Call) -> Applied
 }
 
 // One call, from any bytes: an unknown tag, a wrong length or bytes that are no field are answered 1.
+#[tactic(auto, unfolding(crate::specs::Cases::applied))]
 pub fn apply(held: Held, bytes: &[u8]) -> Applied
     ensures { result ≡ applied held bytes.now }
 {

@@ -7,27 +7,19 @@ ghost use Rattle.std.specs.Prelude.{◌+◌, ◌≤◌, ◌<◌, length};
 
 use std::io::{Print, Read};
 
-// A byte as a wider number.
-fn wide(b: u8) -> usize
-    ensures { result < 256 }
-{
-    b as usize
-}
-
 // The length that stands at a place.
 fn length_at(all: &[u8], at: usize) -> usize
     requires { at + 4 ≤ length all.now }
     ensures { result < 65536 }
 {
-    wide(all[at + 2]) * 256 + wide(all[at + 3])
+    usize::from(u16::from_be_bytes([all[at + 2], all[at + 3]]))
 }
 
 // Writes the text of one input.
 fn print_one(rt: HostRuntime, input: &[u8], out: &mut [u8]) {
-    let written = report::print(input, out);
-    let len = written.len;
+    let len = report::print(input, out).unwrap_or(0);
     if len <= out.len() {
-        let _text = rt.write_all(&out[0..len]);
+        let _text = rt.write_all(&out[..len]);
         let _end = rt.write_all(b"--\n");
     }
 }

@@ -1,4 +1,5 @@
 -- The numbers that are handed to `lines::write_line` are those of the lines. Assumes nothing.
+use Rattle.std.specs.Prelude.{Some, None, slice_get}
 use mathlib.Core.Path.{◌≡◌, refl, sym, ap, ◌∙◌}
 use mathlib.Core.Bool.{Bool, true, false}
 use mathlib.Core.List.{List, [], ◌∷◌, ◌++◌, map}
@@ -61,15 +62,15 @@ s-line tag n = refl
 
 -- ---- the lines of a field that is cut off
 
-pub cut-none : (s : List ℕ) → length s ≡ 0 → [] ≡ cut_lines s
+pub cut-none : (s : List ℕ) → None ≡ slice_get s 0 → [] ≡ cut_lines s
 unfolding cut_lines
-cut-none [] h = refl
-cut-none (x ∷ s) h = absurd (omega arith)
+cut-none [] e = refl
+cut-none (x ∷ s) e = absurd (cc)
 
-pub cut-some : (s : List ℕ) → (length s ≡ 0 → ⊥) → s_line (get_or s 0 0 ∷ []) 1 ∷ [] ≡ cut_lines s
+pub cut-some : (s : List ℕ) (tag : ℕ) → Some tag ≡ slice_get s 0 → s_line (tag ∷ []) 1 ∷ [] ≡ cut_lines s
 unfolding cut_lines
-cut-some [] h = absurd (h refl)
-cut-some (x ∷ s) h = refl
+cut-some [] tag e = absurd (cc)
+cut-some (x ∷ s) tag e = let same : tag ≡ x = cc in rw same
 
 -- ---- the lines of the end
 

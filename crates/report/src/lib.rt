@@ -45,15 +45,14 @@ pub fn write_pool(case: Case, pool: u8, out: &mut [u8], at: usize) -> usize
 pub fn write_loss(res: Result, out: &mut [u8], at: usize) -> usize
     ensures { ◌≡◌ {A = Placed} (result, out.new) (placed (line_text (l_line_of res)) out.old at) }
 {
-    let charges = res.charges;
     let numbers = [
         res.loss,
-        charges[0],
-        charges[1],
-        charges[2],
-        charges[3],
-        charges[4],
-        charges[5],
+        res.charges[0],
+        res.charges[1],
+        res.charges[2],
+        res.charges[3],
+        res.charges[4],
+        res.charges[5],
         res.uncovered,
     ];
     lines::write_line(out, at, b'l', 8, numbers)
@@ -63,15 +62,12 @@ pub fn write_loss(res: Result, out: &mut [u8], at: usize) -> usize
 pub fn write_member(res: Result, m: u8, out: &mut [u8], at: usize) -> usize
     ensures { ◌≡◌ {A = Placed} (result, out.new) (placed (line_text (m_line_of res m)) out.old at) }
 {
-    let ranks = res.ranks;
-    let contributions = res.contributions;
-    let payments = res.payments;
     let place = usize::from(m);
     let numbers = [
         u64::from(m),
-        u64::from(ranks.get(place).copied().unwrap_or(0)),
-        contributions.get(place).copied().unwrap_or(0),
-        payments.get(place).copied().unwrap_or(0),
+        u64::from(res.ranks.get(place).copied().unwrap_or(0)),
+        res.contributions.get(place).copied().unwrap_or(0),
+        res.payments.get(place).copied().unwrap_or(0),
         0,
         0,
         0,
@@ -94,10 +90,8 @@ fn write_answer(tag: u8, answer: u8, out: &mut [u8], at: usize) -> usize
 fn write_pools(case: Case, out: &mut [u8], at: usize) -> usize
     ensures { ◌≡◌ {A = Placed} (result, out.new) (placed_lines (tab case.book.pools.given (p_line_of case)) out.old at) }
 {
-    let book = case.book;
-    let pools = book.pools;
     let mut to = at;
-    for pool in 0..pools.given {
+    for pool in 0..case.book.pools.given {
         to = write_pool(case, pool, out, to);
     }
     to
@@ -126,13 +120,10 @@ fn write_result(res: Result, set: u32, out: &mut [u8], at: usize) -> usize
 fn write_finish(case: Case, out: &mut [u8], at: usize) -> usize
     ensures { ◌≡◌ {A = Placed} (result, out.new) (placed_lines (finish_lines case) out.old at) }
 {
-    let stage = case.stage;
-    if book::letter(stage) != 5 {
+    if book::letter(case.stage) != 5 {
         return at;
     }
-    let book = case.book;
-    let head = book.head;
-    write_result(book.result(), head.set, out, at)
+    write_result(case.book.result(), case.book.head.set, out, at)
 }
 
 // The lines of the end, put into the buffer in turn from a place on, each where it fits, and the place behind them.
@@ -140,9 +131,8 @@ pub fn write_end(held: Held, out: &mut [u8], at: usize) -> usize
     ensures { ◌≡◌ {A = Placed} (result, out.new) (placed_lines (held_lines held) out.old at) }
 {
     if held.present {
-        let case = held.case;
-        let to = write_pools(case, out, at);
-        return write_finish(case, out, to);
+        let to = write_pools(held.case, out, at);
+        return write_finish(held.case, out, to);
     }
     at
 }
@@ -204,10 +194,10 @@ pub fn take_part(held: Held, input: &[u8], out: &mut [u8]) -> Taken
 pub fn write_cut(rest: &[u8], out: &mut [u8], at: usize) -> usize
     ensures { ◌≡◌ {A = Placed} (result, out.new) (placed_lines (cut_lines rest.now) out.old at) }
 {
-    if rest.len() == 0 {
-        return at;
+    match rest.first() {
+        Some(tag) => write_answer(*tag, 1, out, at),
+        None => at,
     }
-    write_answer(rest[0], 1, out, at)
 }
 
 // The text of a whole input at the front of the buffer, and its length. A buffer with less than four times the input's bytes and 4,096 is untouched.
@@ -219,8 +209,6 @@ pub fn print(input: &[u8], out: &mut [u8]) -> Option<usize>
         return None;
     }
     let taken = take_part(Held::none(), input, out);
-    let used = taken.used;
-    let held = taken.held;
-    let to = write_cut(&input[used..], out, taken.written);
-    Some(write_end(held, out, to))
+    let to = write_cut(&input[taken.used..], out, taken.written);
+    Some(write_end(taken.held, out, to))
 }
