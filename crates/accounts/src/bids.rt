@@ -118,7 +118,7 @@ impl Bids {
     {
         let units = self.units_in(round, pool);
         let mut won = [0u64; 256];
-        auction::allot(
+        let _ = auction::allot(
             u64::from(open_units),
             reserve,
             &units,

@@ -235,7 +235,7 @@ impl Book {
         let q = u64::from(self.open_units(pool)).min(self.short(pool));
         let mut shares = [0u64; 32];
         let _ = splitting::split(q, &weights, &mut shares);
-        accounts::members::narrowed16(shares)
+        accounts::members::narrowed(shares)
     }
 
     // CALL: each member's call.
@@ -247,7 +247,7 @@ impl Book {
         let q = lack.min(self.contributions());
         let mut shares = [0u64; 32];
         let _ = splitting::split(q, &weights, &mut shares);
-        accounts::members::narrowed32(shares)
+        accounts::members::narrowed(shares)
     }
 
     // ---- how each call changes it

@@ -119,6 +119,7 @@ fn reserve_if(n: u8, i: u8, x: u32) -> u32
 }
 
 // Why ROUND with n reserves is declined. As on the wire, it has one to four of them.
+#[tactic(auto, unfolding(crate::specs::Cases::reserves_answer))]
 fn reserves_answer(case: Case, n: u8, p: u32, q: u32, r: u32, s: u32) -> Result<(), Refusal>
     ensures { answer_of result ≡ reserves_answer case n p q r s }
 {
@@ -394,6 +395,7 @@ pub fn answer_to(present: bool, case: Case, call: Call) -> Result<(), Refusal>
 }
 
 // The answer to a call where no case is held.
+#[tactic(auto, unfolding(wire::specs::Asked::asked, crate::specs::Cases::first_answer, crate::specs::Cases::first_answer_to))]
 fn first_answer(call: Call) -> Result<(), Refusal>
     ensures { answer_of result ≡ first_answer_to (asked call) }
 {
@@ -421,6 +423,7 @@ fn first_answer(call: Call) -> Result<(), Refusal>
 }
 
 // The answer to a call where a case is held. The book is read in place: one in a local of its own would be a copy for every call.
+#[tactic(auto, unfolding(wire::specs::Asked::asked, crate::specs::Cases::case_answer, crate::specs::Cases::case_answer_to))]
 fn answer_in(case: Case, call: Call) -> Result<(), Refusal>
     ensures { answer_of result ≡ case_answer_to case (asked call) }
 {

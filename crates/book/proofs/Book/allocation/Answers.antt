@@ -6,5 +6,5 @@ use Rattle.book.specs.Books.{allocation_in}
 use Rattle.book.proofs.Book.allocation.Goals as goal
 
 pub returns : goal.returns
-unfolding allocation_in
-returns c = c.narrowed16.ensures ∙ ap (held_to most16) (ap (λ (r : Answer). r.1) c.split.ensures ∙ simp (c.min-q.ensures, c.from.ensures, c.open_units.ensures, c.short.ensures, c.shortfalls-weights.ensures.0))
+unfolding allocation_in held_to
+returns c = c.narrowed.ensures ∙ ap (held_to most16) (ap (λ (r : Answer). r.1) c.split.ensures ∙ simp (c.min-q.ensures, c.from.ensures, c.open_units.ensures, c.short.ensures, c.shortfalls-weights.ensures.0))

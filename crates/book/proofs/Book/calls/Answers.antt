@@ -6,5 +6,5 @@ use Rattle.book.specs.Books.{calls_in}
 use Rattle.book.proofs.Book.calls.Goals as goal
 
 pub returns : goal.returns
-unfolding calls_in
-returns c = c.narrowed32.ensures ∙ ap (held_to most32) (ap (λ (r : Answer). r.1) c.split.ensures ∙ simp (c.min-q.ensures, c.contributions.ensures, c.saturating_sub-lack.ensures, c.prefunded.ensures, c.requirement.ensures, c.widened-weights.ensures))
+unfolding calls_in held_to
+returns c = c.narrowed.ensures ∙ ap (held_to most32) (ap (λ (r : Answer). r.1) c.split.ensures ∙ simp (c.min-q.ensures, c.contributions.ensures, c.saturating_sub-lack.ensures, c.prefunded.ensures, c.requirement.ensures, c.widened-weights.ensures))

@@ -1,6 +1,7 @@
 -- `waterfall::Holdings::charge_of` meets its contract. What its calls give is put together in `proofs/Steps.antt`. Assumes nothing.
 use mathlib.Core.Path.{refl}
 use native.Mathlib.Omega.{arith}
+use Rattle.lists.specs.Refusals.{answer_of}
 use Rattle.waterfall.specs.Limits.{rank_at, held_at}
 use Rattle.waterfall.proofs.Steps.{juniors-le, charge-is}
 use Rattle.waterfall.proofs.Holdings.charge_of.Goals as goal
@@ -14,7 +15,7 @@ returns c = charge-is c.args.self.now.set c.args.amount c.args.m c.args.self.now
     c.held_from-junior.result
     c.held_from.result
     _
-    c.split.result
+    (answer_of c.split.result)
     _
     _
     _
