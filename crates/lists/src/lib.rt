@@ -1,4 +1,4 @@
-// The words that loops and refusals are written in, as code: a test as a number, the smaller of two, the first number that applies.
+// What loops are written in, as code: a number where a test passes, two tests without a branch, numbers held to a width, a sum at a place of a run.
 #![tactic(auto)]
 
 ghost use Rattle.std.specs.Prelude.{◌≡◌, ◌&&◌, ◌||◌, cond, ℕ, List, ◌+◌, ◌-◌, ◌≤◌, ◌<◌, min};
