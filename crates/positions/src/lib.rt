@@ -197,8 +197,10 @@ fn split_by(sums: &[u64], units: u64) -> Result<[u64; 32], u8>
     ensures { MatchResult result (λ xs. (refusal units sums.now (length sums.now) ≡ 0) × (xs ≡ split units sums.now ++ replicate (32 - length sums.now) 0)) (λ why. (why ≡ refusal units sums.now (length sums.now)) × (why ≢ 0)) }
 {
     let mut shares = [0u64; 32];
-    let why = splitting::split(units, sums, &mut shares[..sums.len()]);
-    if why == 0 { Ok(shares) } else { Err(why) }
+    match splitting::split(units, sums, &mut shares[..sums.len()]) {
+        Ok(()) => Ok(shares),
+        Err(refusal) => Err(refusal.number()),
+    }
 }
 
 // The shares in member order at the end of a run of n members, of which `left` bytes of a record are left, or why there are none.
