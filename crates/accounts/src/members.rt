@@ -1,7 +1,7 @@
 // The members. What belongs to member m in pool p stands at place 4 × m + p.
 ghost use Rattle.std.specs.Prelude.{◌≡◌, map, ℕ, ◌-◌, ◌≤◌, ◌<◌, get_or};
 ghost use Rattle.lists.specs.Lists.{when◌then◌else◌, sum};
-ghost use Rattle.lists.specs.Adding.{most16, most32, held_to};
+ghost use Rattle.lists.specs.Adding.{most16, most32};
 ghost use Rattle.sets.specs.Set.{members};
 ghost use Rattle.accounts.specs.Members.{no_members, owes_of, someone_owes_in, shortfalls_of, over_pools, over_pools_at, without_pools, put_member, add_shares, with_shares, with_calls, with_payment, with_move, with_won};
 
@@ -34,20 +34,6 @@ pub fn narrowed<T: Width>(xs: [u64; 32]) -> [T; 32]
     ensures { result ≡ map T.narrowed xs }
 {
     array::from_fn(|m| T::narrow(xs[m]))
-}
-
-// Held to 16 bits.
-pub fn narrowed16(xs: [u64; 32]) -> [u16; 32]
-    ensures { result ≡ held_to most16 xs }
-{
-    narrowed(xs)
-}
-
-// Held to 32 bits.
-pub fn narrowed32(xs: [u64; 32]) -> [u32; 32]
-    ensures { result ≡ held_to most32 xs }
-{
-    narrowed(xs)
 }
 
 // ---- what is read
