@@ -14,6 +14,8 @@ use Rattle.wire.specs.declared.Call.TheVariants.{Head as HeadCall, Pool, Member,
 use Rattle.forms.specs.Forms.{kind_of}
 use Rattle.spelling.specs.Words.{key_of, name_of}
 use Rattle.notation.specs.declared.Scan.{Scan}
+use Rattle.notation.specs.declared.Reason.{Reason}
+use Rattle.notation.specs.declared.Reason.TheVariants.{NotACall, WrongKey, WrongKind, TooLarge, CallComplete, CallUnfinished, CommaApart, NoSpace, NumberMissing, ReturnInside}
 use Rattle.notation.specs.declared.Read.{Read}
 use Rattle.notation.specs.declared.Read.TheVariants.{Nothing, Called, Refused}
 use Rattle.notation.specs.Scans.{begin, with_phase, in_word, named, longer, negative, gathered, stored, refused}
@@ -55,16 +57,15 @@ number_of kind minus set value =
 
 -- ---- what is not expected
 
--- reason 1: "not the name of a call"; 8: "expected a space behind the key"; 3: "not a number of the kind that is expected"; 5: "the call is complete";
--- 7: "a comma stands directly behind a number of a list"; 2: "not the key that is expected"
-unfoldable pub strangeness : Scan → ℕ
+-- why a byte is not expected where the scan has come to
+unfoldable pub strangeness : Scan → Reason
 strangeness s =
-    when ltb s.phase 2 then 1
-    else when eqb s.phase 3 then 8
-    else when leb 4 s.phase then 3
-    else when eqb (kind_of s.tag s.item) 0 then 5
-    else when eqb (key_code s.tag s.item) 0 then 7
-    else 2
+    when ltb s.phase 2 then NotACall
+    else when eqb s.phase 3 then NoSpace
+    else when leb 4 s.phase then WrongKind
+    else when eqb (kind_of s.tag s.item) 0 then CallComplete
+    else when eqb (key_code s.tag s.item) 0 then CommaApart
+    else WrongKey
 
 abbrev pub strange : Scan → (place : ℕ) → Scan
 strange s at = refused s at (strangeness s)
@@ -72,22 +73,22 @@ strange s at = refused s at (strangeness s)
 -- ---- the end of a word or of a number
 
 unfoldable pub settle_name : Scan → Scan
-settle_name s = when eqb (tag_named s.value) 0 then refused s s.start 1 else named s (tag_named s.value)
+settle_name s = when eqb (tag_named s.value) 0 then refused s s.start NotACall else named s (tag_named s.value)
 
 unfoldable pub settle_key : Scan → Scan
-settle_key s = when eqb s.value (key_code s.tag s.item) then with_phase s 4 else refused s s.start 2
+settle_key s = when eqb s.value (key_code s.tag s.item) then with_phase s 4 else refused s s.start WrongKey
 
--- money has two digits behind its point; reason 4: "the number is too large"
+-- money has two digits behind its point
 unfoldable pub settle_number : Scan → Scan
 settle_number s =
-    when leb 4 (kind_of s.tag s.item) && not (eqb s.point 3) then refused s s.start 3
+    when leb 4 (kind_of s.tag s.item) && not (eqb s.point 3) then refused s s.start WrongKind
     else when ltb s.value (limit_of (kind_of s.tag s.item) + one_if s.minus)
     then stored s (number_of (kind_of s.tag s.item) s.minus s.set s.value)
-    else refused s s.start 4
+    else refused s s.start TooLarge
 
 -- a dash alone is the empty set
 unfoldable pub settle_dash : Scan → Scan
-settle_dash s = when eqb (kind_of s.tag s.item) 3 then stored s 0 else refused s s.start 3
+settle_dash s = when eqb (kind_of s.tag s.item) 3 then stored s 0 else refused s s.start WrongKind
 
 unfoldable pub settle : Scan → Scan
 settle s =
@@ -111,7 +112,7 @@ unfoldable pub next_point : ℕ → ℕ
 next_point p = when eqb p 0 then 0 else min (p + 1) 3
 
 unfoldable pub more_digits : Scan → (digit place : ℕ) → Scan
-more_digits s d at = when eqb s.point 3 then refused s at 3 else longer s (grown 10 s.value d) (next_point s.point)
+more_digits s d at = when eqb s.point 3 then refused s at WrongKind else longer s (grown 10 s.value d) (next_point s.point)
 
 unfoldable pub on_digit : Scan → (digit place : ℕ) → Scan
 on_digit s d at =
@@ -131,7 +132,7 @@ on_point s at =
 
 -- a comma behind a member of a set
 unfoldable pub on_member : Scan → Scan
-on_member s = when ltb s.value 32 then gathered s (with_member s.set (s.value % 2 ^ 8)) else refused s s.start 4
+on_member s = when ltb s.value 32 then gathered s (with_member s.set (s.value % 2 ^ 8)) else refused s s.start TooLarge
 
 -- a comma behind a number, where the next has no key
 unfoldable pub on_list : Scan → (place : ℕ) → Scan
@@ -143,7 +144,7 @@ on_list t at =
 -- no space stands before a comma
 unfoldable pub on_comma : Scan → (place : ℕ) → Scan
 on_comma s at =
-    when eqb s.phase 2 then refused s at 7
+    when eqb s.phase 2 then refused s at CommaApart
     else when not (eqb s.phase 5) then strange s at
     else when eqb (kind_of s.tag s.item) 3 then on_member s
     else on_list (settle s) at
@@ -152,22 +153,22 @@ on_comma s at =
 unfoldable pub complete : Scan → Bool
 complete t = eqb (kind_of t.tag t.item) 0 || (eqb t.tag 4 && ltb 0 t.item)
 
--- the line's end. Reason 6: "the line ends before the call does"; 9: "the line ends before a number"
+-- the line's end
 unfoldable pub ended : Scan → (place : ℕ) → Scan
 ended t at =
     when eqb t.phase 8 then t
     else when eqb t.phase 0 || (eqb t.phase 2 && complete t) then with_phase t 7
-    else refused t at (when eqb t.phase 4 then 9 else 6)
+    else refused t at (when eqb t.phase 4 then NumberMissing else CallUnfinished)
 
 -- a carriage return, behind a line that has ended
 unfoldable pub returned : Scan → (place : ℕ) → Scan
 returned t at = when eqb t.phase 8 then t else in_word t 9 at t.value
 
--- a byte behind the line's end. Reason 10: "a carriage return stands only at the line's end", also in a comment
+-- a byte behind the line's end. A carriage return stands only at the line's end, also in a comment
 unfoldable pub behind : Scan → (byte place : ℕ) → Scan
 behind s b at =
     when eqb s.phase 7 && eqb b 13 then returned s at
-    else when leb 9 s.phase && not (eqb b 10) then refused s s.start 10
+    else when leb 9 s.phase && not (eqb b 10) then refused s s.start ReturnInside
     else s
 
 -- a sign, a digit or a letter

@@ -1,11 +1,13 @@
 -- What is known of a line while it is read from the left, one byte at a time.
 use Rattle.std.specs.Prelude.{true, false, [], ◌∷◌, ℕ, ◌+◌, min, set}
 use Rattle.notation.specs.declared.Scan.{Scan}
+use Rattle.notation.specs.declared.Reason.{Reason}
+use Rattle.notation.specs.declared.Reason.TheVariants.{NotACall}
 
 -- the phases: 0 before the call's name, 1 in it, 2 behind the name or a number, 3 in a key, 4 before a number, 5 in a number, 6 behind a minus sign,
 -- 7 the line has ended, 8 the line is refused, 9 behind a carriage return
 
--- nothing is read
+-- nothing is read; the reason counts only where the line is refused
 abbrev pub begin : Scan
 begin =
     record {
@@ -18,7 +20,7 @@ begin =
       minus = false;
       set = 0;
       numbers = 0 ∷ 0 ∷ 0 ∷ 0 ∷ 0 ∷ 0 ∷ 0 ∷ 0 ∷ [];
-      reason = 0;
+      reason = NotACall;
     }
 
 abbrev pub with_phase : Scan → ℕ → Scan
@@ -133,7 +135,7 @@ stored s n =
     }
 
 -- the line is refused at a place, for a reason
-abbrev pub refused : Scan → (place reason : ℕ) → Scan
+abbrev pub refused : Scan → (place : ℕ) → Reason → Scan
 refused s at reason =
     record {
       phase = 8;

@@ -8,7 +8,34 @@ ghost use Rattle.notation.specs.Reading.{letter_of, grown, key_code, tag_named, 
 
 use wire::Call;
 
-// What is known of a line while it is read. The phase and the reason are numbers, as in the definitions of specs/.
+// Why a line is refused.
+#[derive(Clone, Copy, Debug, PartialEq, Eq)]
+pub enum Reason {
+    // not the name of a call
+    NotACall,
+    // not the key that is expected
+    WrongKey,
+    // not a number of the kind that is expected
+    WrongKind,
+    // the number is too large
+    TooLarge,
+    // the call is complete
+    CallComplete,
+    // the line ends before the call does
+    CallUnfinished,
+    // a comma stands directly behind a number of a list
+    CommaApart,
+    // expected a space behind the key
+    NoSpace,
+    // the line ends before a number
+    NumberMissing,
+    // a carriage return stands only at the line's end
+    ReturnInside,
+    // the line is too long; that is for the reader of a text to say, since a line alone may have any length
+    LineTooLong,
+}
+
+// What is known of a line while it is read. The phase is a number, as in the definitions of specs/; the reason counts only where the line is refused.
 #[derive(Clone, Copy)]
 pub struct Scan {
     pub phase: u8,
@@ -20,7 +47,7 @@ pub struct Scan {
     pub minus: bool,
     pub set: u32,
     pub numbers: [u32; 8],
-    pub reason: u8,
+    pub reason: Reason,
 }
 
 // What a line is: nothing, where it is empty or a comment; a call; or refused, at a place counted from 0, for a reason, with the
@@ -31,7 +58,7 @@ pub enum Read {
     Called(Call),
     Refused {
         at: usize,
-        reason: u8,
+        reason: Reason,
         tag: u8,
         item: usize,
     },
@@ -95,7 +122,7 @@ fn begun() -> Scan
         minus: false,
         set: 0,
         numbers: [0, 0, 0, 0, 0, 0, 0, 0],
-        reason: 0,
+        reason: Reason::NotACall,
     }
 }
 
@@ -175,7 +202,7 @@ fn store(s: Scan, n: u32) -> Scan
     }
 }
 
-fn refuse(s: Scan, at: usize, reason: u8) -> Scan
+fn refuse(s: Scan, at: usize, reason: Reason) -> Scan
     ensures { result ≡ refused s at reason }
 {
     Scan {
@@ -288,21 +315,21 @@ fn number(kind: u8, minus: bool, set: u32, value: u64) -> u32
 
 // Why a byte is not expected.
 #[tactic(auto, unfolding(crate::specs::Reading::strangeness))]
-fn strange_reason(s: Scan) -> u8
+fn strange_reason(s: Scan) -> Reason
     ensures { result ≡ strangeness s }
 {
     if s.phase < 2 {
-        1
+        Reason::NotACall
     } else if s.phase == 3 {
-        8
+        Reason::NoSpace
     } else if 4 <= s.phase {
-        3
+        Reason::WrongKind
     } else if forms::kind(s.tag, s.item) == 0 {
-        5
+        Reason::CallComplete
     } else if key(s.tag, s.item) == 0 {
-        7
+        Reason::CommaApart
     } else {
-        2
+        Reason::WrongKey
     }
 }
 
@@ -319,7 +346,7 @@ fn settle_name(s: Scan) -> Scan
     ensures { result ≡ settle_name s }
 {
     match tag_named(s.value) {
-        0 => refuse(s, s.start, 1),
+        0 => refuse(s, s.start, Reason::NotACall),
         tag => with_tag(s, tag),
     }
 }
@@ -332,7 +359,7 @@ fn settle_key(s: Scan) -> Scan
     if s.value == key(s.tag, s.item) {
         to_phase(s, 4)
     } else {
-        refuse(s, s.start, 2)
+        refuse(s, s.start, Reason::WrongKey)
     }
 }
 
@@ -343,13 +370,13 @@ fn settle_number(s: Scan) -> Scan
 {
     let kind = forms::kind(s.tag, s.item);
     if 4 <= kind && s.point != 3 {
-        return refuse(s, s.start, 3);
+        return refuse(s, s.start, Reason::WrongKind);
     }
     let most = limit(kind) + u64::from(s.minus);
     if s.value < most {
         store(s, number(kind, s.minus, s.set, s.value))
     } else {
-        refuse(s, s.start, 4)
+        refuse(s, s.start, Reason::TooLarge)
     }
 }
 
@@ -361,7 +388,7 @@ fn settle_dash(s: Scan) -> Scan
     if forms::kind(s.tag, s.item) == 3 {
         store(s, 0)
     } else {
-        refuse(s, s.start, 3)
+        refuse(s, s.start, Reason::WrongKind)
     }
 }
 
@@ -411,7 +438,7 @@ fn more_digits(s: Scan, d: u64, at: usize) -> Scan
     ensures { result ≡ more_digits s d at }
 {
     if s.point == 3 {
-        refuse(s, at, 3)
+        refuse(s, at, Reason::WrongKind)
     } else {
         with_value(s, grown(10, s.value, d), next_point(s.point))
     }
@@ -467,7 +494,7 @@ fn on_member(s: Scan) -> Scan
     if s.value < 32 {
         with_set(s, sets::with(s.set, low_one(s.value)))
     } else {
-        refuse(s, s.start, 4)
+        refuse(s, s.start, Reason::TooLarge)
     }
 }
 
@@ -491,7 +518,7 @@ fn on_comma(s: Scan, at: usize) -> Scan
     ensures { result ≡ on_comma s at }
 {
     if s.phase == 2 {
-        refuse(s, at, 7)
+        refuse(s, at, Reason::CommaApart)
     } else if s.phase != 5 {
         not_expected(s, at)
     } else if forms::kind(s.tag, s.item) == 3 {
@@ -519,7 +546,15 @@ fn end_at(t: Scan, at: usize) -> Scan
     } else if t.phase == 0 || t.phase == 2 && is_complete(t) {
         to_phase(t, 7)
     } else {
-        refuse(t, at, if t.phase == 4 { 9 } else { 6 })
+        refuse(
+            t,
+            at,
+            if t.phase == 4 {
+                Reason::NumberMissing
+            } else {
+                Reason::CallUnfinished
+            },
+        )
     }
 }
 
@@ -543,7 +578,7 @@ fn on_rest(s: Scan, b: u8, at: usize) -> Scan
     if s.phase == 7 && b == b'\r' {
         return_at(s, at)
     } else if 9 <= s.phase && b != b'\n' {
-        refuse(s, s.start, 10)
+        refuse(s, s.start, Reason::ReturnInside)
     } else {
         s
     }
