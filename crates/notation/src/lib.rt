@@ -35,10 +35,31 @@ pub enum Reason {
     LineTooLong,
 }
 
-// What is known of a line while it is read. The phase is a number, as in the definitions of specs/; the reason counts only where the line is refused.
+// Where the reading of a line has come to.
+#[derive(Clone, Copy, Debug, PartialEq, Eq)]
+pub enum Phase {
+    // before the call's name
+    Before,
+    // in the call's name
+    InName,
+    // behind the name or a number
+    Between,
+    InKey,
+    BeforeNumber,
+    InNumber,
+    BehindMinus,
+    // the line has ended
+    Ended,
+    // the line is refused
+    Refused(Reason),
+    // behind a carriage return
+    BehindReturn,
+}
+
+// What is known of a line while it is read.
 #[derive(Clone, Copy)]
 pub struct Scan {
-    pub phase: u8,
+    pub phase: Phase,
     pub tag: u8,
     pub item: usize,
     pub start: usize,
@@ -47,7 +68,6 @@ pub struct Scan {
     pub minus: bool,
     pub set: u32,
     pub numbers: [u32; 8],
-    pub reason: Reason,
 }
 
 // What a line is: nothing, where it is empty or a comment; a call; or refused, at a place counted from 0, for a reason, with the
@@ -113,7 +133,7 @@ fn begun() -> Scan
     ensures { result ≡ begin }
 {
     Scan {
-        phase: 0,
+        phase: Phase::Before,
         tag: 0,
         item: 0,
         start: 0,
@@ -122,17 +142,16 @@ fn begun() -> Scan
         minus: false,
         set: 0,
         numbers: [0, 0, 0, 0, 0, 0, 0, 0],
-        reason: Reason::NotACall,
     }
 }
 
-fn to_phase(s: Scan, phase: u8) -> Scan
+fn to_phase(s: Scan, phase: Phase) -> Scan
     ensures { result ≡ with_phase s phase }
 {
     Scan { phase, ..s }
 }
 
-fn word(s: Scan, phase: u8, at: usize, letter: u64) -> Scan
+fn word(s: Scan, phase: Phase, at: usize, letter: u64) -> Scan
     ensures { result ≡ in_word s phase at letter }
 {
     Scan {
@@ -146,7 +165,11 @@ fn word(s: Scan, phase: u8, at: usize, letter: u64) -> Scan
 fn with_tag(s: Scan, tag: u8) -> Scan
     ensures { result ≡ named s tag }
 {
-    Scan { phase: 2, tag, ..s }
+    Scan {
+        phase: Phase::Between,
+        tag,
+        ..s
+    }
 }
 
 fn with_value(s: Scan, value: u64, point: u8) -> Scan
@@ -159,7 +182,7 @@ fn with_minus(s: Scan, at: usize) -> Scan
     ensures { result ≡ negative s at }
 {
     Scan {
-        phase: 6,
+        phase: Phase::BehindMinus,
         start: at,
         minus: true,
         ..s
@@ -170,7 +193,7 @@ fn with_set(s: Scan, members: u32) -> Scan
     ensures { result ≡ gathered s members }
 {
     Scan {
-        phase: 4,
+        phase: Phase::BeforeNumber,
         set: members,
         ..s
     }
@@ -192,7 +215,7 @@ fn store(s: Scan, n: u32) -> Scan
     ensures { result ≡ stored s n }
 {
     Scan {
-        phase: 2,
+        phase: Phase::Between,
         item: s.item.saturating_add(1).min(8),
         point: 0,
         minus: false,
@@ -206,9 +229,8 @@ fn refuse(s: Scan, at: usize, reason: Reason) -> Scan
     ensures { result ≡ refused s at reason }
 {
     Scan {
-        phase: 8,
+        phase: Phase::Refused(reason),
         start: at,
-        reason,
         ..s
     }
 }
@@ -318,18 +340,19 @@ fn number(kind: u8, minus: bool, set: u32, value: u64) -> u32
 fn strange_reason(s: Scan) -> Reason
     ensures { result ≡ strangeness s }
 {
-    if s.phase < 2 {
-        Reason::NotACall
-    } else if s.phase == 3 {
-        Reason::NoSpace
-    } else if 4 <= s.phase {
-        Reason::WrongKind
-    } else if forms::kind(s.tag, s.item) == 0 {
-        Reason::CallComplete
-    } else if key(s.tag, s.item) == 0 {
-        Reason::CommaApart
-    } else {
-        Reason::WrongKey
+    match s.phase {
+        Phase::Before | Phase::InName => Reason::NotACall,
+        Phase::InKey => Reason::NoSpace,
+        Phase::Between => {
+            if forms::kind(s.tag, s.item) == 0 {
+                Reason::CallComplete
+            } else if key(s.tag, s.item) == 0 {
+                Reason::CommaApart
+            } else {
+                Reason::WrongKey
+            }
+        }
+        _ => Reason::WrongKind,
     }
 }
 
@@ -357,7 +380,7 @@ fn settle_key(s: Scan) -> Scan
     ensures { result ≡ settle_key s }
 {
     if s.value == key(s.tag, s.item) {
-        to_phase(s, 4)
+        to_phase(s, Phase::BeforeNumber)
     } else {
         refuse(s, s.start, Reason::WrongKey)
     }
@@ -398,10 +421,10 @@ fn settled(s: Scan) -> Scan
     ensures { result ≡ settle s }
 {
     match s.phase {
-        1 => settle_name(s),
-        3 => settle_key(s),
-        5 => settle_number(s),
-        6 => settle_dash(s),
+        Phase::InName => settle_name(s),
+        Phase::InKey => settle_key(s),
+        Phase::InNumber => settle_number(s),
+        Phase::BehindMinus => settle_dash(s),
         _ => s,
     }
 }
@@ -412,14 +435,11 @@ fn on_letter(s: Scan, l: u64, at: usize) -> Scan
     requires { l ≤ 31 }
     ensures { result ≡ on_letter s l at }
 {
-    if s.phase == 0 {
-        word(s, 1, at, l)
-    } else if s.phase == 1 || s.phase == 3 {
-        with_value(s, grown(32, s.value, l), s.point)
-    } else if s.phase == 2 && key(s.tag, s.item) != 0 {
-        word(s, 3, at, l)
-    } else {
-        not_expected(s, at)
+    match s.phase {
+        Phase::Before => word(s, Phase::InName, at, l),
+        Phase::InName | Phase::InKey => with_value(s, grown(32, s.value, l), s.point),
+        Phase::Between if key(s.tag, s.item) != 0 => word(s, Phase::InKey, at, l),
+        _ => not_expected(s, at),
     }
 }
 
@@ -450,14 +470,16 @@ fn on_digit(s: Scan, d: u64, at: usize) -> Scan
     requires { d ≤ 9 }
     ensures { result ≡ on_digit s d at }
 {
-    if s.phase == 4 {
-        word(s, 5, at, d)
-    } else if s.phase == 5 {
-        more_digits(s, d, at)
-    } else if s.phase == 6 && forms::kind(s.tag, s.item) == 5 {
-        word(s, 5, s.start, d)
-    } else {
-        not_expected(s, at)
+    match s.phase {
+        Phase::BeforeNumber => word(s, Phase::InNumber, at, d),
+        Phase::InNumber => more_digits(s, d, at),
+        Phase::BehindMinus if forms::kind(s.tag, s.item) == 5 => word(
+            s,
+            Phase::InNumber,
+            s.start,
+            d,
+        ),
+        _ => not_expected(s, at),
     }
 }
 
@@ -467,7 +489,7 @@ fn on_minus(s: Scan, at: usize) -> Scan
     ensures { result ≡ on_minus s at }
 {
     let kind = forms::kind(s.tag, s.item);
-    if s.phase == 4 && (kind == 5 || kind == 3 && s.set == 0) {
+    if matches!(s.phase, Phase::BeforeNumber) && (kind == 5 || kind == 3 && s.set == 0) {
         with_minus(s, at)
     } else {
         not_expected(s, at)
@@ -479,7 +501,7 @@ fn on_minus(s: Scan, at: usize) -> Scan
 fn on_point(s: Scan, at: usize) -> Scan
     ensures { result ≡ on_point s at }
 {
-    if s.phase == 5 && s.point == 0 && 4 <= forms::kind(s.tag, s.item) {
+    if matches!(s.phase, Phase::InNumber) && s.point == 0 && 4 <= forms::kind(s.tag, s.item) {
         with_value(s, s.value, 1)
     } else {
         not_expected(s, at)
@@ -503,12 +525,13 @@ fn on_member(s: Scan) -> Scan
 fn on_list(t: Scan, at: usize) -> Scan
     ensures { result ≡ on_list t at }
 {
-    if t.phase == 8 {
-        t
-    } else if t.phase == 2 && key(t.tag, t.item) == 0 && forms::kind(t.tag, t.item) != 0 {
-        to_phase(t, 4)
-    } else {
-        not_expected(t, at)
+    match t.phase {
+        Phase::Refused(_) => t,
+        Phase::Between if key(t.tag, t.item) == 0 && forms::kind(t.tag, t.item) != 0 => to_phase(
+            t,
+            Phase::BeforeNumber,
+        ),
+        _ => not_expected(t, at),
     }
 }
 
@@ -517,14 +540,11 @@ fn on_list(t: Scan, at: usize) -> Scan
 fn on_comma(s: Scan, at: usize) -> Scan
     ensures { result ≡ on_comma s at }
 {
-    if s.phase == 2 {
-        refuse(s, at, Reason::CommaApart)
-    } else if s.phase != 5 {
-        not_expected(s, at)
-    } else if forms::kind(s.tag, s.item) == 3 {
-        on_member(s)
-    } else {
-        on_list(settled(s), at)
+    match s.phase {
+        Phase::Between => refuse(s, at, Reason::CommaApart),
+        Phase::InNumber if forms::kind(s.tag, s.item) == 3 => on_member(s),
+        Phase::InNumber => on_list(settled(s), at),
+        _ => not_expected(s, at),
     }
 }
 
@@ -541,20 +561,12 @@ fn is_complete(t: Scan) -> bool
 fn end_at(t: Scan, at: usize) -> Scan
     ensures { result ≡ ended t at }
 {
-    if t.phase == 8 {
-        t
-    } else if t.phase == 0 || t.phase == 2 && is_complete(t) {
-        to_phase(t, 7)
-    } else {
-        refuse(
-            t,
-            at,
-            if t.phase == 4 {
-                Reason::NumberMissing
-            } else {
-                Reason::CallUnfinished
-            },
-        )
+    match t.phase {
+        Phase::Refused(_) => t,
+        Phase::Before => to_phase(t, Phase::Ended),
+        Phase::Between if is_complete(t) => to_phase(t, Phase::Ended),
+        Phase::BeforeNumber => refuse(t, at, Reason::NumberMissing),
+        _ => refuse(t, at, Reason::CallUnfinished),
     }
 }
 
@@ -563,10 +575,9 @@ fn end_at(t: Scan, at: usize) -> Scan
 fn return_at(t: Scan, at: usize) -> Scan
     ensures { result ≡ returned t at }
 {
-    if t.phase == 8 {
-        t
-    } else {
-        word(t, 9, at, t.value)
+    match t.phase {
+        Phase::Refused(_) => t,
+        _ => word(t, Phase::BehindReturn, at, t.value),
     }
 }
 
@@ -575,9 +586,9 @@ fn return_at(t: Scan, at: usize) -> Scan
 fn on_rest(s: Scan, b: u8, at: usize) -> Scan
     ensures { result ≡ behind s b at }
 {
-    if s.phase == 7 && b == b'\r' {
+    if matches!(s.phase, Phase::Ended) && b == b'\r' {
         return_at(s, at)
-    } else if 9 <= s.phase && b != b'\n' {
+    } else if matches!(s.phase, Phase::BehindReturn) && b != b'\n' {
         refuse(s, s.start, Reason::ReturnInside)
     } else {
         s
@@ -628,10 +639,9 @@ fn on_byte(s: Scan, b: u8, at: usize) -> Scan
 fn stepped(s: Scan, b: u8, at: usize) -> Scan
     ensures { result ≡ step s b at }
 {
-    if 7 <= s.phase {
-        on_rest(s, b, at)
-    } else {
-        on_byte(s, b, at)
+    match s.phase {
+        Phase::Ended | Phase::Refused(_) | Phase::BehindReturn => on_rest(s, b, at),
+        _ => on_byte(s, b, at),
     }
 }
 
@@ -747,17 +757,15 @@ fn call_of(tag: u8, count: usize, n: [u32; 8]) -> Call
 fn outcome_of(s: Scan) -> Read
     ensures { result ≡ outcome s }
 {
-    if s.phase == 8 {
-        Read::Refused {
+    match s.phase {
+        Phase::Refused(reason) => Read::Refused {
             at: s.start,
-            reason: s.reason,
+            reason,
             tag: s.tag,
             item: s.item,
-        }
-    } else if s.tag == 0 {
-        Read::Nothing
-    } else {
-        Read::Called(call_of(s.tag, s.item, s.numbers))
+        },
+        _ if s.tag == 0 => Read::Nothing,
+        _ => Read::Called(call_of(s.tag, s.item, s.numbers)),
     }
 }
 
