@@ -15,6 +15,8 @@ use Rattle.forms.specs.Forms.{kind_of}
 use Rattle.spelling.specs.Text.{money_text, number_text}
 use Rattle.spelling.proofs.Texts.{number-low, number-money, number-price, price-low, price-mid, price-high}
 use Rattle.notation.specs.declared.Scan.{Scan}
+use Rattle.notation.specs.declared.Phase.TheVariants.{Between, BeforeNumber, InNumber, BehindMinus}
+use Rattle.notation.specs.Scans.{is_over}
 use Rattle.notation.specs.Reading.{limit_of, number_of, settle, settle_number, next_point, more_digits, on_digit, on_minus, on_point, mark_read, byte_read, step, scan}
 use Rattle.notation.proofs.Codes.{grown-short, number-minus, number-plus, number-plain}
 
@@ -23,22 +25,22 @@ use Rattle.notation.proofs.Codes.{grown-short, number-minus, number-plus, number
 -- behind the name or a number
 abbrev pub mid : (tag item start value : ℕ) → List ℕ → Scan
 mid tag item start value ns =
-    record { phase = 2; tag = tag; item = item; start = start; value = value; point = 0; minus = false; set = 0; numbers = ns; reason = 0 }
+    record { phase = Between; tag = tag; item = item; start = start; value = value; point = 0; minus = false; set = 0; numbers = ns }
 
 -- before a number; of a set some members may be read
 abbrev pub bef : (tag item start value members : ℕ) → List ℕ → Scan
 bef tag item start value members ns =
-    record { phase = 4; tag = tag; item = item; start = start; value = value; point = 0; minus = false; set = members; numbers = ns; reason = 0 }
+    record { phase = BeforeNumber; tag = tag; item = item; start = start; value = value; point = 0; minus = false; set = members; numbers = ns }
 
 -- behind a minus sign
 abbrev pub neg : (tag item start value : ℕ) → List ℕ → Scan
 neg tag item start value ns =
-    record { phase = 6; tag = tag; item = item; start = start; value = value; point = 0; minus = true; set = 0; numbers = ns; reason = 0 }
+    record { phase = BehindMinus; tag = tag; item = item; start = start; value = value; point = 0; minus = true; set = 0; numbers = ns }
 
 -- in a number
 abbrev pub num : (tag item start value point : ℕ) (minus : Bool) (members : ℕ) → List ℕ → Scan
 num tag item start value point minus members ns =
-    record { phase = 5; tag = tag; item = item; start = start; value = value; point = point; minus = minus; set = members; numbers = ns; reason = 0 }
+    record { phase = InNumber; tag = tag; item = item; start = start; value = value; point = point; minus = minus; set = members; numbers = ns }
 
 pub scan-append : (s : Scan) (i : ℕ) (xs ys : List ℕ) → scan s i (xs ++ ys) ≡ scan (scan s i xs) (i + length xs) ys
 unfolding scan
@@ -144,11 +146,11 @@ pub record Settles (s : Scan) (tag item : ℕ) (ns : List ℕ) : Type 0 where
   pub start : ℕ
   pub value : ℕ
   pub is : settle s ≡ mid tag item start value ns
-  pub active : leb 7 s.phase ≡ false
+  pub active : is_over s.phase ≡ false
 
 -- in a number, and in no member of a set
 abbrev pub Plain : Scan → Type 0
-Plain s = (s.phase ≡ 5) × (eqb (kind_of s.tag s.item) 3 ≡ false)
+Plain s = (s.phase ≡ InNumber) × (eqb (kind_of s.tag s.item) 3 ≡ false)
 
 -- before number `item`
 pub record Before (s : Scan) (tag item : ℕ) (ns : List ℕ) : Type 0 where

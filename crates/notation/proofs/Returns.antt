@@ -1,59 +1,111 @@
 -- A carriage return stands only at a line's end: a line with another byte behind one is refused. Assumes nothing.
-use mathlib.Core.Path.{◌≡◌, ap, ◌∙◌}
-use mathlib.Core.Bool.{true}
+use mathlib.Core.Path.{◌≡◌, refl, ap, ◌∙◌}
+use mathlib.Core.Bool.{Bool, true, false, false≢true}
 use mathlib.Core.List.{List, [], ◌∷◌, ◌++◌}
-use Prim.Native.Nat.{ℕ, suc, ◌+◌, ◌≤◌}
-use native.Mathlib.Omega.{arith}
-use lib.Dec.{eqb, leb}
+use Prim.Native.Nat.{ℕ, suc, ◌+◌}
 use lib.ListN.{length}
-use borrow.Author.Tests.{le-leb, lt-leb, leb-true, leb-false, eq-eqb, ne_eqb, eqb-true, eqb-false}
+use borrow.Author.Tests.{ne_eqb}
 use Rattle.lists.proofs.Bools.{cases}
 use Rattle.notation.specs.declared.Scan.{Scan}
-use Rattle.notation.specs.Scans.{begin}
-use Rattle.notation.specs.Reading.{ended, settle, returned, behind, byte_read, step, scan, outcome, read_line, is_refused}
+use Rattle.notation.specs.declared.Phase.{Phase}
+use Rattle.notation.specs.declared.Phase.TheVariants.{Before, InName, Between, InKey, BeforeNumber, InNumber, BehindMinus, Ended, Refused, BehindReturn}
+use Rattle.notation.specs.Scans.{was_refused, begin}
+use Rattle.notation.specs.Reading.{returned, behind, byte_read, step, scan, outcome, read_line, is_refused}
 use Rattle.notation.proofs.Numbers.{scan-append}
 
-returned-late : (t : Scan) (i : ℕ) → 8 ≤ (returned t i).phase
+-- refused, or behind a carriage return
+abbrev is_late : Phase → Bool
+is_late (Refused reason) = true
+is_late BehindReturn = true
+is_late _ = false
+
+refused-late : (p : Phase) → was_refused p ≡ true → is_late p ≡ true
+refused-late Before e = absurd (false≢true e)
+refused-late InName e = absurd (false≢true e)
+refused-late Between e = absurd (false≢true e)
+refused-late InKey e = absurd (false≢true e)
+refused-late BeforeNumber e = absurd (false≢true e)
+refused-late InNumber e = absurd (false≢true e)
+refused-late BehindMinus e = absurd (false≢true e)
+refused-late Ended e = absurd (false≢true e)
+refused-late (Refused r) e = refl
+refused-late BehindReturn e = absurd (false≢true e)
+
+returned-late : (t : Scan) (i : ℕ) → is_late (returned t i).phase ≡ true
 unfolding returned
-returned-late t i = cases (eqb t.phase 8) _ (λ e. rw e (omega (arith, eqb-true t.phase 8 e))) (λ e. rw e (omega arith))
+returned-late t i = cases (was_refused t.phase) _ (λ e. rw e (refused-late t.phase e)) (λ e. rw e refl)
 
 -- behind a carriage return
-return-late : (t : Scan) (i : ℕ) → 8 ≤ (step t 13 i).phase
+return_late_in : (p : Phase) (t : Scan) (i : ℕ) → t.phase ≡ p → is_late (step t 13 i).phase ≡ true
 unfolding step byte_read behind
-return-late t i =
-    cases (leb 7 t.phase) _
-    (λ e.
-    cases (eqb t.phase 7) _
-    (λ f. rw (e, f) (returned-late t i))
-    (λ f.
-    cases (leb 9 t.phase) _
-    (λ g. rw (e, f, g) (omega arith))
-    (λ g. rw (e, f, g) (omega (arith, leb-true 7 t.phase e, eqb-false t.phase 7 f)))))
-    (λ e. rw e (returned-late (ended (settle t) i) i))
+return_late_in Before t i e = rw e (returned-late _ i)
+return_late_in InName t i e = rw e (returned-late _ i)
+return_late_in Between t i e = rw e (returned-late _ i)
+return_late_in InKey t i e = rw e (returned-late _ i)
+return_late_in BeforeNumber t i e = rw e (returned-late _ i)
+return_late_in InNumber t i e = rw e (returned-late _ i)
+return_late_in BehindMinus t i e = rw e (returned-late _ i)
+return_late_in Ended t i e = rw e (returned-late _ i)
+return_late_in (Refused r) t i e = rw e refl
+return_late_in BehindReturn t i e = rw e refl
+
+return-late : (t : Scan) (i : ℕ) → is_late (step t 13 i).phase ≡ true
+return-late t i = return_late_in t.phase t i refl
 
 -- a byte behind it
-late-refused : (s : Scan) (b i : ℕ) → 8 ≤ s.phase → (b ≡ 10 → ⊥) → (step s b i).phase ≡ 8
+late_refused_in : (p : Phase) (s : Scan) (b i : ℕ) → s.phase ≡ p → is_late p ≡ true → (b ≡ 10 → ⊥) → was_refused (step s b i).phase ≡ true
 unfolding step behind
-late-refused s b i h n =
-    cases (leb 9 s.phase) _
-    (λ g. rw (le-leb 7 s.phase (omega arith), ne_eqb s.phase 7 (λ z. omega arith), g, ne_eqb b 10 n))
-    (λ g.
-    let e : s.phase ≡ 8 = omega (arith, leb-false 9 s.phase g) in
-    rw (le-leb 7 s.phase (omega arith), ne_eqb s.phase 7 (λ z. omega arith), g) e)
+late_refused_in Before s b i e h n = absurd (false≢true h)
+late_refused_in InName s b i e h n = absurd (false≢true h)
+late_refused_in Between s b i e h n = absurd (false≢true h)
+late_refused_in InKey s b i e h n = absurd (false≢true h)
+late_refused_in BeforeNumber s b i e h n = absurd (false≢true h)
+late_refused_in InNumber s b i e h n = absurd (false≢true h)
+late_refused_in BehindMinus s b i e h n = absurd (false≢true h)
+late_refused_in Ended s b i e h n = absurd (false≢true h)
+late_refused_in (Refused r) s b i e h n = rw e refl
+late_refused_in BehindReturn s b i e h n = rw (e, ne_eqb b 10 n) refl
+
+late-refused : (s : Scan) (b i : ℕ) → is_late s.phase ≡ true → (b ≡ 10 → ⊥) → was_refused (step s b i).phase ≡ true
+late-refused s b i h n = late_refused_in s.phase s b i refl h n
 
 -- a line that is refused stays so
-stays-refused : (s : Scan) (b i : ℕ) → s.phase ≡ 8 → (step s b i).phase ≡ 8
+stays_refused_in : (p : Phase) (s : Scan) (b i : ℕ) → s.phase ≡ p → was_refused p ≡ true → was_refused (step s b i).phase ≡ true
 unfolding step behind
-stays-refused s b i e = rw (le-leb 7 s.phase (omega arith), ne_eqb s.phase 7 (λ z. omega arith), lt-leb 9 s.phase (omega arith)) e
+stays_refused_in Before s b i e h = absurd (false≢true h)
+stays_refused_in InName s b i e h = absurd (false≢true h)
+stays_refused_in Between s b i e h = absurd (false≢true h)
+stays_refused_in InKey s b i e h = absurd (false≢true h)
+stays_refused_in BeforeNumber s b i e h = absurd (false≢true h)
+stays_refused_in InNumber s b i e h = absurd (false≢true h)
+stays_refused_in BehindMinus s b i e h = absurd (false≢true h)
+stays_refused_in Ended s b i e h = absurd (false≢true h)
+stays_refused_in (Refused r) s b i e h = rw e refl
+stays_refused_in BehindReturn s b i e h = absurd (false≢true h)
 
-scan-refused : (s : Scan) (i : ℕ) (line : List ℕ) → s.phase ≡ 8 → (scan s i line).phase ≡ 8
+stays-refused : (s : Scan) (b i : ℕ) → was_refused s.phase ≡ true → was_refused (step s b i).phase ≡ true
+stays-refused s b i h = stays_refused_in s.phase s b i refl h
+
+scan-refused : (s : Scan) (i : ℕ) (line : List ℕ) → was_refused s.phase ≡ true → was_refused (scan s i line).phase ≡ true
 unfolding scan
 scan-refused s i [] e = e
 scan-refused s i (b ∷ line) e = scan-refused (step s b i) (suc i) line (stays-refused s b i e)
 
-outcome-refused : (s : Scan) → s.phase ≡ 8 → is_refused (outcome s) ≡ true
+outcome_refused_in : (p : Phase) (s : Scan) → s.phase ≡ p → was_refused p ≡ true → is_refused (outcome s) ≡ true
 unfolding outcome is_refused
-outcome-refused s e = rw (eq-eqb s.phase 8 e)
+outcome_refused_in Before s e h = absurd (false≢true h)
+outcome_refused_in InName s e h = absurd (false≢true h)
+outcome_refused_in Between s e h = absurd (false≢true h)
+outcome_refused_in InKey s e h = absurd (false≢true h)
+outcome_refused_in BeforeNumber s e h = absurd (false≢true h)
+outcome_refused_in InNumber s e h = absurd (false≢true h)
+outcome_refused_in BehindMinus s e h = absurd (false≢true h)
+outcome_refused_in Ended s e h = absurd (false≢true h)
+outcome_refused_in (Refused r) s e h = rw e refl
+outcome_refused_in BehindReturn s e h = absurd (false≢true h)
+
+outcome-refused : (s : Scan) → was_refused s.phase ≡ true → is_refused (outcome s) ≡ true
+outcome-refused s h = outcome_refused_in s.phase s refl h
 
 pub return_refused : (before : List ℕ) (b : ℕ) (after : List ℕ) → (b ≡ 10 → ⊥) → is_refused (read_line (before ++ (13 ∷ b ∷ after))) ≡ true
 unfolding read_line scan
@@ -62,7 +114,7 @@ return_refused before b after n =
     let t = scan begin 0 before in
     let i = 0 + length before in
     let s = step (step t 13 i) b (suc i) in
-    let e : (scan begin 0 line).phase ≡ 8 =
-    ap (λ (u : Scan). u.phase) (scan-append begin 0 before (13 ∷ b ∷ after))
+    let e : was_refused (scan begin 0 line).phase ≡ true =
+    ap (λ (u : Scan). was_refused u.phase) (scan-append begin 0 before (13 ∷ b ∷ after))
     ∙ scan-refused s (suc (suc i)) after (late-refused (step t 13 i) b (suc i) (return-late t i) n) in
     outcome-refused (step (scan begin 0 line) 10 (length line)) (stays-refused (scan begin 0 line) 10 (length line) e)

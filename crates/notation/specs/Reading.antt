@@ -14,9 +14,13 @@ use Rattle.wire.specs.declared.Call.TheVariants.{Head as HeadCall, Pool, Member,
 use Rattle.forms.specs.Forms.{kind_of}
 use Rattle.spelling.specs.Words.{key_of, name_of}
 use Rattle.notation.specs.declared.Scan.{Scan}
+use Rattle.notation.specs.declared.Reason.{Reason}
+use Rattle.notation.specs.declared.Reason.TheVariants.{NotACall, WrongKey, WrongKind, TooLarge, CallComplete, CallUnfinished, CommaApart, NoSpace, NumberMissing, ReturnInside}
+use Rattle.notation.specs.declared.Phase.{Phase}
+use Rattle.notation.specs.declared.Phase.TheVariants.{Before, InName, Between, InKey, BeforeNumber, InNumber, BehindMinus, Ended, Refused as RefusedFor, BehindReturn}
 use Rattle.notation.specs.declared.Read.{Read}
 use Rattle.notation.specs.declared.Read.TheVariants.{Nothing, Called, Refused}
-use Rattle.notation.specs.Scans.{begin, with_phase, in_word, named, longer, negative, gathered, stored, refused}
+use Rattle.notation.specs.Scans.{before_name, in_name, is_between, in_key, before_number, in_number, behind_minus, has_ended, was_refused, behind_return, is_over, begin, with_phase, in_word, named, longer, negative, gathered, stored, refused}
 
 -- a letter by its place in the alphabet, from 1 on; 0 is no letter
 unfoldable pub letter_of : ℕ → ℕ
@@ -55,16 +59,19 @@ number_of kind minus set value =
 
 -- ---- what is not expected
 
--- reason 1: "not the name of a call"; 8: "expected a space behind the key"; 3: "not a number of the kind that is expected"; 5: "the call is complete";
--- 7: "a comma stands directly behind a number of a list"; 2: "not the key that is expected"
-unfoldable pub strangeness : Scan → ℕ
-strangeness s =
-    when ltb s.phase 2 then 1
-    else when eqb s.phase 3 then 8
-    else when leb 4 s.phase then 3
-    else when eqb (kind_of s.tag s.item) 0 then 5
-    else when eqb (key_code s.tag s.item) 0 then 7
-    else 2
+-- why a byte is not expected where the reading has come to
+abbrev pub strangeness_in : Phase → (tag item : ℕ) → Reason
+strangeness_in Before tag i = NotACall
+strangeness_in InName tag i = NotACall
+strangeness_in InKey tag i = NoSpace
+strangeness_in Between tag i =
+    when eqb (kind_of tag i) 0 then CallComplete
+    else when eqb (key_code tag i) 0 then CommaApart
+    else WrongKey
+strangeness_in _ tag i = WrongKind
+
+unfoldable pub strangeness : Scan → Reason
+strangeness s = strangeness_in s.phase s.tag s.item
 
 abbrev pub strange : Scan → (place : ℕ) → Scan
 strange s at = refused s at (strangeness s)
@@ -72,38 +79,40 @@ strange s at = refused s at (strangeness s)
 -- ---- the end of a word or of a number
 
 unfoldable pub settle_name : Scan → Scan
-settle_name s = when eqb (tag_named s.value) 0 then refused s s.start 1 else named s (tag_named s.value)
+settle_name s = when eqb (tag_named s.value) 0 then refused s s.start NotACall else named s (tag_named s.value)
 
 unfoldable pub settle_key : Scan → Scan
-settle_key s = when eqb s.value (key_code s.tag s.item) then with_phase s 4 else refused s s.start 2
+settle_key s = when eqb s.value (key_code s.tag s.item) then with_phase s BeforeNumber else refused s s.start WrongKey
 
--- money has two digits behind its point; reason 4: "the number is too large"
+-- money has two digits behind its point
 unfoldable pub settle_number : Scan → Scan
 settle_number s =
-    when leb 4 (kind_of s.tag s.item) && not (eqb s.point 3) then refused s s.start 3
+    when leb 4 (kind_of s.tag s.item) && not (eqb s.point 3) then refused s s.start WrongKind
     else when ltb s.value (limit_of (kind_of s.tag s.item) + one_if s.minus)
     then stored s (number_of (kind_of s.tag s.item) s.minus s.set s.value)
-    else refused s s.start 4
+    else refused s s.start TooLarge
 
 -- a dash alone is the empty set
 unfoldable pub settle_dash : Scan → Scan
-settle_dash s = when eqb (kind_of s.tag s.item) 3 then stored s 0 else refused s s.start 3
+settle_dash s = when eqb (kind_of s.tag s.item) 3 then stored s 0 else refused s s.start WrongKind
+
+abbrev pub settle_in : Phase → Scan → Scan
+settle_in InName s = settle_name s
+settle_in InKey s = settle_key s
+settle_in InNumber s = settle_number s
+settle_in BehindMinus s = settle_dash s
+settle_in _ s = s
 
 unfoldable pub settle : Scan → Scan
-settle s =
-    when eqb s.phase 1 then settle_name s
-    else when eqb s.phase 3 then settle_key s
-    else when eqb s.phase 5 then settle_number s
-    else when eqb s.phase 6 then settle_dash s
-    else s
+settle s = settle_in s.phase s
 
 -- ---- a byte, at a place of the line
 
 unfoldable pub on_letter : Scan → (letter place : ℕ) → Scan
 on_letter s l at =
-    when eqb s.phase 0 then in_word s 1 at l
-    else when eqb s.phase 1 || eqb s.phase 3 then longer s (grown 32 s.value l) s.point
-    else when eqb s.phase 2 then (when eqb (key_code s.tag s.item) 0 then strange s at else in_word s 3 at l)
+    when before_name s.phase then in_word s InName at l
+    else when in_name s.phase || in_key s.phase then longer s (grown 32 s.value l) s.point
+    else when is_between s.phase then (when eqb (key_code s.tag s.item) 0 then strange s at else in_word s InKey at l)
     else strange s at
 
 -- the digits behind the point, 1 more than there are; 0 where there is no point
@@ -111,40 +120,40 @@ unfoldable pub next_point : ℕ → ℕ
 next_point p = when eqb p 0 then 0 else min (p + 1) 3
 
 unfoldable pub more_digits : Scan → (digit place : ℕ) → Scan
-more_digits s d at = when eqb s.point 3 then refused s at 3 else longer s (grown 10 s.value d) (next_point s.point)
+more_digits s d at = when eqb s.point 3 then refused s at WrongKind else longer s (grown 10 s.value d) (next_point s.point)
 
 unfoldable pub on_digit : Scan → (digit place : ℕ) → Scan
 on_digit s d at =
-    when eqb s.phase 4 then in_word s 5 at d
-    else when eqb s.phase 5 then more_digits s d at
-    else when eqb s.phase 6 && eqb (kind_of s.tag s.item) 5 then in_word s 5 s.start d
+    when before_number s.phase then in_word s InNumber at d
+    else when in_number s.phase then more_digits s d at
+    else when behind_minus s.phase && eqb (kind_of s.tag s.item) 5 then in_word s InNumber s.start d
     else strange s at
 
 unfoldable pub on_minus : Scan → (place : ℕ) → Scan
 on_minus s at =
     let kind = kind_of s.tag s.item in
-    when eqb s.phase 4 && (eqb kind 5 || (eqb kind 3 && eqb s.set 0)) then negative s at else strange s at
+    when before_number s.phase && (eqb kind 5 || (eqb kind 3 && eqb s.set 0)) then negative s at else strange s at
 
 unfoldable pub on_point : Scan → (place : ℕ) → Scan
 on_point s at =
-    when eqb s.phase 5 && (eqb s.point 0 && leb 4 (kind_of s.tag s.item)) then longer s s.value 1 else strange s at
+    when in_number s.phase && (eqb s.point 0 && leb 4 (kind_of s.tag s.item)) then longer s s.value 1 else strange s at
 
 -- a comma behind a member of a set
 unfoldable pub on_member : Scan → Scan
-on_member s = when ltb s.value 32 then gathered s (with_member s.set (s.value % 2 ^ 8)) else refused s s.start 4
+on_member s = when ltb s.value 32 then gathered s (with_member s.set (s.value % 2 ^ 8)) else refused s s.start TooLarge
 
 -- a comma behind a number, where the next has no key
 unfoldable pub on_list : Scan → (place : ℕ) → Scan
 on_list t at =
-    when eqb t.phase 8 then t
-    else when eqb t.phase 2 && (eqb (key_code t.tag t.item) 0 && not (eqb (kind_of t.tag t.item) 0)) then with_phase t 4
+    when was_refused t.phase then t
+    else when is_between t.phase && (eqb (key_code t.tag t.item) 0 && not (eqb (kind_of t.tag t.item) 0)) then with_phase t BeforeNumber
     else strange t at
 
 -- no space stands before a comma
 unfoldable pub on_comma : Scan → (place : ℕ) → Scan
 on_comma s at =
-    when eqb s.phase 2 then refused s at 7
-    else when not (eqb s.phase 5) then strange s at
+    when is_between s.phase then refused s at CommaApart
+    else when not (in_number s.phase) then strange s at
     else when eqb (kind_of s.tag s.item) 3 then on_member s
     else on_list (settle s) at
 
@@ -152,22 +161,22 @@ on_comma s at =
 unfoldable pub complete : Scan → Bool
 complete t = eqb (kind_of t.tag t.item) 0 || (eqb t.tag 4 && ltb 0 t.item)
 
--- the line's end. Reason 6: "the line ends before the call does"; 9: "the line ends before a number"
+-- the line's end
 unfoldable pub ended : Scan → (place : ℕ) → Scan
 ended t at =
-    when eqb t.phase 8 then t
-    else when eqb t.phase 0 || (eqb t.phase 2 && complete t) then with_phase t 7
-    else refused t at (when eqb t.phase 4 then 9 else 6)
+    when was_refused t.phase then t
+    else when before_name t.phase || (is_between t.phase && complete t) then with_phase t Ended
+    else refused t at (when before_number t.phase then NumberMissing else CallUnfinished)
 
 -- a carriage return, behind a line that has ended
 unfoldable pub returned : Scan → (place : ℕ) → Scan
-returned t at = when eqb t.phase 8 then t else in_word t 9 at t.value
+returned t at = when was_refused t.phase then t else in_word t BehindReturn at t.value
 
--- a byte behind the line's end. Reason 10: "a carriage return stands only at the line's end", also in a comment
+-- a byte behind the line's end. A carriage return stands only at the line's end, also in a comment
 unfoldable pub behind : Scan → (byte place : ℕ) → Scan
 behind s b at =
-    when eqb s.phase 7 && eqb b 13 then returned s at
-    else when leb 9 s.phase && not (eqb b 10) then refused s s.start 10
+    when has_ended s.phase && eqb b 13 then returned s at
+    else when behind_return s.phase && not (eqb b 10) then refused s s.start ReturnInside
     else s
 
 -- a sign, a digit or a letter
@@ -189,7 +198,7 @@ byte_read s b at =
     else mark_read s b at
 
 unfoldable pub step : Scan → (byte place : ℕ) → Scan
-step s b at = when leb 7 s.phase then behind s b at else byte_read s b at
+step s b at = when is_over s.phase then behind s b at else byte_read s b at
 
 unfoldable pub scan : Scan → ℕ → List ℕ → Scan
 scan s at [] = s
@@ -228,11 +237,12 @@ call_of tag count ns =
     else when eqb tag 15 then Withdraw (get_or ns 0 0 % 2 ^ 8) (get_or ns 1 0 % 2 ^ 16)
     else Unknown
 
+abbrev pub outcome_in : Phase → Scan → Read
+outcome_in (RefusedFor reason) s = Refused s.start reason s.tag s.item
+outcome_in _ s = when eqb s.tag 0 then Nothing else Called (call_of s.tag s.item s.numbers)
+
 unfoldable pub outcome : Scan → Read
-outcome s =
-    when eqb s.phase 8 then Refused s.start s.reason s.tag s.item
-    else when eqb s.tag 0 then Nothing
-    else Called (call_of s.tag s.item s.numbers)
+outcome s = outcome_in s.phase s
 
 -- a line, with or without its end
 unfoldable pub read_line : List ℕ → Read

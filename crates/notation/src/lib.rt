@@ -8,10 +8,58 @@ ghost use Rattle.notation.specs.Reading.{letter_of, grown, key_code, tag_named, 
 
 use wire::Call;
 
-// What is known of a line while it is read. The phase and the reason are numbers, as in the definitions of specs/.
+// Why a line is refused.
+#[derive(Clone, Copy, Debug, PartialEq, Eq)]
+pub enum Reason {
+    // not the name of a call
+    NotACall,
+    // not the key that is expected
+    WrongKey,
+    // not a number of the kind that is expected
+    WrongKind,
+    // the number is too large
+    TooLarge,
+    // the call is complete
+    CallComplete,
+    // the line ends before the call does
+    CallUnfinished,
+    // a comma stands directly behind a number of a list
+    CommaApart,
+    // expected a space behind the key
+    NoSpace,
+    // the line ends before a number
+    NumberMissing,
+    // a carriage return stands only at the line's end
+    ReturnInside,
+    // the line is too long; that is for the reader of a text to say, since a line alone may have any length
+    LineTooLong,
+}
+
+// Where the reading of a line has come to.
+#[derive(Clone, Copy, Debug, PartialEq, Eq)]
+pub enum Phase {
+    // before the call's name
+    Before,
+    // in the call's name
+    InName,
+    // behind the name or a number
+    Between,
+    InKey,
+    BeforeNumber,
+    InNumber,
+    BehindMinus,
+    // the line has ended
+    Ended,
+    // the line is refused
+    Refused(Reason),
+    // behind a carriage return
+    BehindReturn,
+}
+
+// What is known of a line while it is read.
 #[derive(Clone, Copy)]
 pub struct Scan {
-    pub phase: u8,
+    pub phase: Phase,
     pub tag: u8,
     pub item: usize,
     pub start: usize,
@@ -20,7 +68,6 @@ pub struct Scan {
     pub minus: bool,
     pub set: u32,
     pub numbers: [u32; 8],
-    pub reason: u8,
 }
 
 // What a line is: nothing, where it is empty or a comment; a call; or refused, at a place counted from 0, for a reason, with the
@@ -31,7 +78,7 @@ pub enum Read {
     Called(Call),
     Refused {
         at: usize,
-        reason: u8,
+        reason: Reason,
         tag: u8,
         item: usize,
     },
@@ -86,7 +133,7 @@ fn begun() -> Scan
     ensures { result ≡ begin }
 {
     Scan {
-        phase: 0,
+        phase: Phase::Before,
         tag: 0,
         item: 0,
         start: 0,
@@ -95,17 +142,16 @@ fn begun() -> Scan
         minus: false,
         set: 0,
         numbers: [0, 0, 0, 0, 0, 0, 0, 0],
-        reason: 0,
     }
 }
 
-fn to_phase(s: Scan, phase: u8) -> Scan
+fn to_phase(s: Scan, phase: Phase) -> Scan
     ensures { result ≡ with_phase s phase }
 {
     Scan { phase, ..s }
 }
 
-fn word(s: Scan, phase: u8, at: usize, letter: u64) -> Scan
+fn word(s: Scan, phase: Phase, at: usize, letter: u64) -> Scan
     ensures { result ≡ in_word s phase at letter }
 {
     Scan {
@@ -119,7 +165,11 @@ fn word(s: Scan, phase: u8, at: usize, letter: u64) -> Scan
 fn with_tag(s: Scan, tag: u8) -> Scan
     ensures { result ≡ named s tag }
 {
-    Scan { phase: 2, tag, ..s }
+    Scan {
+        phase: Phase::Between,
+        tag,
+        ..s
+    }
 }
 
 fn with_value(s: Scan, value: u64, point: u8) -> Scan
@@ -132,7 +182,7 @@ fn with_minus(s: Scan, at: usize) -> Scan
     ensures { result ≡ negative s at }
 {
     Scan {
-        phase: 6,
+        phase: Phase::BehindMinus,
         start: at,
         minus: true,
         ..s
@@ -143,7 +193,7 @@ fn with_set(s: Scan, members: u32) -> Scan
     ensures { result ≡ gathered s members }
 {
     Scan {
-        phase: 4,
+        phase: Phase::BeforeNumber,
         set: members,
         ..s
     }
@@ -165,7 +215,7 @@ fn store(s: Scan, n: u32) -> Scan
     ensures { result ≡ stored s n }
 {
     Scan {
-        phase: 2,
+        phase: Phase::Between,
         item: s.item.saturating_add(1).min(8),
         point: 0,
         minus: false,
@@ -175,13 +225,12 @@ fn store(s: Scan, n: u32) -> Scan
     }
 }
 
-fn refuse(s: Scan, at: usize, reason: u8) -> Scan
+fn refuse(s: Scan, at: usize, reason: Reason) -> Scan
     ensures { result ≡ refused s at reason }
 {
     Scan {
-        phase: 8,
+        phase: Phase::Refused(reason),
         start: at,
-        reason,
         ..s
     }
 }
@@ -288,21 +337,22 @@ fn number(kind: u8, minus: bool, set: u32, value: u64) -> u32
 
 // Why a byte is not expected.
 #[tactic(auto, unfolding(crate::specs::Reading::strangeness))]
-fn strange_reason(s: Scan) -> u8
+fn strange_reason(s: Scan) -> Reason
     ensures { result ≡ strangeness s }
 {
-    if s.phase < 2 {
-        1
-    } else if s.phase == 3 {
-        8
-    } else if 4 <= s.phase {
-        3
-    } else if forms::kind(s.tag, s.item) == 0 {
-        5
-    } else if key(s.tag, s.item) == 0 {
-        7
-    } else {
-        2
+    match s.phase {
+        Phase::Before | Phase::InName => Reason::NotACall,
+        Phase::InKey => Reason::NoSpace,
+        Phase::Between => {
+            if forms::kind(s.tag, s.item) == 0 {
+                Reason::CallComplete
+            } else if key(s.tag, s.item) == 0 {
+                Reason::CommaApart
+            } else {
+                Reason::WrongKey
+            }
+        }
+        _ => Reason::WrongKind,
     }
 }
 
@@ -319,7 +369,7 @@ fn settle_name(s: Scan) -> Scan
     ensures { result ≡ settle_name s }
 {
     match tag_named(s.value) {
-        0 => refuse(s, s.start, 1),
+        0 => refuse(s, s.start, Reason::NotACall),
         tag => with_tag(s, tag),
     }
 }
@@ -330,9 +380,9 @@ fn settle_key(s: Scan) -> Scan
     ensures { result ≡ settle_key s }
 {
     if s.value == key(s.tag, s.item) {
-        to_phase(s, 4)
+        to_phase(s, Phase::BeforeNumber)
     } else {
-        refuse(s, s.start, 2)
+        refuse(s, s.start, Reason::WrongKey)
     }
 }
 
@@ -343,13 +393,13 @@ fn settle_number(s: Scan) -> Scan
 {
     let kind = forms::kind(s.tag, s.item);
     if 4 <= kind && s.point != 3 {
-        return refuse(s, s.start, 3);
+        return refuse(s, s.start, Reason::WrongKind);
     }
     let most = limit(kind) + u64::from(s.minus);
     if s.value < most {
         store(s, number(kind, s.minus, s.set, s.value))
     } else {
-        refuse(s, s.start, 4)
+        refuse(s, s.start, Reason::TooLarge)
     }
 }
 
@@ -361,7 +411,7 @@ fn settle_dash(s: Scan) -> Scan
     if forms::kind(s.tag, s.item) == 3 {
         store(s, 0)
     } else {
-        refuse(s, s.start, 3)
+        refuse(s, s.start, Reason::WrongKind)
     }
 }
 
@@ -371,10 +421,10 @@ fn settled(s: Scan) -> Scan
     ensures { result ≡ settle s }
 {
     match s.phase {
-        1 => settle_name(s),
-        3 => settle_key(s),
-        5 => settle_number(s),
-        6 => settle_dash(s),
+        Phase::InName => settle_name(s),
+        Phase::InKey => settle_key(s),
+        Phase::InNumber => settle_number(s),
+        Phase::BehindMinus => settle_dash(s),
         _ => s,
     }
 }
@@ -385,14 +435,11 @@ fn on_letter(s: Scan, l: u64, at: usize) -> Scan
     requires { l ≤ 31 }
     ensures { result ≡ on_letter s l at }
 {
-    if s.phase == 0 {
-        word(s, 1, at, l)
-    } else if s.phase == 1 || s.phase == 3 {
-        with_value(s, grown(32, s.value, l), s.point)
-    } else if s.phase == 2 && key(s.tag, s.item) != 0 {
-        word(s, 3, at, l)
-    } else {
-        not_expected(s, at)
+    match s.phase {
+        Phase::Before => word(s, Phase::InName, at, l),
+        Phase::InName | Phase::InKey => with_value(s, grown(32, s.value, l), s.point),
+        Phase::Between if key(s.tag, s.item) != 0 => word(s, Phase::InKey, at, l),
+        _ => not_expected(s, at),
     }
 }
 
@@ -411,7 +458,7 @@ fn more_digits(s: Scan, d: u64, at: usize) -> Scan
     ensures { result ≡ more_digits s d at }
 {
     if s.point == 3 {
-        refuse(s, at, 3)
+        refuse(s, at, Reason::WrongKind)
     } else {
         with_value(s, grown(10, s.value, d), next_point(s.point))
     }
@@ -423,14 +470,16 @@ fn on_digit(s: Scan, d: u64, at: usize) -> Scan
     requires { d ≤ 9 }
     ensures { result ≡ on_digit s d at }
 {
-    if s.phase == 4 {
-        word(s, 5, at, d)
-    } else if s.phase == 5 {
-        more_digits(s, d, at)
-    } else if s.phase == 6 && forms::kind(s.tag, s.item) == 5 {
-        word(s, 5, s.start, d)
-    } else {
-        not_expected(s, at)
+    match s.phase {
+        Phase::BeforeNumber => word(s, Phase::InNumber, at, d),
+        Phase::InNumber => more_digits(s, d, at),
+        Phase::BehindMinus if forms::kind(s.tag, s.item) == 5 => word(
+            s,
+            Phase::InNumber,
+            s.start,
+            d,
+        ),
+        _ => not_expected(s, at),
     }
 }
 
@@ -440,7 +489,7 @@ fn on_minus(s: Scan, at: usize) -> Scan
     ensures { result ≡ on_minus s at }
 {
     let kind = forms::kind(s.tag, s.item);
-    if s.phase == 4 && (kind == 5 || kind == 3 && s.set == 0) {
+    if matches!(s.phase, Phase::BeforeNumber) && (kind == 5 || kind == 3 && s.set == 0) {
         with_minus(s, at)
     } else {
         not_expected(s, at)
@@ -452,7 +501,7 @@ fn on_minus(s: Scan, at: usize) -> Scan
 fn on_point(s: Scan, at: usize) -> Scan
     ensures { result ≡ on_point s at }
 {
-    if s.phase == 5 && s.point == 0 && 4 <= forms::kind(s.tag, s.item) {
+    if matches!(s.phase, Phase::InNumber) && s.point == 0 && 4 <= forms::kind(s.tag, s.item) {
         with_value(s, s.value, 1)
     } else {
         not_expected(s, at)
@@ -467,7 +516,7 @@ fn on_member(s: Scan) -> Scan
     if s.value < 32 {
         with_set(s, sets::with(s.set, low_one(s.value)))
     } else {
-        refuse(s, s.start, 4)
+        refuse(s, s.start, Reason::TooLarge)
     }
 }
 
@@ -476,12 +525,13 @@ fn on_member(s: Scan) -> Scan
 fn on_list(t: Scan, at: usize) -> Scan
     ensures { result ≡ on_list t at }
 {
-    if t.phase == 8 {
-        t
-    } else if t.phase == 2 && key(t.tag, t.item) == 0 && forms::kind(t.tag, t.item) != 0 {
-        to_phase(t, 4)
-    } else {
-        not_expected(t, at)
+    match t.phase {
+        Phase::Refused(_) => t,
+        Phase::Between if key(t.tag, t.item) == 0 && forms::kind(t.tag, t.item) != 0 => to_phase(
+            t,
+            Phase::BeforeNumber,
+        ),
+        _ => not_expected(t, at),
     }
 }
 
@@ -490,14 +540,11 @@ fn on_list(t: Scan, at: usize) -> Scan
 fn on_comma(s: Scan, at: usize) -> Scan
     ensures { result ≡ on_comma s at }
 {
-    if s.phase == 2 {
-        refuse(s, at, 7)
-    } else if s.phase != 5 {
-        not_expected(s, at)
-    } else if forms::kind(s.tag, s.item) == 3 {
-        on_member(s)
-    } else {
-        on_list(settled(s), at)
+    match s.phase {
+        Phase::Between => refuse(s, at, Reason::CommaApart),
+        Phase::InNumber if forms::kind(s.tag, s.item) == 3 => on_member(s),
+        Phase::InNumber => on_list(settled(s), at),
+        _ => not_expected(s, at),
     }
 }
 
@@ -514,12 +561,12 @@ fn is_complete(t: Scan) -> bool
 fn end_at(t: Scan, at: usize) -> Scan
     ensures { result ≡ ended t at }
 {
-    if t.phase == 8 {
-        t
-    } else if t.phase == 0 || t.phase == 2 && is_complete(t) {
-        to_phase(t, 7)
-    } else {
-        refuse(t, at, if t.phase == 4 { 9 } else { 6 })
+    match t.phase {
+        Phase::Refused(_) => t,
+        Phase::Before => to_phase(t, Phase::Ended),
+        Phase::Between if is_complete(t) => to_phase(t, Phase::Ended),
+        Phase::BeforeNumber => refuse(t, at, Reason::NumberMissing),
+        _ => refuse(t, at, Reason::CallUnfinished),
     }
 }
 
@@ -528,10 +575,9 @@ fn end_at(t: Scan, at: usize) -> Scan
 fn return_at(t: Scan, at: usize) -> Scan
     ensures { result ≡ returned t at }
 {
-    if t.phase == 8 {
-        t
-    } else {
-        word(t, 9, at, t.value)
+    match t.phase {
+        Phase::Refused(_) => t,
+        _ => word(t, Phase::BehindReturn, at, t.value),
     }
 }
 
@@ -540,10 +586,10 @@ fn return_at(t: Scan, at: usize) -> Scan
 fn on_rest(s: Scan, b: u8, at: usize) -> Scan
     ensures { result ≡ behind s b at }
 {
-    if s.phase == 7 && b == b'\r' {
+    if matches!(s.phase, Phase::Ended) && b == b'\r' {
         return_at(s, at)
-    } else if 9 <= s.phase && b != b'\n' {
-        refuse(s, s.start, 10)
+    } else if matches!(s.phase, Phase::BehindReturn) && b != b'\n' {
+        refuse(s, s.start, Reason::ReturnInside)
     } else {
         s
     }
@@ -593,10 +639,9 @@ fn on_byte(s: Scan, b: u8, at: usize) -> Scan
 fn stepped(s: Scan, b: u8, at: usize) -> Scan
     ensures { result ≡ step s b at }
 {
-    if 7 <= s.phase {
-        on_rest(s, b, at)
-    } else {
-        on_byte(s, b, at)
+    match s.phase {
+        Phase::Ended | Phase::Refused(_) | Phase::BehindReturn => on_rest(s, b, at),
+        _ => on_byte(s, b, at),
     }
 }
 
@@ -712,17 +757,15 @@ fn call_of(tag: u8, count: usize, n: [u32; 8]) -> Call
 fn outcome_of(s: Scan) -> Read
     ensures { result ≡ outcome s }
 {
-    if s.phase == 8 {
-        Read::Refused {
+    match s.phase {
+        Phase::Refused(reason) => Read::Refused {
             at: s.start,
-            reason: s.reason,
+            reason,
             tag: s.tag,
             item: s.item,
-        }
-    } else if s.tag == 0 {
-        Read::Nothing
-    } else {
-        Read::Called(call_of(s.tag, s.item, s.numbers))
+        },
+        _ if s.tag == 0 => Read::Nothing,
+        _ => Read::Called(call_of(s.tag, s.item, s.numbers)),
     }
 }
 

@@ -3,6 +3,8 @@ use Rattle.std.proofs.Common.{◌≡◌, ℕ, ◌<◌, ◌≤◌, Bool, true, Li
 use mathlib.Core.Bool.{false≢true}
 use Rattle.lists.specs.Lists.{when◌then◌else◌}
 use Rattle.lists.proofs.Bools.{cases}
+use Rattle.notation.specs.declared.Reason.{Reason}
+use Rattle.notation.specs.declared.Reason.TheVariants.{LineTooLong}
 use Rattle.notation.specs.declared.Read.{Read}
 use Rattle.notation.specs.declared.Read.TheVariants.{Nothing, Called, Refused}
 use Rattle.notation.specs.Reading.{read_line, asked_by, is_refused}
@@ -21,7 +23,7 @@ use Rattle.to_fields.specs.Turns.{NoCall, IsLine, NextLine}
 -- ---- what a line is read as
 
 module _ (line : List ℕ) (n : ℕ) (is : n ≡ length_to line) where
-  pub read-long : 65536 < n → Refused 65536 11 0 0 ≡ line_read line
+  pub read-long : 65536 < n → Refused 65536 LineTooLong 0 0 ≡ line_read line
   unfolding line_read
   read-long h = rw (← is, lt-ltb 65536 n h) refl
 
@@ -54,7 +56,7 @@ module _ (size : ℕ) (read : Read) (r : Line) where
   unfolding is_refused field_of asked_by form_of encode_form
   is-nothing e n = record { size = rw e n.size; field = rw e n.field }
 
-  pub is-refused : {at reason tag item : ℕ} → read ≡ Refused at reason tag item → NoCall 0 r → IsLine size read r
+  pub is-refused : {at : ℕ} {reason : Reason} {tag item : ℕ} → read ≡ Refused at reason tag item → NoCall 0 r → IsLine size read r
   unfolding is_refused field_of asked_by form_of encode_form
   is-refused e n = record { size = rw e n.size; field = rw e n.field }
 

@@ -3,6 +3,7 @@ use Rattle.std.specs.Prelude.{ℕ, Bool, List, take, nat_lt}
 use Rattle.lists.specs.Lists.{when◌then◌else◌}
 use Rattle.forms.specs.Forms.{form_of}
 use Rattle.forms.specs.Encode.{encode_form}
+use Rattle.notation.specs.declared.Reason.TheVariants.{LineTooLong}
 use Rattle.notation.specs.declared.Read.{Read}
 use Rattle.notation.specs.declared.Read.TheVariants.{Refused}
 use Rattle.notation.specs.Reading.{read_line, asked_by, is_refused}
@@ -10,9 +11,9 @@ use Rattle.translation.specs.Writes.{texts}
 use Rattle.text_lines.specs.Lines as Lines
 use Rattle.text_lines.specs.Lines.{length_to}
 
--- what a line is read as. Reason 11: "the line is longer than 65536 bytes"
+-- what a line is read as
 unfoldable pub line_read : List ℕ → Read
-line_read line = when nat_lt 65536 (length_to line) then Refused 65536 11 0 0 else read_line (take (length_to line) line)
+line_read line = when nat_lt 65536 (length_to line) then Refused 65536 LineTooLong 0 0 else read_line (take (length_to line) line)
 
 -- the field of the call that was read; nothing where the line is empty or a comment, or is refused
 unfoldable pub field_of : Read → List ℕ

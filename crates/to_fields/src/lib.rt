@@ -11,7 +11,7 @@ ghost use Rattle.to_fields.specs.Turns.{NoCall, IsLine, NextLine, WritesLines, W
 
 use feed::{Failed, Streams};
 use messages::Refusal;
-use notation::Read;
+use notation::{Read, Reason};
 use text_lines::LONGEST;
 use wire::Call;
 
@@ -75,7 +75,7 @@ fn read_piece(line: &[u8]) -> Read
     if LONGEST < n {
         return Read::Refused {
             at: LONGEST,
-            reason: 11,
+            reason: Reason::LineTooLong,
             tag: 0,
             item: 0,
         };

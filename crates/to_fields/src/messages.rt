@@ -1,11 +1,12 @@
 // Why a line is refused, in words: the place, what was expected, and how it is written.
+use notation::Reason;
 use words::{number, put};
 
-// Where a line is refused, and why: a reason by its number in `Reading`, and the number of a call that was expected there.
+// Where a line is refused, and why, and the number of a call that was expected there.
 #[derive(Clone, Copy)]
 pub struct Refusal {
     pub at: usize,
-    pub reason: u8,
+    pub reason: Reason,
     pub tag: u8,
     pub item: usize,
 }
@@ -82,24 +83,24 @@ fn dash_at(line: &[u8], at: usize) -> bool {
 // A reason that names what was expected.
 fn put_expected(out: &mut [u8], at: usize, why: Refusal) -> usize {
     let to = put(out, at, b"expected ");
-    if why.reason == 3 || why.reason == 9 {
+    if matches!(why.reason, Reason::WrongKind | Reason::NumberMissing) {
         return put(out, to, looks_of(forms::kind(why.tag, why.item)));
     }
     let next = put_next(out, to, why.tag, why.item);
-    if why.reason == 8 {
+    if matches!(why.reason, Reason::NoSpace) {
         return put(out, next, b", then a space");
     }
     next
 }
 
-// What is said of a reason alone, by the reason's number in `Reading`; a number above those is a line that is too long. The others name what was expected.
-fn words_of(reason: u8) -> Option<&'static [u8]> {
+// What is said of a reason alone. The others name what was expected.
+fn words_of(reason: Reason) -> Option<&'static [u8]> {
     match reason {
-        1 => Some(b"not the name of a call; a comment begins with #"),
-        5 => Some(b"the call is complete; a comment begins with #"),
-        7 => Some(b"a comma stands directly behind a number of a list"),
-        10 => Some(b"a carriage return stands only at the line's end"),
-        11.. => Some(b"the line is longer than 65536 bytes"),
+        Reason::NotACall => Some(b"not the name of a call; a comment begins with #"),
+        Reason::CallComplete => Some(b"the call is complete; a comment begins with #"),
+        Reason::CommaApart => Some(b"a comma stands directly behind a number of a list"),
+        Reason::ReturnInside => Some(b"a carriage return stands only at the line's end"),
+        Reason::LineTooLong => Some(b"the line is longer than 65536 bytes"),
         _ => None,
     }
 }
@@ -110,11 +111,11 @@ fn put_reason(out: &mut [u8], at: usize, why: Refusal) -> usize {
         return put(out, at, words);
     }
     match why.reason {
-        4 => {
+        Reason::TooLarge => {
             let to = put(out, at, b"the number is too large, at most ");
             put(out, to, most_of(forms::kind(why.tag, why.item)))
         }
-        6 | 9 => {
+        Reason::CallUnfinished | Reason::NumberMissing => {
             let to = put(out, at, b"the line ends before the call does; ");
             put_expected(out, to, why)
         }
@@ -135,7 +136,7 @@ fn put_place(out: &mut [u8], line: u64, place: usize) -> usize {
 pub fn write_message(out: &mut [u8], line: u64, why: Refusal, text: &[u8]) -> usize {
     let a = put_place(out, line, why.at);
     let b = put_reason(out, a, why);
-    if why.reason == 3 && dash_at(text, why.at) {
+    if matches!(why.reason, Reason::WrongKind) && dash_at(text, why.at) {
         return put(out, b, b"; the minus sign is -");
     }
     b
