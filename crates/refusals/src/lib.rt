@@ -248,7 +248,7 @@ pub fn bid_answer(
     decline_if(book.open_units(pool) == 0, Refusal::NoOpenUnit)
 }
 
-#[tactic(auto, unfolding(crate::specs::Answers::allocate_answer, lists::specs::Tests::first_of))]
+#[tactic(auto, unfolding(crate::specs::Answers::allocate_answer, lists::specs::Tests::first_of, book::specs::Books::short_in))]
 pub fn allocate_answer(book: Book, stage: Stage, pool: u8, price: u32) -> Result<(), Refusal>
     ensures { answer_of result ≡ allocate_answer stage book pool price }
 {
@@ -257,7 +257,15 @@ pub fn allocate_answer(book: Book, stage: Stage, pool: u8, price: u32) -> Result
     decline_if(!price_ok(price), Refusal::OutOfRange)?;
     decline_if(book.open_units(pool) == 0, Refusal::NoOpenUnit)?;
     decline_if(book.pools.mark(pool) == 1, Refusal::PositiveMark)?;
-    decline_if(book.short(pool) == 0, Refusal::Missing)
+    // The arrays are passed by themselves, since `book.short(pool)` may copy the whole book.
+    let short = book::total_shortfall(
+        book.head.set,
+        book.members.expected,
+        book.members.won,
+        book.members.allocated,
+        pool,
+    );
+    decline_if(short == 0, Refusal::Missing)
 }
 
 #[tactic(auto, unfolding(crate::specs::Answers::tear_answer, lists::specs::Tests::first_of))]
