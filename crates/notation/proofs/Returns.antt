@@ -7,6 +7,7 @@ use lib.ListN.{length}
 use borrow.Author.Tests.{ne_eqb}
 use Rattle.lists.proofs.Bools.{cases}
 use Rattle.notation.specs.declared.Scan.{Scan}
+use Rattle.notation.specs.declared.Reason.{Reason}
 use Rattle.notation.specs.declared.Phase.{Phase}
 use Rattle.notation.specs.declared.Phase.TheVariants.{Before, InName, Between, InKey, BeforeNumber, InNumber, BehindMinus, Ended, Refused, BehindReturn}
 use Rattle.notation.specs.Scans.{was_refused, begin}
@@ -19,21 +20,26 @@ is_late (Refused reason) = true
 is_late BehindReturn = true
 is_late _ = false
 
-refused-late : (p : Phase) → was_refused p ≡ true → is_late p ≡ true
-refused-late Before e = absurd (false≢true e)
-refused-late InName e = absurd (false≢true e)
-refused-late Between e = absurd (false≢true e)
-refused-late InKey e = absurd (false≢true e)
-refused-late BeforeNumber e = absurd (false≢true e)
-refused-late InNumber e = absurd (false≢true e)
-refused-late BehindMinus e = absurd (false≢true e)
-refused-late Ended e = absurd (false≢true e)
-refused-late (Refused r) e = refl
-refused-late BehindReturn e = absurd (false≢true e)
+-- a phase of a refused line has a reason
+record IsFor (p : Phase) : Type 0 where
+  pub reason : Reason
+  pub is : p ≡ Refused reason
+
+is_for : (p : Phase) → was_refused p ≡ true → IsFor p
+is_for (Refused r) e = record { reason = r; is = refl }
+is_for Before e = absurd (false≢true e)
+is_for InName e = absurd (false≢true e)
+is_for Between e = absurd (false≢true e)
+is_for InKey e = absurd (false≢true e)
+is_for BeforeNumber e = absurd (false≢true e)
+is_for InNumber e = absurd (false≢true e)
+is_for BehindMinus e = absurd (false≢true e)
+is_for Ended e = absurd (false≢true e)
+is_for BehindReturn e = absurd (false≢true e)
 
 returned-late : (t : Scan) (i : ℕ) → is_late (returned t i).phase ≡ true
 unfolding returned
-returned-late t i = cases (was_refused t.phase) _ (λ e. rw e (refused-late t.phase e)) (λ e. rw e refl)
+returned-late t i = cases (was_refused t.phase) _ (λ e. rw e (ap is_late (is_for t.phase e).is)) (λ e. rw e refl)
 
 -- behind a carriage return
 return_late_in : (p : Phase) (t : Scan) (i : ℕ) → t.phase ≡ p → is_late (step t 13 i).phase ≡ true
@@ -70,42 +76,18 @@ late-refused : (s : Scan) (b i : ℕ) → is_late s.phase ≡ true → (b ≡ 10
 late-refused s b i h n = late_refused_in s.phase s b i refl h n
 
 -- a line that is refused stays so
-stays_refused_in : (p : Phase) (s : Scan) (b i : ℕ) → s.phase ≡ p → was_refused p ≡ true → was_refused (step s b i).phase ≡ true
-unfolding step behind
-stays_refused_in Before s b i e h = absurd (false≢true h)
-stays_refused_in InName s b i e h = absurd (false≢true h)
-stays_refused_in Between s b i e h = absurd (false≢true h)
-stays_refused_in InKey s b i e h = absurd (false≢true h)
-stays_refused_in BeforeNumber s b i e h = absurd (false≢true h)
-stays_refused_in InNumber s b i e h = absurd (false≢true h)
-stays_refused_in BehindMinus s b i e h = absurd (false≢true h)
-stays_refused_in Ended s b i e h = absurd (false≢true h)
-stays_refused_in (Refused r) s b i e h = rw e refl
-stays_refused_in BehindReturn s b i e h = absurd (false≢true h)
-
 stays-refused : (s : Scan) (b i : ℕ) → was_refused s.phase ≡ true → was_refused (step s b i).phase ≡ true
-stays-refused s b i h = stays_refused_in s.phase s b i refl h
+unfolding step behind
+stays-refused s b i h = rw (is_for s.phase h).is refl
 
 scan-refused : (s : Scan) (i : ℕ) (line : List ℕ) → was_refused s.phase ≡ true → was_refused (scan s i line).phase ≡ true
 unfolding scan
 scan-refused s i [] e = e
 scan-refused s i (b ∷ line) e = scan-refused (step s b i) (suc i) line (stays-refused s b i e)
 
-outcome_refused_in : (p : Phase) (s : Scan) → s.phase ≡ p → was_refused p ≡ true → is_refused (outcome s) ≡ true
-unfolding outcome is_refused
-outcome_refused_in Before s e h = absurd (false≢true h)
-outcome_refused_in InName s e h = absurd (false≢true h)
-outcome_refused_in Between s e h = absurd (false≢true h)
-outcome_refused_in InKey s e h = absurd (false≢true h)
-outcome_refused_in BeforeNumber s e h = absurd (false≢true h)
-outcome_refused_in InNumber s e h = absurd (false≢true h)
-outcome_refused_in BehindMinus s e h = absurd (false≢true h)
-outcome_refused_in Ended s e h = absurd (false≢true h)
-outcome_refused_in (Refused r) s e h = rw e refl
-outcome_refused_in BehindReturn s e h = absurd (false≢true h)
-
 outcome-refused : (s : Scan) → was_refused s.phase ≡ true → is_refused (outcome s) ≡ true
-outcome-refused s h = outcome_refused_in s.phase s refl h
+unfolding outcome is_refused
+outcome-refused s h = rw (is_for s.phase h).is refl
 
 pub return_refused : (before : List ℕ) (b : ℕ) (after : List ℕ) → (b ≡ 10 → ⊥) → is_refused (read_line (before ++ (13 ∷ b ∷ after))) ≡ true
 unfolding read_line scan

@@ -31,7 +31,7 @@ pub enum Reason {
     NumberMissing,
     // a carriage return stands only at the line's end
     ReturnInside,
-    // the line is too long; that is for the reader of a text to say, since a line alone may have any length
+    // the line is longer than 65536 bytes: to_fields says so, and `read_line` does not
     LineTooLong,
 }
 
@@ -40,7 +40,6 @@ pub enum Reason {
 pub enum Phase {
     // before the call's name
     Before,
-    // in the call's name
     InName,
     // behind the name or a number
     Between,
@@ -50,7 +49,6 @@ pub enum Phase {
     BehindMinus,
     // the line has ended
     Ended,
-    // the line is refused
     Refused(Reason),
     // behind a carriage return
     BehindReturn,

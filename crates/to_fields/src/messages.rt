@@ -87,30 +87,24 @@ fn put_expected(out: &mut [u8], at: usize, why: Refusal) -> usize {
         return put(out, to, looks_of(forms::kind(why.tag, why.item)));
     }
     let next = put_next(out, to, why.tag, why.item);
-    if matches!(why.reason, Reason::NoSpace) {
+    if why.reason == Reason::NoSpace {
         return put(out, next, b", then a space");
     }
     next
 }
 
-// What is said of a reason alone. The others name what was expected.
-fn words_of(reason: Reason) -> Option<&'static [u8]> {
-    match reason {
-        Reason::NotACall => Some(b"not the name of a call; a comment begins with #"),
-        Reason::CallComplete => Some(b"the call is complete; a comment begins with #"),
-        Reason::CommaApart => Some(b"a comma stands directly behind a number of a list"),
-        Reason::ReturnInside => Some(b"a carriage return stands only at the line's end"),
-        Reason::LineTooLong => Some(b"the line is longer than 65536 bytes"),
-        _ => None,
-    }
-}
-
-// A reason.
+// A reason, in words.
 fn put_reason(out: &mut [u8], at: usize, why: Refusal) -> usize {
-    if let Some(words) = words_of(why.reason) {
-        return put(out, at, words);
-    }
     match why.reason {
+        Reason::NotACall => put(out, at, b"not the name of a call; a comment begins with #"),
+        Reason::CallComplete => put(out, at, b"the call is complete; a comment begins with #"),
+        Reason::CommaApart => put(
+            out,
+            at,
+            b"a comma stands directly behind a number of a list",
+        ),
+        Reason::ReturnInside => put(out, at, b"a carriage return stands only at the line's end"),
+        Reason::LineTooLong => put(out, at, b"the line is longer than 65536 bytes"),
         Reason::TooLarge => {
             let to = put(out, at, b"the number is too large, at most ");
             put(out, to, most_of(forms::kind(why.tag, why.item)))
@@ -119,7 +113,7 @@ fn put_reason(out: &mut [u8], at: usize, why: Refusal) -> usize {
             let to = put(out, at, b"the line ends before the call does; ");
             put_expected(out, to, why)
         }
-        _ => put_expected(out, at, why),
+        Reason::WrongKey | Reason::WrongKind | Reason::NoSpace => put_expected(out, at, why),
     }
 }
 
@@ -136,7 +130,7 @@ fn put_place(out: &mut [u8], line: u64, place: usize) -> usize {
 pub fn write_message(out: &mut [u8], line: u64, why: Refusal, text: &[u8]) -> usize {
     let a = put_place(out, line, why.at);
     let b = put_reason(out, a, why);
-    if matches!(why.reason, Reason::WrongKind) && dash_at(text, why.at) {
+    if why.reason == Reason::WrongKind && dash_at(text, why.at) {
         return put(out, b, b"; the minus sign is -");
     }
     b
