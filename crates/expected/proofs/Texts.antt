@@ -1,13 +1,15 @@
 -- The members that a word names, and the text of the shares. Assumes nothing.
-use Rattle.std.proofs.Common.{◌≡◌, ℕ, ◌+◌, ◌%◌, ◌^◌, ◌<◌, ◌≤◌, List, [], ◌∷◌, ◌++◌, length, get_or, take, fold, sym, ap, ◌∙◌, add-one, add_assoc, arith, take-suc}
+use Rattle.std.proofs.Common.{◌≡◌, ℕ, ◌+◌, ◌%◌, ◌^◌, ◌<◌, ◌≤◌, List, [], ◌∷◌, ◌++◌, length, get_or, take, fold, sym, ap, subst, ◌∙◌, add-one, add_assoc, arith, take-suc}
 use Rattle.lists.specs.Lists.{sum, tab, joined, Each}
 use Rattle.lists.proofs.Joined.{joined-more, foldl-more}
 use Rattle.lists.proofs.Places.{tab-last}
 use Rattle.machine.specs.Printed.{decimal}
 use Rattle.sets.specs.Set.{with_member}
+use Rattle.std.specs.Prelude.{Result, Ok, IfOk}
 use Rattle.rows.specs.declared.Row.{Row}
+use Rattle.rows.specs.declared.Refusal.{Refusal}
 use Rattle.rows.specs.Reading.{row_of}
-use Rattle.rows.proofs.Limits.{row_within}
+use Rattle.rows.proofs.Limits.{Within, row_within}
 use Rattle.forms.specs.Put.{Put}
 use Rattle.forms.proofs.Puts.{put_then, put_as}
 use Rattle.expected.specs.Words.{set_of}
@@ -20,10 +22,10 @@ unfolding set_of
 set-turn numbers i l = sym (foldl-more with_member 0 (take i numbers) (get_or numbers i 0)) ∙ rw (add-one i, take-suc numbers i 0 l)
 
 -- the numbers of a word are few enough and fit a place of a set
-pub members-within : (word : List ℕ) (r : Row) → r ≡ row_of 1 32 31 word → (r.count ≤ 32) × Each (λ n. n ≤ 31) r.numbers
-members-within word r e =
-    let w = row_within 1 32 31 word in
-    rw e (omega (arith, w.few), w.each)
+pub members-within : (word : List ℕ) (row : Row) → Ok row ≡ row_of 1 32 31 word → (row.count ≤ 32) × Each (λ n. n ≤ 31) row.numbers
+members-within word row e =
+    let w : Within 1 32 31 row = subst (λ (r : Result Row Refusal). IfOk r (Within 1 32 31)) (sym e) (row_within 1 32 31 word) in
+    (omega (arith, w.few), w.each)
 
 -- ---- a sum in 64 bits
 

@@ -34,25 +34,25 @@ fn set_of(numbers: &[u32]) -> u32
 }
 
 // The set of the members in a word, as in 0,1,2.
+#[tactic(auto, unfolding(crate::specs::Words::members_in))]
 fn members_in(word: &[u8]) -> Option<u32>
     ensures { result ≡ members_in word.now }
 {
-    let row = rows::read_row(word, 1, 32, 31);
-    if row.count == 0 {
-        return None;
+    match rows::read_row(word, 1, 32, 31) {
+        Ok(row) if row.count != 0 => Some(set_of(&row.numbers[..row.count])),
+        _ => None,
     }
-    Some(set_of(&row.numbers[..row.count]))
 }
 
 // The number in a word.
+#[tactic(auto, unfolding(crate::specs::Words::units_in))]
 fn units_in(word: &[u8]) -> Option<u32>
     ensures { result ≡ units_in word.now }
 {
-    let row = rows::read_row(word, 1, 1, u32::MAX);
-    if row.count == 0 {
-        return None;
+    match rows::read_row(word, 1, 1, u32::MAX) {
+        Ok(row) if row.count != 0 => Some(row.numbers[0]),
+        _ => None,
     }
-    Some(row.numbers[0])
 }
 
 // Whether the argument with a number is a word.

@@ -140,9 +140,8 @@ fn take_input(
 fn tell_refused(streams: Streams, last: bool, set: u32, lines: u64, text: &[u8]) {
     let size = text_lines::line_size(last, text);
     let n = positions::count_of(set);
-    let row = rows::read_day(n, &text[..size]);
-    if row.reason != 0 {
-        messages::tell_line(streams, lines.wrapping_add(1), row.at, row.reason, n);
+    if let Err(refusal) = rows::read_day(n, &text[..size]) {
+        messages::tell_line(streams, lines.wrapping_add(1), refusal, n);
     }
 }
 

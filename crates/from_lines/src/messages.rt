@@ -1,5 +1,6 @@
 // Why a line is refused, in words.
 use feed::Streams;
+use rows::{Reason, Refusal};
 use words::{number, put};
 
 // One of two words, by whether there is one thing or several.
@@ -19,24 +20,24 @@ fn put_members(out: &mut [u8], at: usize, n: usize) -> usize {
     put(out, c, by_number(n, b" position", b" positions"))
 }
 
-// What is said of a reason; reasons are 1 to 7.
-fn words_of(reason: u8) -> &'static [u8] {
+// What is said of a reason.
+fn words_of(reason: Reason) -> &'static [u8] {
     match reason {
-        1 => b"expected a whole number",
-        2 => b"expected a comma",
-        3 => b"the position is too large, at most 10000000",
-        4 => b"the day is complete: ",
-        5 => b"the line ends before the day does: ",
-        6 => b"a carriage return stands only at the line's end",
-        _ => b"the line is longer than 65536 bytes",
+        Reason::ExpectedNumber => b"expected a whole number",
+        Reason::ExpectedComma => b"expected a comma",
+        Reason::TooLarge => b"the position is too large, at most 10000000",
+        Reason::TooMany => b"the day is complete: ",
+        Reason::EndsEarly => b"the line ends before the day does: ",
+        Reason::CarriageReturn => b"a carriage return stands only at the line's end",
+        Reason::LineTooLong => b"the line is longer than 65536 bytes",
     }
 }
 
 // A reason for n members.
-fn put_reason(out: &mut [u8], at: usize, reason: u8, n: usize) -> usize {
+fn put_reason(out: &mut [u8], at: usize, reason: Reason, n: usize) -> usize {
     let to = put(out, at, words_of(reason));
     match reason {
-        4 | 5 => put_members(out, to, n),
+        Reason::TooMany | Reason::EndsEarly => put_members(out, to, n),
         _ => to,
     }
 }
@@ -57,9 +58,9 @@ fn tell(streams: Streams, note: [u8; 256], n: usize) {
 }
 
 // A line that is refused, of n members.
-pub fn tell_line(streams: Streams, line: u64, place: usize, reason: u8, n: usize) {
+pub fn tell_line(streams: Streams, line: u64, refusal: Refusal, n: usize) {
     let mut note = [0u8; 256];
-    let at = put_place(&mut note, line, place);
-    let end = put_reason(&mut note, at, reason, n);
+    let at = put_place(&mut note, line, refusal.at);
+    let end = put_reason(&mut note, at, refusal.reason, n);
     tell(streams, note, end);
 }

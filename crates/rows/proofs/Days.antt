@@ -1,15 +1,16 @@
 -- A line of a text as its record, and lines taken one by one. Assumes nothing.
-use mathlib.Core.Path.{◌≡◌, refl, sym, ap, ap₂, ◌∙◌}
-use mathlib.Core.Bool.{Bool, false, not, false≢true}
+use Rattle.std.specs.Prelude.{Result, Ok, Err, IfOk}
+use mathlib.Core.Path.{◌≡◌, refl, sym, ap, ap₂, ◌∙◌, subst}
+use mathlib.Core.Bool.{Bool, false, false≢true}
 use mathlib.Core.Logic.{◌⊎◌, inl, inr, ⊎_elim}
 use mathlib.Core.List.{List, [], ◌∷◌, ◌++◌}
 use Prim.Native.Nat.{ℕ, zero, suc, ◌+◌, ◌-◌, ◌*◌, ◌/◌, ◌%◌, ◌^◌, ◌≤◌, ◌<◌}
 use native.Mathlib.Numerals.{add-one}
 use native.Mathlib.Omega.{arith}
-use lib.Dec.{eqb, ltb}
+use lib.Dec.{ltb}
 use lib.ListN.{length, get_or, take, drop, length-take}
 use lib.Seq.{drop-cons, drop-length, drop-drop}
-use borrow.Author.Tests.{lt-ltb, le-ltb, eq-eqb, ne_eqb, eqb-true, not-false}
+use borrow.Author.Tests.{lt-ltb, le-ltb}
 use Rattle.lists.specs.Lists.{when◌then◌else◌, Each}
 use Rattle.lists.proofs.Bools.{either, by-test}
 use Rattle.lists.proofs.Each.{each_take}
@@ -22,28 +23,34 @@ use Rattle.text_lines.specs.Lines.{length_to, line_size, good_size, size_within}
 use Rattle.text_lines.proofs.Parts.{good-most}
 use Rattle.text_lines.proofs.Taking.{size_small, size-there, taking-lent, taking-few, taking-within, taking-room, taking-goes, taking-ends}
 use Rattle.rows.specs.declared.Row.{Row}
+use Rattle.rows.specs.declared.Refusal.{Refusal}
 use Rattle.rows.specs.declared.Day.{Day}
 use Rattle.rows.specs.Reading.{row_of}
-use Rattle.rows.specs.Days.{too_long, day_of, refused_day, four_each, record_of, day_size, NextDay, WritesDays}
+use Rattle.rows.specs.Days.{too_long, day_of, is_refused, refused_day, four_each, numbers_of, record_of, day_size, NextDay, WritesDays}
 use Rattle.rows.specs.Computing.{computing}
-use Rattle.rows.proofs.Limits.{row_within}
+use Rattle.rows.proofs.Limits.{Within, row_within}
 
 -- ---- what a line is read as
 
 module _ (n : ℕ) (line : List ℕ) (k : ℕ) (is : k ≡ length_to line) where
-  pub day-long : (r : Row) → 65536 < k → r ≡ too_long → r ≡ day_of n line
+  pub day-long : (r : Result Row Refusal) → 65536 < k → r ≡ Err too_long → r ≡ day_of n line
   unfolding day_of
   day-long r h e = rw (← is, lt-ltb 65536 k h) e
 
-  pub day-there : (part : List ℕ) (r : Row) → k ≤ 65536 → part ≡ take k line → r ≡ row_of n n 10000000 part → r ≡ day_of n line
+  pub day-there : (part : List ℕ) (r : Result Row Refusal) → k ≤ 65536 → part ≡ take k line → r ≡ row_of n n 10000000 part → r ≡ day_of n line
   unfolding day_of
   day-there part r h lends e = rw (← is, le-ltb 65536 k h) (e ∙ ap (row_of n n 10000000) lends)
 
 -- a line has at most 32 numbers
-day-few : (n : ℕ) (line : List ℕ) → (day_of n line).count ≤ 32
+few-within : (n : ℕ) (r : Result Row Refusal) → IfOk r (Within n n 10000000) → IfOk r (λ row. row.count ≤ 32)
+few-within n (Ok row) w = omega (arith, w.few)
+few-within n (Err refusal) w = tt
+
+day-few : (n : ℕ) (line : List ℕ) → IfOk (day_of n line) (λ row. row.count ≤ 32)
 unfolding day_of
 day-few n line =
-    either (λ (r : Row). r.count ≤ 32) (ltb 65536 (length_to line)) (omega arith) (omega (arith, (row_within n n 10000000 (take (length_to line) line)).few))
+    either (λ (r : Result Row Refusal). IfOk r (λ row. row.count ≤ 32)) (ltb 65536 (length_to line)) tt
+    (few-within n (row_of n n 10000000 (take (length_to line) line)) (row_within n n 10000000 (take (length_to line) line)))
 
 no_bytes : four_each [] ≡ []
 unfolding four_each
@@ -56,29 +63,33 @@ module _ (n room : ℕ) (last : Bool) (s : List ℕ) where
   pub next-none : room < 128 → size_within 128 room (day_size n last) s ≡ 0
   next-none h = size_small 128 room (day_size n last) s h
 
-  module _ (part : List ℕ) (size : ℕ) (row : Row) (h : 128 ≤ room) (is : size ≡ line_size last s) (lends : part ≡ take size s) (e : row ≡ day_of n part) where
-    same : row ≡ day_of n (take (line_size last s) s)
-    same = e ∙ ap (day_of n) (lends ∙ ap (λ (k : ℕ). take k s) is)
+  module _ (size : ℕ) (h : 128 ≤ room) (is : size ≡ line_size last s) where
+    module _ (part : List ℕ) (r : Result Row Refusal) (lends : part ≡ take size s) (e : r ≡ day_of n part) where
+      same : r ≡ day_of n (take (line_size last s) s)
+      same = e ∙ ap (day_of n) (lends ∙ ap (λ (k : ℕ). take k s) is)
 
-    sized : size_within 128 room (day_size n last) s ≡ (when not (eqb row.reason 0) then 0 else size)
-    unfolding good_size refused_day
-    sized = size-there 128 room (day_size n last) s h ∙ sym (ap₂ (λ (x : Row) (k : ℕ). when not (eqb x.reason 0) then 0 else k) same is)
+      sized : size_within 128 room (day_size n last) s ≡ (when is_refused r then 0 else size)
+      unfolding good_size refused_day
+      sized = size-there 128 room (day_size n last) s h ∙ sym (ap₂ (λ (x : Result Row Refusal) (k : ℕ). when is_refused x then 0 else k) same is)
 
-    -- no line, or one that is refused
+    -- no line
     pub next-empty : size ≡ 0 → size_within 128 room (day_size n last) s ≡ 0
-    next-empty z = sized ∙ either (λ (k : ℕ). k ≡ 0) (not (eqb row.reason 0)) refl z
+    next-empty z =
+        let r = day_of n (take size s) in
+        sized (take size s) r refl refl ∙ either (λ (k : ℕ). k ≡ 0) (is_refused r) refl z
 
-    pub next-refused : (row.reason ≡ 0 → ⊥) → size_within 128 room (day_size n last) s ≡ 0
-    next-refused r = sized ∙ rw (ne_eqb row.reason 0 r) refl
+    -- one that is refused
+    pub next-refused : (part : List ℕ) (refusal : Refusal) → part ≡ take size s → Err refusal ≡ day_of n part → size_within 128 room (day_size n last) s ≡ 0
+    next-refused part refusal lends e = sized part (Err refusal) lends e
 
     -- a line that is taken
-    pub next-is : row.reason ≡ 0 → NextDay n room last s (record { size = size; count = row.count; numbers = row.numbers })
+    pub next-is : (part : List ℕ) (row : Row) → part ≡ take size s → Ok row ≡ day_of n part → NextDay n room last s (record { size = size; row = row })
     unfolding record_of
-    next-is r =
+    next-is part row lends e =
         record {
-          size = sym (sized ∙ rw (eq-eqb row.reason 0 r) refl);
-          bytes = ap (λ (x : Row). four_each (take x.count x.numbers)) (e ∙ ap (day_of n) lends);
-          few = omega (arith, ap (λ (x : Row). x.count) e, day-few n part);
+          size = sym (sized part (Ok row) lends e);
+          bytes = ap (λ (x : Result Row Refusal). four_each (numbers_of x)) (e ∙ ap (day_of n) lends);
+          few = subst (λ (x : Result Row Refusal). IfOk x (λ row. row.count ≤ 32)) (sym e) (day-few n part);
         }
 
 -- ---- the numbers of a record
@@ -128,16 +139,9 @@ read_small (n ∷ ns) h (suc m) l =
 abbrev pub WholeDay : ℕ → List ℕ → Type 0
 WholeDay n bytes = (length bytes ≡ 4 * n) × ((m : ℕ) → m < n → number (4 * m) 4 bytes ≤ 10000000)
 
--- a line that is not refused is nothing, or has n numbers
-pub record-whole : (n : ℕ) (line : List ℕ) → refused_day n line ≡ false → (record_of n line ≡ []) ⊎ WholeDay n (record_of n line)
-unfolding record_of refused_day day_of
-record-whole n line =
-    by-test (λ (r : Row). not (eqb r.reason 0) ≡ false → (four_each (take r.count r.numbers) ≡ []) ⊎ WholeDay n (four_each (take r.count r.numbers)))
-    (ltb 65536 (length_to line))
-    (λ _ e. absurd (false≢true (sym e)))
-    (λ _ e.
-    let row = row_of n n 10000000 (take (length_to line) line) in
-    let w = row_within n n 10000000 (take (length_to line) line) in
+row-whole : (n : ℕ) (r : Result Row Refusal) → IfOk r (Within n n 10000000) → is_refused r ≡ false → (four_each (numbers_of r) ≡ []) ⊎ WholeDay n (four_each (numbers_of r))
+row-whole n (Err refusal) w e = absurd (false≢true (sym e))
+row-whole n (Ok row) w e =
     let ns = take row.count row.numbers in
     ⊎_elim
     (λ z. inl (ap (λ (k : ℕ). four_each (take k row.numbers)) z ∙ no_bytes))
@@ -147,7 +151,16 @@ record-whole n line =
       four-size ns ∙ ap (λ (k : ℕ). 4 * k) all,
       λ m h. read_small ns (each_take (λ k. k ≤ 10000000) row.count row.numbers w.each) m (omega arith),
     ))
-    (w.whole (eqb-true row.reason 0 (not-false (eqb row.reason 0) e))))
+    w.whole
+
+-- a line that is not refused is nothing, or has n numbers
+pub record-whole : (n : ℕ) (line : List ℕ) → refused_day n line ≡ false → (record_of n line ≡ []) ⊎ WholeDay n (record_of n line)
+unfolding record_of refused_day day_of
+record-whole n line =
+    by-test (λ (r : Result Row Refusal). is_refused r ≡ false → (four_each (numbers_of r) ≡ []) ⊎ WholeDay n (four_each (numbers_of r)))
+    (ltb 65536 (length_to line))
+    (λ _ e. absurd (false≢true (sym e)))
+    (λ _ e. row-whole n (row_of n n 10000000 (take (length_to line) line)) (row_within n n 10000000 (take (length_to line) line)) e)
 
 -- ---- lines taken one by one
 
@@ -179,7 +192,7 @@ module _ (n : ℕ) (last : Bool) (input old out : List ℕ) (count used to : ℕ
       pub days-room : to + 128 ≤ length out
       days-room = taking-room (day_size n last) most (record_of n) 128 input old out count used to g day.size d.size some
 
-      module _ (r : ℕ) (next : List ℕ) (put : Put out to (four_each (take day.count day.numbers)) 128 r next) where
+      module _ (r : ℕ) (next : List ℕ) (put : Put out to (four_each (take day.row.count day.row.numbers)) 128 r next) where
         written : Put out to (record_of n (take day.size (drop used input))) 128 r next
         written = put_as 128 (omega arith) d.bytes put
 

@@ -1,4 +1,5 @@
 -- Lines and what they are read as, with from 2 to 3 numbers, each at most 10,000,000, computed. Assumes nothing.
+use Rattle.std.specs.Prelude.{Result, Ok, Err}
 use mathlib.Core.Path.{◌≡◌, refl}
 use mathlib.Core.Bool.{true, false}
 use mathlib.Core.List.{List, [], ◌∷◌}
@@ -7,13 +8,27 @@ use lib.ListN.{take}
 use Rattle.input.specs.Pieces.{pieces}
 use Rattle.machine.proofs.Examples.{Example, ◌says◌, AllHold}
 use Rattle.rows.specs.declared.Row.{Row}
+use Rattle.rows.specs.declared.Refusal.{Refusal}
+use Rattle.rows.specs.declared.Reason.{Reason}
+use Rattle.rows.specs.declared.Reason.TheVariants.{ExpectedNumber, ExpectedComma, TooLarge, TooMany, EndsEarly, CarriageReturn, LineTooLong}
 use Rattle.rows.specs.Reading.{row_of, row_text}
 use Rattle.rows.specs.Days.{record_of, day_size}
 use Rattle.rows.specs.Computing.{computing}
 
--- the reason, the place and the numbers
-abbrev seen : Row → List ℕ
-seen r = r.reason ∷ r.at ∷ take r.count r.numbers
+-- the reasons, numbered from 1
+abbrev number_of : Reason → ℕ
+number_of ExpectedNumber = 1
+number_of ExpectedComma = 2
+number_of TooLarge = 3
+number_of TooMany = 4
+number_of EndsEarly = 5
+number_of CarriageReturn = 6
+number_of LineTooLong = 7
+
+-- 0, 0 and the numbers of a line; the reason and the place of one that is refused
+abbrev seen : Result Row Refusal → List ℕ
+seen (Ok row) = 0 ∷ 0 ∷ take row.count row.numbers
+seen (Err refusal) = number_of refusal.reason ∷ refusal.at ∷ []
 
 abbrev read : List ℕ → List ℕ
 read line = seen (row_of 2 3 10000000 line)
@@ -33,26 +48,26 @@ lines =
     ∷ (read (35 ∷ 13 ∷ []) says 0 ∷ 0 ∷ [])
     -- the limit: `10000000,1`
     ∷ (read (49 ∷ 48 ∷ 48 ∷ 48 ∷ 48 ∷ 48 ∷ 48 ∷ 48 ∷ 44 ∷ 49 ∷ []) says 0 ∷ 0 ∷ 10000000 ∷ 1 ∷ [])
-    -- reason 1: `1,,2`, `,1`, `1,x`, `-1,2`
+    -- ExpectedNumber: `1,,2`, `,1`, `1,x`, `-1,2`
     ∷ (read (49 ∷ 44 ∷ 44 ∷ 50 ∷ []) says 1 ∷ 2 ∷ [])
     ∷ (read (44 ∷ 49 ∷ []) says 1 ∷ 0 ∷ [])
     ∷ (read (49 ∷ 44 ∷ 120 ∷ []) says 1 ∷ 2 ∷ [])
     ∷ (read (45 ∷ 49 ∷ 44 ∷ 50 ∷ []) says 1 ∷ 0 ∷ [])
-    -- reason 2: `1;2`, `1 2`, `1,2 # two`
+    -- ExpectedComma: `1;2`, `1 2`, `1,2 # two`
     ∷ (read (49 ∷ 59 ∷ 50 ∷ []) says 2 ∷ 1 ∷ [])
     ∷ (read (49 ∷ 32 ∷ 50 ∷ []) says 2 ∷ 2 ∷ [])
     ∷ (read (49 ∷ 44 ∷ 50 ∷ 32 ∷ 35 ∷ 32 ∷ 116 ∷ 119 ∷ 111 ∷ []) says 2 ∷ 4 ∷ [])
-    -- reason 3, one above the limit, and a number of thirty digits: `1,10000001`, ` 123456789012345678901234567890`
+    -- TooLarge, one above the limit, and a number of thirty digits: `1,10000001`, ` 123456789012345678901234567890`
     ∷ (read (49 ∷ 44 ∷ 49 ∷ 48 ∷ 48 ∷ 48 ∷ 48 ∷ 48 ∷ 48 ∷ 49 ∷ []) says 3 ∷ 2 ∷ [])
     ∷ (read (32 ∷ 49 ∷ 50 ∷ 51 ∷ 52 ∷ 53 ∷ 54 ∷ 55 ∷ 56 ∷ 57 ∷ 48 ∷ 49 ∷ 50 ∷ 51 ∷ 52 ∷ 53 ∷ 54 ∷ 55 ∷ 56 ∷ 57 ∷ 48 ∷ 49 ∷ 50 ∷ 51 ∷ 52 ∷ 53 ∷ 54 ∷ 55 ∷ 56 ∷ 57 ∷ 48 ∷ []) says 3 ∷ 1 ∷ [])
-    -- reason 4: `1,2,3,4`, `1,2,3,`
+    -- TooMany: `1,2,3,4`, `1,2,3,`
     ∷ (read (49 ∷ 44 ∷ 50 ∷ 44 ∷ 51 ∷ 44 ∷ 52 ∷ []) says 4 ∷ 5 ∷ [])
     ∷ (read (49 ∷ 44 ∷ 50 ∷ 44 ∷ 51 ∷ 44 ∷ []) says 4 ∷ 5 ∷ [])
-    -- reason 5: `1,2,`, `1,\r`, `1`
+    -- EndsEarly: `1,2,`, `1,\r`, `1`
     ∷ (read (49 ∷ 44 ∷ 50 ∷ 44 ∷ []) says 5 ∷ 4 ∷ [])
     ∷ (read (49 ∷ 44 ∷ 13 ∷ []) says 5 ∷ 2 ∷ [])
     ∷ (read (49 ∷ []) says 5 ∷ 1 ∷ [])
-    -- reason 6: `1,2\r `, `# \r1`, `\r\r`
+    -- CarriageReturn: `1,2\r `, `# \r1`, `\r\r`
     ∷ (read (49 ∷ 44 ∷ 50 ∷ 13 ∷ 32 ∷ []) says 6 ∷ 3 ∷ [])
     ∷ (read (35 ∷ 32 ∷ 13 ∷ 49 ∷ []) says 6 ∷ 2 ∷ [])
     ∷ (read (13 ∷ 13 ∷ []) says 6 ∷ 0 ∷ [])

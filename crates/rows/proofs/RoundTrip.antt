@@ -1,5 +1,7 @@
 -- Reading the text of numbers gives the numbers. Assumes nothing.
-use mathlib.Core.Path.{◌≡◌, ap, ◌∙◌}
+use Rattle.std.specs.Prelude.{Result, Ok}
+use mathlib.Core.Path.{◌≡◌, refl, ap, ◌∙◌}
+use mathlib.Core.Bool.{true, false, false≢true}
 use mathlib.Core.List.{List, [], ◌∷◌, ◌++◌}
 use Prim.Native.Nat.{ℕ, zero, suc, ◌+◌, ◌-◌, ◌*◌, ◌/◌, ◌%◌, ◌^◌, ◌≤◌, ◌<◌, min}
 use native.Mathlib.Nat.{pow-suc, div-lt_iff_lt-mul}
@@ -7,22 +9,25 @@ use native.Mathlib.Omega.{arith}
 use lib.Dec.{ltb}
 use lib.ListN.{length, set, drop, replicate}
 use lib.Seq.{sets, sets-eq}
-use borrow.Author.Tests.{lt-ltb, le-leb, lt-leb, ltb-true}
+use borrow.Author.Tests.{lt-ltb, le-leb, ltb-true}
 use Rattle.lists.specs.Lists.{Each}
 use Rattle.lists.proofs.Bools.{cases}
 use Rattle.machine.specs.Printed.{decimal}
 use Rattle.rows.specs.declared.Scan.{Scan}
 use Rattle.rows.specs.declared.Row.{Row}
-use Rattle.rows.specs.Scans.{begin, in_number}
+use Rattle.rows.specs.declared.Refusal.{Refusal}
+use Rattle.rows.specs.declared.Phase.{Phase}
+use Rattle.rows.specs.declared.Phase.TheVariants.{Start, BehindComma, InNumber, BehindNumber, Comment, Ended, Refused}
+use Rattle.rows.specs.Scans.{awaits_number, past_numbers, begin, in_number}
 use Rattle.rows.specs.Reading.{settle, grow, has_room, first_digit, on_digit, on_comma, ended, byte_read, step, scan, finish, outcome, row_of, more_text, row_text}
 use Rattle.rows.proofs.Scanning.{scan-append}
 
 -- a line that is not refused
-abbrev row : (count : ℕ) (numbers : List ℕ) → Row
-row k l = record { reason = 0; at = 0; count = k; numbers = l }
+abbrev row : (count : ℕ) (numbers : List ℕ) → Result Row Refusal
+row k l = Ok (record { count = k; numbers = l })
 
 -- some numbers, and 0 at the places behind them
-abbrev pub row_with : List ℕ → Row
+abbrev pub row_with : List ℕ → Result Row Refusal
 row_with ns = row (length ns) (ns ++ replicate (32 - length ns) 0)
 
 drop-replicate : (n m : ℕ) → drop {A = ℕ} n (replicate m 0) ≡ replicate (m - n) 0
@@ -33,15 +38,25 @@ drop-replicate (suc n) (suc m) = let e : m - n ≡ suc m - suc n = omega arith i
 digit-back : (d : ℕ) → 48 + d - 48 ≡ d
 digit-back d = omega arith
 
+-- where a number is to come, a byte is not passed over
+awaits-on : (p : Phase) → awaits_number p ≡ true → past_numbers p ≡ false
+awaits-on Start e = refl
+awaits-on BehindComma e = refl
+awaits-on InNumber e = refl
+awaits-on BehindNumber e = refl
+awaits-on Comment e = absurd (false≢true e)
+awaits-on Ended e = absurd (false≢true e)
+awaits-on (Refused reason) e = absurd (false≢true e)
+
 module _ (least most limit : ℕ) where
   -- ---- digits
 
   -- the first digit of a number for which there is room
-  first-digit : (s : Scan) → s.phase < 2 → s.count < min most 32 → (i d : ℕ) → d < 10 → d ≤ limit
+  first-digit : (s : Scan) → awaits_number s.phase ≡ true → s.count < min most 32 → (i d : ℕ) → d < 10 → d ≤ limit
       → step least most limit s (48 + d) i ≡ in_number s i d
   unfolding step byte_read on_digit first_digit has_room grow
   first-digit s p h i d l f =
-      rw (lt-leb 4 s.phase (omega arith), le-leb 48 (48 + d) (omega arith), le-leb (48 + d) 57 (omega arith), lt-ltb s.phase 2 p, lt-ltb s.count (min most 32) h, digit-back d, le-leb d limit f)
+      rw (awaits-on s.phase p, le-leb 48 (48 + d) (omega arith), le-leb (48 + d) 57 (omega arith), p, lt-ltb s.count (min most 32) h, digit-back d, le-leb d limit f)
 
   -- a digit more
   next-digit : (s : Scan) (start v i d : ℕ) → d < 10 → v * 10 + d ≤ limit
@@ -51,7 +66,7 @@ module _ (least most limit : ℕ) where
       rw (le-leb 48 (48 + d) (omega arith), le-leb (48 + d) 57 (omega arith), digit-back d, le-leb (v * 10 + d) limit f)
 
   -- the digits of a number
-  digits-read : (s : Scan) → s.phase < 2 → s.count < min most 32 → (i k n : ℕ) → 1 ≤ k → n < 10 ^ k → n ≤ limit
+  digits-read : (s : Scan) → awaits_number s.phase ≡ true → s.count < min most 32 → (i k n : ℕ) → 1 ≤ k → n < 10 ^ k → n ≤ limit
       → scan least most limit s i (decimal k n) ≡ in_number s i n
   unfolding decimal scan
   digits-read s p h i zero n l b f = absurd (omega arith)
@@ -78,7 +93,7 @@ module _ (least most limit : ℕ) where
 
   -- behind a comma, with one number more
   abbrev next : Scan → (value place : ℕ) → Scan
-  next s v i = record { phase = 1; start = i; value = v; count = suc s.count; numbers = set s.numbers s.count v; reason = s.reason }
+  next s v i = record { phase = BehindComma; start = i; value = v; count = suc s.count; numbers = set s.numbers s.count v }
 
   comma-read : (s : Scan) (start v i : ℕ) → suc s.count < min most 32 → step least most limit (in_number s start v) 44 i ≡ next s v i
   unfolding step byte_read settle on_comma has_room
@@ -87,7 +102,7 @@ module _ (least most limit : ℕ) where
       rw (e, lt-ltb (suc s.count) (min most 32) h)
 
   -- the numbers that were read, when the line ends in one
-  abbrev done : Scan → List ℕ → Row
+  abbrev done : Scan → List ℕ → Result Row Refusal
   done s ns = row (s.count + length ns) (sets s.numbers s.count ns)
 
   module _ (at : ℕ) where
@@ -106,7 +121,7 @@ module _ (least most limit : ℕ) where
         ap (λ (u : Scan). outcome (finish least u at))
         (ap (λ (u : Scan). scan least most limit u (suc i) (decimal 20 n ++ more_text ns)) (comma-read s start v i (omega arith))
         ∙ scan-append least most limit t (suc i) (decimal 20 n) (more_text ns)
-        ∙ ap (λ (u : Scan). scan least most limit u (suc i + length (decimal 20 n)) (more_text ns)) (digits-read t (omega arith) (omega arith) (suc i) 20 n (omega arith) (omega arith) e.0))
+        ∙ ap (λ (u : Scan). scan least most limit u (suc i + length (decimal 20 n)) (more_text ns)) (digits-read t refl (omega arith) (suc i) 20 n (omega arith) (omega arith) e.0))
         ∙ more-read ns t (suc i) n (suc i + length (decimal 20 n)) (omega arith) (omega arith) b e.1
         ∙ ap (λ (k : ℕ). row k (sets t.numbers t.count (n ∷ ns))) (omega arith)
 
@@ -120,7 +135,7 @@ module _ (least most limit : ℕ) where
       let k : 0 + suc (length ns) ≡ suc (length ns) = omega arith in
       ap (λ (u : Scan). outcome (finish least u (length line)))
       (scan-append least most limit begin 0 (decimal 20 n) (more_text ns)
-      ∙ ap (λ (u : Scan). scan least most limit u (0 + length (decimal 20 n)) (more_text ns)) (digits-read begin (omega arith) (omega arith) 0 20 n (omega arith) (omega arith) e.0))
+      ∙ ap (λ (u : Scan). scan least most limit u (0 + length (decimal 20 n)) (more_text ns)) (digits-read begin refl (omega arith) 0 20 n (omega arith) (omega arith) e.0))
       ∙ more-read (length line) ns begin 0 n (0 + length (decimal 20 n)) (omega arith) (omega arith) b e.1
       ∙ ap (λ (c : ℕ). row c (sets (replicate 32 0) 0 (n ∷ ns))) k
       ∙ ap (row (suc (length ns)))

@@ -2,7 +2,7 @@
 // as records.
 #![tactic(auto)]
 
-ghost use Rattle.std.specs.Prelude.{◌≡◌, ◌≢◌, MatchOption, ◌+◌, ◌-◌, ◌*◌, ◌≤◌, length, take, set};
+ghost use Rattle.std.specs.Prelude.{◌≡◌, ◌≢◌, MatchOption, ◌+◌, ◌-◌, ◌*◌, ◌≤◌, length, set};
 ghost use Rattle.forms.specs.Put.{Put};
 ghost use Rattle.text_lines.specs.Lines.{size_within};
 ghost use Rattle.rows.specs.Scans.{begin, with_phase, in_number, stored, refused};
@@ -11,32 +11,68 @@ ghost use Rattle.rows.specs.Days.{too_long, day_of, four_each, day_size, NextDay
 
 use text_lines::LONGEST;
 
-// What is known of a line while it is read. The phase and the reason are numbers, as in the definitions of specs/.
+// Why a line is refused.
+#[derive(Clone, Copy, Debug, PartialEq, Eq)]
+pub enum Reason {
+    // "a byte that is no digit where a number is to come"
+    ExpectedNumber,
+    // "a byte that is no comma behind a number"
+    ExpectedComma,
+    // "the number is too large"
+    TooLarge,
+    // a number more than there may be
+    TooMany,
+    // "the line ends where a number is to come, behind a comma, or with fewer than least numbers"
+    EndsEarly,
+    // "a carriage return that is not at the line's end"
+    CarriageReturn,
+    // "the line is longer than 65536 bytes"
+    LineTooLong,
+}
+
+// Where in a line its reading is.
+#[derive(Clone, Copy, Debug, PartialEq, Eq)]
+enum Phase {
+    // before the first byte that is no blank
+    Start,
+    BehindComma,
+    InNumber,
+    BehindNumber,
+    Comment,
+    // behind a carriage return, or at the end
+    Ended,
+    Refused(Reason),
+}
+
+// What is known of a line while it is read.
 #[derive(Clone, Copy)]
 struct Scan {
-    phase: u8,
+    phase: Phase,
     start: usize,
     value: u32,
     count: usize,
     numbers: [u32; 32],
-    reason: u8,
 }
 
-// What a line is: its numbers; nothing, where it has none and is empty or a comment; or refused, at a place counted from 0, for a reason that is not 0.
+// The numbers of a line; none where it is empty or a comment.
 #[derive(Clone, Copy)]
 pub struct Row {
-    pub reason: u8,
-    pub at: usize,
     pub count: usize,
     pub numbers: [u32; 32],
+}
+
+// Where a line is refused, by a place counted from 0, and why.
+#[derive(Clone, Copy, Debug, PartialEq, Eq)]
+pub struct Refusal {
+    pub at: usize,
+    pub reason: Reason,
 }
 
 // A line's bytes, and the numbers in it.
 #[derive(Clone, Copy)]
 struct Day {
     size: usize,
-    count: usize,
-    numbers: [u32; 32],
+    row: Row,
 }
 
 // How many lines were written, the bytes that they took, and the bytes of their records.
@@ -59,16 +95,15 @@ fn begun() -> Scan
     ensures { result ≡ begin }
 {
     Scan {
-        phase: 0,
+        phase: Phase::Start,
         start: 0,
         value: 0,
         count: 0,
         numbers: [0u32; 32],
-        reason: 0,
     }
 }
 
-fn to_phase(s: Scan, phase: u8, at: usize) -> Scan
+fn to_phase(s: Scan, phase: Phase, at: usize) -> Scan
     ensures { result ≡ with_phase s phase at }
 {
     Scan {
@@ -82,7 +117,7 @@ fn in_number(s: Scan, at: usize, value: u32) -> Scan
     ensures { result ≡ in_number s at value }
 {
     Scan {
-        phase: 2,
+        phase: Phase::InNumber,
         start: at,
         value,
         ..s
@@ -105,20 +140,19 @@ fn store(s: Scan) -> Scan
     ensures { result ≡ stored s }
 {
     Scan {
-        phase: 3,
+        phase: Phase::BehindNumber,
         count: s.count.saturating_add(1).min(32),
         numbers: with_number(s.numbers, s.count, s.value),
         ..s
     }
 }
 
-fn refuse(s: Scan, at: usize, reason: u8) -> Scan
+fn refuse(s: Scan, at: usize, reason: Reason) -> Scan
     ensures { result ≡ refused s at reason }
 {
     Scan {
-        phase: 6,
+        phase: Phase::Refused(reason),
         start: at,
-        reason,
         ..s
     }
 }
@@ -128,7 +162,10 @@ fn refuse(s: Scan, at: usize, reason: u8) -> Scan
 fn not_expected(s: Scan, at: usize) -> Scan
     ensures { result ≡ strange s at }
 {
-    refuse(s, at, if s.phase < 2 { 1 } else { 2 })
+    match s.phase {
+        Phase::Start | Phase::BehindComma => refuse(s, at, Reason::ExpectedNumber),
+        _ => refuse(s, at, Reason::ExpectedComma),
+    }
 }
 
 // A number ends, if there is one.
@@ -136,7 +173,11 @@ fn not_expected(s: Scan, at: usize) -> Scan
 fn settled(s: Scan) -> Scan
     ensures { result ≡ settle s }
 {
-    if s.phase == 2 { store(s) } else { s }
+    if s.phase == Phase::InNumber {
+        store(s)
+    } else {
+        s
+    }
 }
 
 // A number that began at a place, as far as it is read.
@@ -147,7 +188,7 @@ fn grown(limit: u32, s: Scan, at: usize, v: u64) -> Scan
     if v <= u64::from(limit) {
         in_number(s, at, v as u32)
     } else {
-        refuse(s, at, 3)
+        refuse(s, at, Reason::TooLarge)
     }
 }
 
@@ -167,7 +208,7 @@ fn on_first(most: usize, limit: u32, s: Scan, d: u64, at: usize) -> Scan
     if has_room(most, s) {
         grown(limit, s, at, d)
     } else {
-        refuse(s, s.start, 4)
+        refuse(s, s.start, Reason::TooMany)
     }
 }
 
@@ -185,12 +226,10 @@ fn on_digit(most: usize, limit: u32, s: Scan, d: u64, at: usize) -> Scan
     requires { d ≤ 9 }
     ensures { result ≡ on_digit most limit s d at }
 {
-    if s.phase < 2 {
-        on_first(most, limit, s, d, at)
-    } else if s.phase == 2 {
-        grown(limit, s, s.start, longer(s.value, d))
-    } else {
-        not_expected(s, at)
+    match s.phase {
+        Phase::Start | Phase::BehindComma => on_first(most, limit, s, d, at),
+        Phase::InNumber => grown(limit, s, s.start, longer(s.value, d)),
+        _ => not_expected(s, at),
     }
 }
 
@@ -199,12 +238,12 @@ fn on_digit(most: usize, limit: u32, s: Scan, d: u64, at: usize) -> Scan
 fn on_comma(most: usize, s: Scan, at: usize) -> Scan
     ensures { result ≡ on_comma most s at }
 {
-    if s.phase != 3 {
+    if s.phase != Phase::BehindNumber {
         not_expected(s, at)
     } else if has_room(most, s) {
-        to_phase(s, 1, at)
+        to_phase(s, Phase::BehindComma, at)
     } else {
-        refuse(s, at, 4)
+        refuse(s, at, Reason::TooMany)
     }
 }
 
@@ -213,10 +252,10 @@ fn on_comma(most: usize, s: Scan, at: usize) -> Scan
 fn end_at(least: usize, s: Scan, at: usize) -> Scan
     ensures { result ≡ ended least s at }
 {
-    if s.phase == 0 || s.phase == 3 && least <= s.count {
-        to_phase(s, 5, at)
-    } else {
-        refuse(s, at, 5)
+    match s.phase {
+        Phase::Start => to_phase(s, Phase::Ended, at),
+        Phase::BehindNumber if least <= s.count => to_phase(s, Phase::Ended, at),
+        _ => refuse(s, at, Reason::EndsEarly),
     }
 }
 
@@ -225,10 +264,9 @@ fn end_at(least: usize, s: Scan, at: usize) -> Scan
 fn on_mark(s: Scan, b: u8, at: usize) -> Scan
     ensures { result ≡ on_mark s b at }
 {
-    if b == b'#' && s.phase == 0 {
-        to_phase(s, 4, at)
-    } else {
-        not_expected(s, at)
+    match s.phase {
+        Phase::Start if b == b'#' => to_phase(s, Phase::Comment, at),
+        _ => not_expected(s, at),
     }
 }
 
@@ -263,12 +301,10 @@ fn on_byte(least: usize, most: usize, limit: u32, s: Scan, b: u8, at: usize) -> 
 fn on_rest(s: Scan, b: u8, at: usize) -> Scan
     ensures { result ≡ behind s b at }
 {
-    if s.phase == 5 {
-        refuse(s, s.start, 6)
-    } else if s.phase == 4 && b == b'\r' {
-        to_phase(s, 5, at)
-    } else {
-        s
+    match s.phase {
+        Phase::Ended => refuse(s, s.start, Reason::CarriageReturn),
+        Phase::Comment if b == b'\r' => to_phase(s, Phase::Ended, at),
+        _ => s,
     }
 }
 
@@ -277,10 +313,9 @@ fn on_rest(s: Scan, b: u8, at: usize) -> Scan
 fn stepped(least: usize, most: usize, limit: u32, s: Scan, b: u8, at: usize) -> Scan
     ensures { result ≡ step least most limit s b at }
 {
-    if 4 <= s.phase {
-        on_rest(s, b, at)
-    } else {
-        on_byte(least, most, limit, s, b, at)
+    match s.phase {
+        Phase::Comment | Phase::Ended | Phase::Refused(_) => on_rest(s, b, at),
+        _ => on_byte(least, most, limit, s, b, at),
     }
 }
 
@@ -300,40 +335,34 @@ fn scanned(line: &[u8], least: usize, most: usize, limit: u32) -> Scan
 fn finished(least: usize, s: Scan, at: usize) -> Scan
     ensures { result ≡ finish least s at }
 {
-    if 4 <= s.phase {
-        s
-    } else {
-        end_at(least, settled(s), at)
+    match s.phase {
+        Phase::Comment | Phase::Ended | Phase::Refused(_) => s,
+        _ => end_at(least, settled(s), at),
     }
 }
 
 // What a line is, once it is read.
 #[tactic(auto, unfolding(crate::specs::Reading::outcome))]
-fn outcome_of(s: Scan) -> Row
+fn outcome_of(s: Scan) -> Result<Row, Refusal>
     ensures { result ≡ outcome s }
 {
-    if s.phase == 6 {
-        Row {
-            reason: s.reason,
+    if let Phase::Refused(reason) = s.phase {
+        return Err(Refusal {
             at: s.start,
-            count: 0,
-            numbers: [0u32; 32],
-        }
-    } else {
-        // An array goes from one struct into another through a variable: without it no proof is generated.
-        let numbers = s.numbers;
-        Row {
-            reason: 0,
-            at: 0,
-            count: s.count,
-            numbers,
-        }
+            reason,
+        });
     }
+    // An array goes from one struct into another through a variable: without it no proof is generated.
+    let numbers = s.numbers;
+    Ok(Row {
+        count: s.count,
+        numbers,
+    })
 }
 
 // A line of text, without its end, as the numbers in it.
 #[tactic(auto, unfolding(crate::specs::Reading::row_of))]
-pub fn read_row(line: &[u8], least: usize, most: usize, limit: u32) -> Row
+pub fn read_row(line: &[u8], least: usize, most: usize, limit: u32) -> Result<Row, Refusal>
     ensures { result ≡ row_of least most limit line.now }
 {
     let s = scanned(line, least, most, limit);
@@ -342,24 +371,22 @@ pub fn read_row(line: &[u8], least: usize, most: usize, limit: u32) -> Row
 
 // ---- the lines of a text
 
-fn too_long() -> Row
+fn too_long() -> Refusal
     ensures { result ≡ too_long }
 {
-    Row {
-        reason: 7,
+    Refusal {
         at: LONGEST,
-        count: 0,
-        numbers: [0u32; 32],
+        reason: Reason::LineTooLong,
     }
 }
 
 // A line of so many positions, with or without its end; one that is too long is refused.
-pub fn read_day(n: usize, line: &[u8]) -> Row
+pub fn read_day(n: usize, line: &[u8]) -> Result<Row, Refusal>
     ensures { result ≡ day_of n line.now }
 {
     let k = text_lines::length_to(line);
     if LONGEST < k {
-        return too_long();
+        return Err(too_long());
     }
     read_row(&line[..k], n, n, POSITION)
 }
@@ -372,17 +399,13 @@ fn next_day(last: bool, input: &[u8], n: usize, room: usize) -> Option<Day>
         return None;
     }
     let size = text_lines::line_size(last, input);
-    let row = read_day(n, &input[..size]);
-    if size == 0 || row.reason != 0 {
+    if size == 0 {
         return None;
     }
-    // As above: an array goes through a variable.
-    let numbers = row.numbers;
-    Some(Day {
-        size,
-        count: row.count,
-        numbers,
-    })
+    match read_day(n, &input[..size]) {
+        Ok(row) => Some(Day { size, row }),
+        Err(_) => None,
+    }
 }
 
 // Numbers, four bytes each, from a place on.
@@ -405,7 +428,7 @@ pub fn take_lines(last: bool, input: &[u8], n: usize, out: &mut [u8]) -> Part
     let mut used: usize = 0;
     let mut to: usize = 0;
     while let Some(day) = next_day(last, &input[used..], n, out.len() - to) {
-        to = put_numbers(out, to, &day.numbers[..day.count]);
+        to = put_numbers(out, to, &day.row.numbers[..day.row.count]);
         used += day.size;
         count += 1;
     }

@@ -1,5 +1,6 @@
 -- `rows::read_day` meets its contract. Assumes nothing.
-use mathlib.Core.Path.{sym, refl}
+use Rattle.std.specs.Prelude.{Err}
+use mathlib.Core.Path.{sym, refl, ap}
 use native.Mathlib.Omega.{arith}
 use lib.Seq.{length-take-le}
 use Rattle.text_lines.proofs.Lines.{to-most}
@@ -7,7 +8,7 @@ use Rattle.rows.proofs.Days.{day-long, day-there}
 use Rattle.rows.proofs.read_day.Goals as goal
 
 pub returns-then-k-gt-LONGEST : goal.returns-then-k-gt-LONGEST
-returns-then-k-gt-LONGEST c = day-long _ _ _ c.length_to-k.ensures _ c.if-k-gt-LONGEST.true c.too_long.ensures
+returns-then-k-gt-LONGEST c = day-long _ _ _ c.length_to-k.ensures _ c.if-k-gt-LONGEST.true (ap Err c.too_long.ensures)
 
 pub slice_bounds-read_row-end : goal.slice_bounds-read_row-end
 slice_bounds-read_row-end c =
