@@ -1,5 +1,6 @@
 -- Document 02, C-17: the question for the requirement is answered alike, whatever the reserves (specs/Answers.antt, `SaysAlike`). Assumes nothing.
-use mathlib.Core.Path.{◌≡◌, sym, ap, ◌∙◌}
+use Rattle.std.specs.Prelude.{Some, None}
+use mathlib.Core.Path.{◌≡◌, refl, sym, ap, ◌∙◌}
 use mathlib.Core.List.{List}
 use Prim.Native.Nat.{ℕ}
 use lib.ListN.{length, take}
@@ -11,8 +12,7 @@ use Rattle.case.specs.Claim.{outside_in}
 use Rattle.case.proofs.Claims.{claim}
 use Rattle.std.specs.Prelude.{true, false, eqb}
 use Rattle.lists.specs.Lists.{when◌then◌else◌}
-use Rattle.lists.proofs.Bools.{cases}
-use Rattle.case.specs.declared.Held.{Held}
+use Rattle.case.specs.Cases.{Held}
 use Rattle.case.specs.Readings.{reading_in, as_read}
 use Rattle.asking.specs.Answers.{Said, requirement_text, refusal_text, reading_said, said_to, SaysAlike}
 
@@ -22,7 +22,8 @@ said p = when eqb p.0 0 then (true, requirement_text p.1) else (false, refusal_t
 
 said-is : (h : Held) → reading_said (reading_in h) ≡ said (as_read (reading_in h))
 unfolding reading_said reading_in
-said-is h = cases h.present _ (λ t. rw t) (λ t. rw t)
+said-is None = refl
+said-is (Some c) = refl
 
 pub says-alike : SaysAlike
 unfolding said_to outside_in outside_of

@@ -5,7 +5,7 @@ use Rattle.lists.specs.Lists.{when◌then◌else◌, Each, Bytes}
 use Rattle.machine.specs.Printed.{decimal}
 use Rattle.reserves.specs.Reserves.{SameButReserves}
 use Rattle.input.specs.Fields.{rest}
-use Rattle.case.specs.declared.Held.{Held}
+use Rattle.case.specs.Cases.{Held}
 use Rattle.case.specs.Readings.{reading_in}
 use Rattle.case.specs.Cases.{no_held}
 use Rattle.case.specs.Input.{ledger_after, HeldAfter}

@@ -12,7 +12,7 @@ ghost use Rattle.feed.specs.Feeds.{Keeps, Fed};
 ghost use Rattle.asking.specs.Questions.{Asks};
 ghost use Rattle.asking.specs.Answers.{sentence, requirement_text, refusal_text, Written, told_into, reading_said, said_at, usage_text, Runs};
 
-use case::Held;
+use case::Case;
 use feed::Streams;
 
 // The questions about a case; `Unknown` is none of them.
@@ -26,7 +26,7 @@ pub enum Question {
 // read failed, or the buffer is too short. What is held and left is told in both cases, since `read_case` promises `Fed` of it where a read failed too.
 #[derive(Clone, Copy)]
 pub struct Rest {
-    pub held: Held,
+    pub held: Option<Case>,
     pub len: usize,
     pub ended: bool,
 }
@@ -41,21 +41,21 @@ pub struct Told {
 // What is held after a part of an input, and the bytes that its whole fields took.
 #[derive(Clone, Copy)]
 struct Taken {
-    held: Held,
+    held: Option<Case>,
     used: usize,
 }
 
 // What is held after a turn, and how many bytes are kept at the buffer's front.
 #[derive(Clone, Copy)]
 struct Turn {
-    held: Held,
+    held: Option<Case>,
     len: usize,
 }
 
 // ---- the case
 
 // The whole fields at the front of a part of an input, in turn.
-fn take_part(held: Held, input: &[u8]) -> Taken
+fn take_part(held: Option<Case>, input: &[u8]) -> Taken
     ensures { (result.held ≡ ledger_after held (whole input.now)) × (result.used ≡ bytes_of (whole input.now)) }
 {
     let mut next = held;
@@ -74,7 +74,7 @@ fn take_part(held: Held, input: &[u8]) -> Taken
 }
 
 // The bytes in front of a place taken: their whole fields, and what is left of them moved to the front.
-fn take_turn(held: Held, buf: &mut [u8], end: usize) -> Turn
+fn take_turn(held: Option<Case>, buf: &mut [u8], end: usize) -> Turn
     requires { end ≤ length buf.old }
     ensures { (result.held ≡ ledger_after held (whole (take end buf.old))) × Keeps rest (take end buf.old) buf.old buf.new result.len }
 {
@@ -90,7 +90,7 @@ fn take_turn(held: Held, buf: &mut [u8], end: usize) -> Turn
 pub fn read_case(streams: Streams, buf: &mut [u8]) -> Rest
     ensures { Fed rest (HeldAfter result.held) buf.new result.len }
 {
-    let mut held = Held::none();
+    let mut held: Option<Case> = None;
     let mut len: usize = 0;
     if buf.len() < 65538 {
         return Rest {
@@ -232,7 +232,7 @@ pub fn answer(question: Question, rest: Rest, out: &mut [u8]) -> Told
         );
     }
     match question {
-        Question::Requirement => tell_reading(rest.held.requirement(), out),
+        Question::Requirement => tell_reading(case::requirement(rest.held), out),
         Question::Unknown => tell_usage(out),
     }
 }

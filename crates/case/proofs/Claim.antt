@@ -1,5 +1,6 @@
 -- The ledger and the roll's machine agree (specs/Claim.antt): over every list of calls, any bytes, the ledger's answers and what is read of
 -- it after each call are the machine's. Assumes nothing.
+use Rattle.std.specs.Prelude.{Some, is_some}
 use mathlib.Core.Path.{◌≡◌, refl, sym, ap, subst, ◌∙◌}
 use mathlib.Core.Bool.{Bool, true, false}
 use mathlib.Core.List.{List, [], ◌∷◌, ◌++◌, map}
@@ -29,7 +30,7 @@ use Rattle.machine.proofs.Running.{reading_of}
 use Rattle.reserves.specs.Reserves.{outside_of}
 use Rattle.reserves.proofs.Seen.{outside_at}
 use Rattle.book.proofs.Sound.{Sound}
-use Rattle.case.specs.declared.Held.{Held}
+use Rattle.case.specs.Cases.{Held, case_in}
 use Rattle.case.specs.declared.Ran.{Ran}
 use Rattle.case.specs.View.{view}
 use Rattle.case.specs.Cases.{case_after, case_answer_to, first_answer_to, answer_to, after_asked, take_asked, applied, no_held}
@@ -44,32 +45,32 @@ use Rattle.case.proofs.Observations.{pool-sum-read, requirement-read, called-rea
 
 -- a case is held that with the machine's roll shows the machine's case; its units are those of the roll (`Sound`)
 pub record Holds (h : Held) (c : M.Case) : Type 0 where
-  pub present : h.present ≡ true
-  pub shows : view h.case c.roll ≡ c
-  pub sound : Sound h.case.stage h.case.book c.roll
-  pub ok : CaseOk (view h.case c.roll)
+  pub present : is_some h ≡ true
+  pub shows : view (case_in h) c.roll ≡ c
+  pub sound : Sound (case_in h).stage (case_in h).book c.roll
+  pub ok : CaseOk (view (case_in h) c.roll)
 
 abbrev pub Tied : Held → M.State → Type 0
-Tied h none = h.present ≡ false
+Tied h none = is_some h ≡ false
 Tied h (some c) = Holds h c
 
 -- where a claim about the case that is shown holds, it holds of the machine's case
-with-case : (h : Held) (P : M.State → Type 0) → ((c : M.Case) → Holds h c → P (some (view h.case c.roll))) → (c : M.Case) → Holds h c → P (some c)
+with-case : (h : Held) (P : M.State → Type 0) → ((c : M.Case) → Holds h c → P (some (view (case_in h) c.roll))) → (c : M.Case) → Holds h c → P (some c)
 with-case h P claim c t = subst (λ (x : M.Case). P (some x)) t.shows (claim c t)
 
 -- ---- one call
 
 -- the answers are the same
-same_answer : (h : Held) (s : M.State) → Tied h s → (call : Call) → Read call → answer_to h.present h.case (some call) ≡ refusal s call
+same_answer : (h : Held) (s : M.State) → Tied h s → (call : Call) → Read call → answer_to h (some call) ≡ refusal s call
 unfolding answer_to case_answer_to first_answer_to
 same_answer h none t call r = rw t (first-shown call)
 same_answer h (some c) t call r =
     rw t.present
-    (with-case h (λ s. case_answer_to h.case (some call) ≡ refusal s call) (λ x u. answer-shown h.case x.roll u.sound u.ok call r) c t)
+    (with-case h (λ s. case_answer_to (case_in h) (some call) ≡ refusal s call) (λ x u. answer-shown (case_in h) x.roll u.sound u.ok call r) c t)
 
 -- HEAD, where no case is held
 head-tied : (h : Held) (head : Head) → Read (HEAD head) → Passed (tests none (M.the_case none) (HEAD head))
-    → Holds (record { present = true; case = case_after h.case (HEAD head) }) (accepted (M.the_case none) (HEAD head))
+    → Holds (Some (case_after (case_in h) (HEAD head))) (accepted (M.the_case none) (HEAD head))
 unfolding case_after accepted tests
 head-tied h head small p =
     let shown = head-shown head small in
@@ -82,19 +83,19 @@ head-tied h head small p =
 
 -- what is held after an accepted call is tied to the machine's state
 new-tied : (h : Held) (s : M.State) → Tied h s → (call : Call) → Read call → Passed (tests s (M.the_case s) call)
-    → Tied (record { present = true; case = case_after h.case call }) (some (accepted (M.the_case s) call))
+    → Tied (Some (case_after (case_in h) call)) (some (accepted (M.the_case s) call))
 new-tied h none t call r p =
-    first-call (λ x. Read x → Passed (tests none (M.the_case none) x) → Tied (record { present = true; case = case_after h.case x }) (some (accepted (M.the_case none) x)))
+    first-call (λ x. Read x → Passed (tests none (M.the_case none) x) → Tied (Some (case_after (case_in h) x)) (some (accepted (M.the_case none) x)))
     (head-tied h) call p r p
 new-tied h (some c) t call r p =
-    with-case h (λ s. Passed (tests s (M.the_case s) call) → Holds (record { present = true; case = case_after h.case call }) (accepted (M.the_case s) call))
+    with-case h (λ s. Passed (tests s (M.the_case s) call) → Holds (Some (case_after (case_in h) call)) (accepted (M.the_case s) call))
     (λ x u q.
-    let shown = next-shown h.case x.roll u.sound u.ok call (read_fits call r) q in
+    let shown = next-shown (case_in h) x.roll u.sound u.ok call (read_fits call r) q in
     record {
       present = refl;
       shows = shown.shows;
       sound = shown.sound;
-      ok = subst CaseOk (sym shown.shows) (next-ok (view h.case x.roll) u.ok call (read_fits call r) q);
+      ok = subst CaseOk (sym shown.shows) (next-ok (view (case_in h) x.roll) u.ok call (read_fits call r) q);
     })
     c t p
 
@@ -105,14 +106,14 @@ pub record Taken (h : Held) (s : M.State) (asked : Option Call) : Type 0 where
 pub taken : (h : Held) (s : M.State) → Tied h s → (asked : Option Call) → AllRead asked → Taken h s asked
 unfolding take_asked answered answer_to case_answer_to first_answer_to after_asked
 taken h s t none r =
-    let one = same-choice {A = ℕ} h.present 1 in
+    let one = same-choice {A = ℕ} (is_some h) 1 in
     record { answer = one; tied = rw one t }
 taken h s t (some call) r =
     let same = same_answer h s t call r in
     record { answer = same; tied = rw same (by_answer (eqb (refusal s call) 0) refl) }
   where
     by_answer : (b : Bool) → eqb (refusal s call) 0 ≡ b
-        → Tied (when b then record { present = true; case = case_after h.case call } else h) (when b then some (accepted (M.the_case s) call) else s)
+        → Tied (when b then Some (case_after (case_in h) call) else h) (when b then some (accepted (M.the_case s) call) else s)
     by_answer true e = new-tied h s t call r (accepted-passed s call (eqb-true (refusal s call) 0 e))
     by_answer false e = t
 
@@ -139,19 +140,19 @@ takes h s t bytes b =
 pub seen-observed : (n : ℕ) (h : Held) (s : M.State) → Tied h s → seen n h ≡ observed n s
 seen-observed n h none t = none-observed n h t
 seen-observed n h (some c) t =
-    with-case h (λ s. seen n h ≡ observed n s) (λ x u. case-observed h.case x.roll u.sound u.ok n h u.present refl) c t
+    with-case h (λ s. seen n h ≡ observed n s) (λ x u. case-observed (case_in h) x.roll u.sound u.ok n h u.present refl) c t
 
 -- ---- the running sums, and the requirement that is read
 
 pub sums-seen : (h : Held) (s : M.State) → Tied h s → (pool : ℕ) → pool_prices_in h pool ≡ left_sum (M.the_case s) pool
 sums-seen h none t pool = none_left h t pool
 sums-seen h (some c) t pool =
-    with-case h (λ s. pool_prices_in h pool ≡ left_sum (M.the_case s) pool) (λ x u. pool-sum-read h.case x.roll u.sound u.ok h u.present refl pool) c t
+    with-case h (λ s. pool_prices_in h pool ≡ left_sum (M.the_case s) pool) (λ x u. pool-sum-read (case_in h) x.roll u.sound u.ok h u.present refl pool) c t
 
 pub requirement-seen : (h : Held) (s : M.State) → Tied h s → ◌≡◌ {A = ℕ × ℕ} (as_read (reading_in h)) (reading_of s)
 requirement-seen h none t = none_read h t
 requirement-seen h (some c) t =
-    with-case h (λ s. ◌≡◌ {A = ℕ × ℕ} (as_read (reading_in h)) (reading_of s)) (λ x u. requirement-read h.case x.roll u.sound u.ok h u.present refl) c t
+    with-case h (λ s. ◌≡◌ {A = ℕ × ℕ} (as_read (reading_in h)) (reading_of s)) (λ x u. requirement-read (case_in h) x.roll u.sound u.ok h u.present refl) c t
 
 -- ---- document 02, C-17: all that is seen outside the house
 
@@ -159,13 +160,13 @@ called-seen : (h : Held) (s : M.State) → Tied h s → called_in h ≡ map (λ 
 called-seen h none t = none-called h t
 called-seen h (some c) t =
     with-case h (λ s. called_in h ≡ map (λ m. (M.member_at (M.the_case s).members m).called) (M.member_list (M.the_case s).head))
-    (λ x u. called-read h.case x.roll u.sound u.ok h u.present refl) c t
+    (λ x u. called-read (case_in h) x.roll u.sound u.ok h u.present refl) c t
 
 owed-seen : (h : Held) (s : M.State) → Tied h s → owed_in h ≡ map (owes (M.the_case s).members) (M.member_list (M.the_case s).head)
 owed-seen h none t = none-owed h t
 owed-seen h (some c) t =
     with-case h (λ s. owed_in h ≡ map (owes (M.the_case s).members) (M.member_list (M.the_case s).head))
-    (λ x u. owed-read h.case x.roll u.sound u.ok h u.present refl) c t
+    (λ x u. owed-read (case_in h) x.roll u.sound u.ok h u.present refl) c t
 
 pub outside-seen : (h : Held) (s : M.State) → Tied h s → outside_in h ≡ outside_at s
 unfolding outside_in
@@ -185,7 +186,6 @@ agrees_from h s t (call ∷ calls) b =
     λ i. here i ∷ rest i
 
 pub none-tied : Tied no_held none
-unfolding no_held
 none-tied = refl
 
 pub agrees : Agrees

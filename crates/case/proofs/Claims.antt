@@ -1,6 +1,7 @@
 -- THE CLAIM of document 01 about the ledger (specs/Claim.antt), whole. Assumes nothing.
+use Rattle.std.specs.Prelude.{Some, None, is_some}
 use mathlib.Core.Path.{◌≡◌, refl, sym, ap, ◌∙◌}
-use mathlib.Core.Bool.{Bool, true, false}
+use mathlib.Core.Bool.{Bool, true, false, false≢true}
 use mathlib.Core.List.{List, []}
 use mathlib.Core.Option.{Option, none, some}
 use Prim.Native.Nat.{ℕ, ◌<◌}
@@ -23,7 +24,7 @@ use Rattle.reserves.proofs.Claims.{reserves-stay-inside}
 use Rattle.wire.specs.Asked.{head_of}
 use Rattle.units.specs.Shown.{agreed_of}
 use Rattle.units.proofs.Shown as U
-use Rattle.case.specs.declared.Held.{Held}
+use Rattle.case.specs.Cases.{Held, case_in}
 use Rattle.case.specs.Cases.{applied, no_held, case_answer_to, answer_to, first_answer_to, first_answer, after_asked, case_after, take_asked, head_outcome, outcome_of}
 use Rattle.case.specs.Readings.{seen}
 use Rattle.case.specs.Input.{ledger_after}
@@ -66,14 +67,14 @@ one-of-five calls each c is n pool l =
 -- ---- the methods
 
 -- a case that is held, whatever a method makes of it, is held after the call is taken
-as-taken : (h : Held) (a : Option Call) → h.present ≡ true
-    → seen (outcome_of h.case a).answer (record { present = true; case = (outcome_of h.case a).case }) ≡ seen (take_asked h a).answer (take_asked h a).held
+as-taken : (h : Held) (a : Option Call) → is_some h ≡ true
+    → seen (outcome_of (case_in h) a).answer (Some (outcome_of (case_in h) a).case) ≡ seen (take_asked h a).answer (take_asked h a).held
 unfolding outcome_of take_asked answer_to
-as-taken h a e = rw e (by_answer (case_answer_to h.case a) (eqb (case_answer_to h.case a) 0))
+as-taken None a e = absurd (false≢true e)
+as-taken (Some c) a e = by_answer (case_answer_to c a) (eqb (case_answer_to c a) 0)
   where
     by_answer : (n : ℕ) (b : Bool)
-        → seen n (record { present = true; case = when b then after_asked h.case a else h.case })
-        ≡ seen n (when b then record { present = true; case = after_asked h.case a } else record { present = true; case = h.case })
+        → seen n (Some (when b then after_asked c a else c)) ≡ seen n (when b then Some (after_asked c a) else Some c)
     by_answer n true = refl
     by_answer n false = refl
 
@@ -87,7 +88,7 @@ methods-agree calls each c is call fits =
     ∙ ap (λ (n : ℕ). observed n (answered (some c) (some call)).state) k.answer
 
 head-agrees : HeadAgrees
-unfolding head_outcome no_held answer_to first_answer_to first_answer after_asked case_after take_asked
+unfolding head_outcome answer_to first_answer_to first_answer after_asked case_after take_asked
 head-agrees h small =
     let a = some (HEAD (head_of h)) in
     let k = taken no_held none none-tied a small in
@@ -102,7 +103,7 @@ keeps-sales calls each c is pool l =
     let h = ledger_after no_held calls in
     let t : Holds h c = rw is at (ledger-tied calls each) in
     let kept = t.sound.units.kept in
-    let u = h.case.book.units in
+    let u = (case_in h).book.units in
     record {
       units = rw (lt-ltb pool 4 l) (sym (U.agreed-count u _ _ kept pool l));
       entries = U.agreed-entries u _ _ kept pool l;

@@ -1,4 +1,5 @@
 -- What holds of the ledger after every list of calls and an accepted FINISH (specs/Claim.antt). Assumes nothing.
+use Rattle.std.specs.Prelude.{is_some}
 use mathlib.Core.Path.{◌≡◌, sym, ap, ◌∙◌}
 use mathlib.Core.Bool.{true, false≢true}
 use mathlib.Core.Logic.{⊎_elim}
@@ -25,7 +26,7 @@ use Rattle.book.specs.Stages.{view_stage}
 use Rattle.book.specs.Results.{limits_in, result_in}
 use Rattle.book.proofs.Sound.{Sound}
 use Rattle.case.specs.declared.Case.{Case}
-use Rattle.case.specs.declared.Held.{Held}
+use Rattle.case.specs.Cases.{Held, case_in}
 use Rattle.case.specs.View.{view}
 use Rattle.case.specs.Cases.{applied, no_held}
 use Rattle.case.specs.Readings.{shown_result, seen}
@@ -91,7 +92,7 @@ module _ (c : Case) (roll : List Entry) (sound : Sound c.stage c.book roll) (ok 
 -- ---- the case that FINISH leaves
 
 -- a case in stage F shows its result
-result-seen : (n : ℕ) (h : Held) → h.present ≡ true → M.letter (view_stage h.case.stage) ≡ 5 → (seen n h).result ≡ some (shown_result h.case.book)
+result-seen : (n : ℕ) (h : Held) → is_some h ≡ true → M.letter (view_stage (case_in h).stage) ≡ 5 → (seen n h).result ≡ some (shown_result (case_in h).book)
 unfolding seen
 result-seen n h present five = rw (present, five)
 
@@ -101,7 +102,7 @@ finished h c t =
     record {
       present = t.present;
       shown = λ n. result-seen n h t.present (ap (λ (x : M.Case). M.letter x.stage) t.shows);
-      charges = charges-hold h.case _ t.sound t.ok;
+      charges = charges-hold (case_in h) _ t.sound t.ok;
     }
 
 pub after_finish : Finishes

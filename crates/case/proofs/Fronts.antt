@@ -10,7 +10,7 @@ use Rattle.input.specs.Fields.{front_size, front_fields, Cuts}
 use Rattle.input.proofs.Strings.{ends-long, front_long, front-taken}
 use Rattle.input.proofs.Pieces.{fields-most, strings-are}
 use Rattle.input.proofs.Fronts.{no-entry, last_end, front-most}
-use Rattle.case.specs.declared.Held.{Held}
+use Rattle.case.specs.Cases.{Held}
 use Rattle.case.specs.Input.{Replays, FieldsTaken, ledger_after, ledger_answers}
 
 module _ (h : Held) (last : Bool) (input ends answers ends' : List ℕ) (k : ℕ) (c : Cuts last input (length answers) ends ends' k) where

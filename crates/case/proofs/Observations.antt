@@ -1,4 +1,5 @@
 -- What is read of the ledger is what the machine shows: the counts, the holdings, the sum of prices and the result. Assumes nothing.
+use Rattle.std.specs.Prelude.{is_some}
 use mathlib.Core.Path.{◌≡◌, sym, ap, ◌∙◌}
 use mathlib.Core.Bool.{true, false}
 use mathlib.Core.List.{List, map}
@@ -27,7 +28,7 @@ use Rattle.accounts.proofs.ViewPools as P
 use Rattle.accounts.proofs.ViewMembers as VM
 use Rattle.book.proofs.Sound.{Sound}
 use Rattle.case.specs.declared.Case.{Case}
-use Rattle.case.specs.declared.Held.{Held}
+use Rattle.case.specs.Cases.{Held, case_in}
 use Rattle.case.specs.View.{view}
 use Rattle.case.specs.Readings.{counts_in, holding_in, sum_of_prices_in, pool_prices_in, reading_in, as_read, called_in, owed_in, member_result_in, shown_result, seen}
 use Rattle.book.proofs.Shown.{listed, requirement-shown, pool-sum-shown, sum-of-prices-shown, debt-shown}
@@ -66,11 +67,11 @@ module _ (c : Case) (roll : List R.Entry) (sound : Sound c.stage c.book roll) (o
 
   -- ---- the sum of a pool, and the requirement
 
-  pub pool-sum-read : (h : Held) → h.present ≡ true → h.case ≡ c → (pool : ℕ) → pool_prices_in h pool ≡ left_sum (view c roll) pool
+  pub pool-sum-read : (h : Held) → is_some h ≡ true → case_in h ≡ c → (pool : ℕ) → pool_prices_in h pool ≡ left_sum (view c roll) pool
   unfolding pool_prices_in
   pool-sum-read h present is pool = rw (present, is) (pool-sum-shown c.stage c.book roll sound ok pool)
 
-  pub requirement-read : (h : Held) → h.present ≡ true → h.case ≡ c → ◌≡◌ {A = ℕ × ℕ} (as_read (reading_in h)) (0, requirement (view c roll))
+  pub requirement-read : (h : Held) → is_some h ≡ true → case_in h ≡ c → ◌≡◌ {A = ℕ × ℕ} (as_read (reading_in h)) (0, requirement (view c roll))
   unfolding reading_in
   requirement-read h present is = rw (present, is) (λ i. (0, requirement-shown c.stage c.book roll sound ok i))
 
@@ -79,14 +80,14 @@ module _ (c : Case) (roll : List R.Entry) (sound : Sound c.stage c.book roll) (o
   abbrev set : ℕ
   set = c.book.head.set
 
-  pub called-read : (h : Held) → h.present ≡ true → h.case ≡ c → called_in h ≡ map (λ m. (M.member_at (view c roll).members m).called) (members set)
+  pub called-read : (h : Held) → is_some h ≡ true → case_in h ≡ c → called_in h ≡ map (λ m. (M.member_at (view c roll).members m).called) (members set)
   unfolding called_in
   called-read h present is = rw (present, is)
       (map-ext _ _ (members set)
       (each_more (λ m. (m < 32) × (member set m ≡ true)) _
       (λ m h. sym (ap (λ (x : M.Member). x.called) (VM.member-shown c.book.members m h.0))) (members set) (members-each set)))
 
-  pub owed-read : (h : Held) → h.present ≡ true → h.case ≡ c → owed_in h ≡ map (owes (view c roll).members) (members set)
+  pub owed-read : (h : Held) → is_some h ≡ true → case_in h ≡ c → owed_in h ≡ map (owes (view c roll).members) (members set)
   unfolding owed_in
   owed-read h present is = rw (present, is) (map-ext _ _ (members set) (each-always _ (debt-shown c.stage c.book roll sound ok) (members set)))
 
@@ -116,7 +117,7 @@ module _ (c : Case) (roll : List R.Entry) (sound : Sound c.stage c.book roll) (o
 
   -- ---- all that is observed
 
-  pub case-observed : (n : ℕ) (h : Held) → h.present ≡ true → h.case ≡ c → seen n h ≡ observed n (some (view c roll))
+  pub case-observed : (n : ℕ) (h : Held) → is_some h ≡ true → case_in h ≡ c → seen n h ≡ observed n (some (view c roll))
   unfolding seen observed M.letter_of
   case-observed n h present is = rw (present, is) (λ i.
       record {
@@ -128,22 +129,22 @@ module _ (c : Case) (roll : List R.Entry) (sound : Sound c.stage c.book roll) (o
       })
 
 -- where no case is held
-pub none-observed : (n : ℕ) (h : Held) → h.present ≡ false → seen n h ≡ observed n none
+pub none-observed : (n : ℕ) (h : Held) → is_some h ≡ false → seen n h ≡ observed n none
 unfolding seen observed M.letter_of tab holding count sum_of_prices sum_cents R.prices keep
 none-observed n h absent = rw absent
 
-pub none_left : (h : Held) → h.present ≡ false → (pool : ℕ) → pool_prices_in h pool ≡ left_sum (M.the_case none) pool
+pub none_left : (h : Held) → is_some h ≡ false → (pool : ℕ) → pool_prices_in h pool ≡ left_sum (M.the_case none) pool
 unfolding pool_prices_in left_sum left_prices keep sum_cents
 none_left h absent pool = rw absent
 
-pub none_read : (h : Held) → h.present ≡ false → ◌≡◌ {A = ℕ × ℕ} (as_read (reading_in h)) (2, 0)
+pub none_read : (h : Held) → is_some h ≡ false → ◌≡◌ {A = ℕ × ℕ} (as_read (reading_in h)) (2, 0)
 unfolding reading_in
 none_read h absent = rw absent
 
-pub none-called : (h : Held) → h.present ≡ false → called_in h ≡ map (λ m. (M.member_at (M.the_case none).members m).called) (M.member_list (M.the_case none).head)
+pub none-called : (h : Held) → is_some h ≡ false → called_in h ≡ map (λ m. (M.member_at (M.the_case none).members m).called) (M.member_list (M.the_case none).head)
 unfolding called_in
 none-called h absent = rw (absent, members-none)
 
-pub none-owed : (h : Held) → h.present ≡ false → owed_in h ≡ map (owes (M.the_case none).members) (M.member_list (M.the_case none).head)
+pub none-owed : (h : Held) → is_some h ≡ false → owed_in h ≡ map (owes (M.the_case none).members) (M.member_list (M.the_case none).head)
 unfolding owed_in
 none-owed h absent = rw (absent, members-none)

@@ -1,5 +1,6 @@
 -- A call that is declined hands the case back unchanged; an accepted one hands back the case after it. Also ROUND's reserves, read one by one, and SALE's stage.
 -- Assumes nothing.
+use Rattle.std.specs.Prelude.{Some, None}
 use mathlib.Core.Bool.{Bool, true, false, not}
 use mathlib.Core.List.{List, [], ◌∷◌}
 use mathlib.Core.Option.{Option, none, some}
@@ -27,7 +28,7 @@ use Rattle.book.specs.Books.{any_open_in, round_book, sale_book}
 use Rattle.refusals.specs.Answers.{head_answer}
 use Rattle.case.specs.declared.Case.{Case}
 use Rattle.case.specs.declared.Outcome.{Outcome}
-use Rattle.case.specs.declared.Held.{Held}
+use Rattle.case.specs.Cases.{Held, case_in}
 use Rattle.case.specs.declared.Applied.{Applied}
 use Rattle.case.specs.Cases.{case_of, case_answer, case_answer_to, first_answer, first_answer_to, answer_to, new_case, case_after, after_asked, no_held, reserve_if, reserves_answer, head_outcome, outcome_of, take_asked}
 
@@ -53,27 +54,27 @@ module _ (c : Case) (a : Option Wire.Call) where
   accepted e d f o is = is ∙ ap (λ (x : Case). outcome 0 c x) f ∙ ap (λ (k : ℕ). outcome k c (after_asked c a)) e
 
   -- the case that an accepted call hands back, where only a method of the case can have taken it
-  pub handed : (first_answer_to a ≡ 0 → ⊥) → (o : Outcome) → o ≡ outcome_of c a → (present : Bool) → answer_to present c a ≡ 0 → o.case ≡ after_asked c a
+  pub handed : (first_answer_to a ≡ 0 → ⊥) → (o : Outcome) → o ≡ outcome_of c a → (h : Held) → case_in h ≡ c → answer_to h a ≡ 0 → o.case ≡ after_asked c a
   unfolding answer_to outcome_of
-  handed later o is true e = ap (λ (x : Outcome). x.case) is ∙ rw (eq-eqb (case_answer_to c a) 0 e)
-  handed later o is false e = absurd (later e)
+  handed later o is (Some d) same e = ap (λ (x : Outcome). x.case) is ∙ rw (eq-eqb (case_answer_to c a) 0 (rw same at e))
+  handed later o is None same e = absurd (later e)
 
 -- ---- a call that is taken
 
 module _ (h : Held) (a : Option Wire.Call) where
-  pub take-declined : (r : Refusal) → number_of r ≡ answer_to h.present h.case a → ◌≡◌ {A = Applied} (record { answer = number_of r; held = h }) (take_asked h a)
+  pub take-declined : (r : Refusal) → number_of r ≡ answer_to h a → ◌≡◌ {A = Applied} (record { answer = number_of r; held = h }) (take_asked h a)
   unfolding take_asked
-  take-declined r answered = go ∙ ap (λ (k : ℕ). after-answer k h (record { present = true; case = after_asked h.case a })) answered
+  take-declined r answered = go ∙ ap (λ (k : ℕ). after-answer k h (Some (after_asked (case_in h) a))) answered
     where
-      go : ◌≡◌ {A = Applied} (record { answer = number_of r; held = h }) (after-answer (number_of r) h (record { present = true; case = after_asked h.case a }))
+      go : ◌≡◌ {A = Applied} (record { answer = number_of r; held = h }) (after-answer (number_of r) h (Some (after_asked (case_in h) a)))
       go = rw (ne_eqb (number_of r) 0 (not-accepted r))
 
-  pub take-accepted : 0 ≡ answer_to h.present h.case a → (d : Case) → d ≡ after_asked h.case a
-      → ◌≡◌ {A = Applied} (record { answer = 0; held = record { present = true; case = d } }) (take_asked h a)
+  pub take-accepted : 0 ≡ answer_to h a → (d : Case) → d ≡ after_asked (case_in h) a
+      → ◌≡◌ {A = Applied} (record { answer = 0; held = Some d }) (take_asked h a)
   unfolding take_asked
   take-accepted answered d f =
-      ap (λ (x : Case). after-answer 0 h (record { present = true; case = x })) f
-      ∙ ap (λ (k : ℕ). after-answer k h (record { present = true; case = after_asked h.case a })) answered
+      ap (λ (x : Case). after-answer 0 h (Some x)) f
+      ∙ ap (λ (k : ℕ). after-answer k h (Some (after_asked (case_in h) a))) answered
 
 -- ---- the reserves of ROUND
 
@@ -129,7 +130,7 @@ unfolding head_outcome
 head-declined h r e k is = rw (ne_eqb (head_answer h) 0 (λ z. not-accepted r (e ∙ z)), e, is)
 
 pub head-accepted : (h : Head) → 0 ≡ head_answer h → (c : Case) → c ≡ new_case h
-    → ◌≡◌ {A = Applied} (record { answer = 0; held = record { present = true; case = c } }) (head_outcome h)
+    → ◌≡◌ {A = Applied} (record { answer = 0; held = Some c }) (head_outcome h)
 unfolding head_outcome
 head-accepted h e c is = let a : head_answer h ≡ 0 = sym e in rw (a, is)
 

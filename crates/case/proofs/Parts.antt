@@ -5,7 +5,7 @@ use Prim.Native.Nat.{ℕ}
 use Rattle.input.specs.Pieces.{pieces}
 use Rattle.input.specs.Fields.{whole, rest}
 use Rattle.input.proofs.Parts.{fields-apart}
-use Rattle.case.specs.declared.Held.{Held}
+use Rattle.case.specs.Cases.{Held}
 use Rattle.case.specs.Cases.{applied, no_held}
 use Rattle.case.specs.Input.{ledger_after, HeldAfter}
 use Rattle.case.proofs.Running.{after_two}

@@ -7,7 +7,7 @@ use native.Mathlib.Numerals.{add-one}
 use native.Mathlib.Omega.{arith}
 use lib.ListN.{length, set, get_or, take, drop, length-set, length-append, drop_of_length-le}
 use lib.Seq.{drop-cons}
-use Rattle.case.specs.declared.Held.{Held}
+use Rattle.case.specs.Cases.{Held}
 use Rattle.case.specs.declared.Applied.{Applied}
 use Rattle.case.specs.Cases.{applied}
 use Rattle.case.specs.Input.{ledger_after, ledger_answers, Replays}

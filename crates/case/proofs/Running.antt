@@ -1,5 +1,6 @@
 -- Calls asked first, and what holds at each turn of `run`: the answers written so far, and those that the fields left are given from what is held, are the answers
 -- to all fields; and what is held after the fields left is what is held after all. Assumes nothing.
+use Rattle.std.specs.Prelude.{Some}
 use mathlib.Core.Path.{◌≡◌, refl, sym, ap, ap₂, ◌∙◌}
 use mathlib.Core.Bool.{true}
 use mathlib.Core.Logic.{⊎_elim}
@@ -15,7 +16,7 @@ use Rattle.lists.specs.Refusals.{number_of}
 use Rattle.machine.specs.Wire as Wire
 use Rattle.machine.specs.Printed.{fields_in}
 use Rattle.case.specs.declared.Case.{Case}
-use Rattle.case.specs.declared.Held.{Held}
+use Rattle.case.specs.Cases.{Held, case_in}
 use Rattle.case.specs.declared.Applied.{Applied}
 use Rattle.case.specs.declared.Front.{Front}
 use Rattle.case.specs.Cases.{answer_to, after_asked, take_asked, applied, no_held}
@@ -31,12 +32,12 @@ use Rattle.input.proofs.Fronts.{front-most, fields-front, rest_all, no-entry}
 
 module _ (h : Held) (a : Option Wire.Call) (s : List ℕ) (read : a ≡ Wire.decode s) where
   -- a call that is declined leaves what is held
-  pub asked-declined : (r : Refusal) → number_of r ≡ answer_to h.present h.case a → ◌≡◌ {A = Applied} (record { answer = number_of r; held = h }) (applied h s)
+  pub asked-declined : (r : Refusal) → number_of r ≡ answer_to h a → ◌≡◌ {A = Applied} (record { answer = number_of r; held = h }) (applied h s)
   unfolding applied
   asked-declined r answered = take-declined h a r answered ∙ ap (take_asked h) read
 
-  pub asked-accepted : 0 ≡ answer_to h.present h.case a → (d : Case) → d ≡ after_asked h.case a
-      → ◌≡◌ {A = Applied} (record { answer = 0; held = record { present = true; case = d } }) (applied h s)
+  pub asked-accepted : 0 ≡ answer_to h a → (d : Case) → d ≡ after_asked (case_in h) a
+      → ◌≡◌ {A = Applied} (record { answer = 0; held = Some d }) (applied h s)
   unfolding applied
   asked-accepted answered d e = take-accepted h a answered d e ∙ ap (take_asked h) read
 

@@ -1,6 +1,7 @@
 -- Every answer is one of 01's and 02's numbers, 0 to 18. Assumes nothing.
+use Rattle.std.specs.Prelude.{Some, None}
 use mathlib.Core.Path.{◌≡◌, refl}
-use mathlib.Core.Bool.{Bool, true, false, ◌&&◌}
+use mathlib.Core.Bool.{Bool, true, ◌&&◌}
 use mathlib.Core.List.{List, [], ◌∷◌}
 use mathlib.Core.Option.{Option, none, some}
 use Prim.Native.Nat.{ℕ, ◌≤◌}
@@ -13,7 +14,7 @@ use Rattle.lists.proofs.Each.{Each}
 use Rattle.machine.specs.Wire as Wire
 use Rattle.refusals.specs.Answers.{head_answer, pool_answer, member_answer, round_answer, bid_answer, close_answer, allocate_answer, tear_answer, call_answer, pay_answer, move_answer, miss_answer, finish_answer, sale_answer, withdraw_answer}
 use Rattle.case.specs.declared.Case.{Case}
-use Rattle.case.specs.declared.Held.{Held}
+use Rattle.case.specs.Cases.{Held}
 use Rattle.case.specs.Cases.{case_answer, first_answer, case_answer_to, first_answer_to, answer_to, take_asked, applied}
 use Rattle.case.specs.Input.{ledger_answers}
 
@@ -68,16 +69,16 @@ first-call-most Wire.FINISH = omega arith
 first-call-most (Wire.SALE pool m price) = omega arith
 first-call-most (Wire.WITHDRAW m n) = omega arith
 
-to-most : (present : Bool) (c : Case) (asked : Option Wire.Call) → answer_to present c asked ≤ largest
+to-most : (h : Held) (asked : Option Wire.Call) → answer_to h asked ≤ largest
 unfolding answer_to case_answer_to first_answer_to
-to-most true c none = omega arith
-to-most true c (some call) = case-most c call
-to-most false c none = omega arith
-to-most false c (some call) = first-call-most call
+to-most (Some c) none = omega arith
+to-most (Some c) (some call) = case-most c call
+to-most None none = omega arith
+to-most None (some call) = first-call-most call
 
 pub answer-most : (h : Held) (bytes : List ℕ) → (applied h bytes).answer ≤ largest
 unfolding applied take_asked
-answer-most h bytes = to-most h.present h.case (Wire.decode bytes)
+answer-most h bytes = to-most h (Wire.decode bytes)
 
 pub answers-most : (h : Held) (calls : List (List ℕ)) → Each (λ a. a ≤ largest) (ledger_answers h calls)
 unfolding ledger_answers

@@ -12,7 +12,7 @@ use Rattle.input.specs.Fields.{front_size, whole_fields, whole}
 use Rattle.input.proofs.Strings.{bytes-two}
 use Rattle.input.proofs.Pieces.{bytes_most, fields-few, fields-chunk, fields-stop, Passing, passing-ends}
 use Rattle.input.proofs.Fronts.{front-most, rest_all, no-entry}
-use Rattle.case.specs.declared.Held.{Held}
+use Rattle.case.specs.Cases.{Held}
 use Rattle.case.specs.declared.Front.{Front}
 use Rattle.case.specs.Cases.{applied}
 use Rattle.case.specs.Input.{ledger_after, FieldsTaken}

@@ -1,5 +1,6 @@
 -- The program's case and its calls, over its own structs.
-use Rattle.std.specs.Prelude.{Bool, true, false, List, ℕ, ltb, eqb, length, get_or}
+use Rattle.std.specs.Prelude as R
+use Rattle.std.specs.Prelude.{Some, None, is_some, List, ℕ, ltb, eqb, length, get_or}
 use Rattle.std.proofs.Math.Option.{Option, none, some}
 use Rattle.lists.specs.Lists.{when◌then◌else◌, between}
 use Rattle.machine.specs.Wire as Wire
@@ -12,12 +13,34 @@ use Rattle.book.specs.Books.{any_open_in, new_book, pool_book, member_book, roun
 use Rattle.refusals.specs.Answers.{head_answer, pool_answer, member_answer, round_answer, bid_answer, close_answer, allocate_answer, tear_answer, call_answer, pay_answer, move_answer, miss_answer, finish_answer, sale_answer, withdraw_answer}
 use Rattle.case.specs.declared.Case.{Case}
 use Rattle.case.specs.declared.Outcome.{Outcome}
-use Rattle.case.specs.declared.Held.{Held}
 use Rattle.case.specs.declared.Applied.{Applied}
 
 -- a stage and a book
 abbrev pub case_of : Stage → Book → Case
 case_of stage b = record { stage = stage; book = b }
+
+-- ---- what is held
+
+-- HEAD
+unfoldable pub new_case : Head → Case
+new_case h = case_of Setup (new_book h)
+
+-- no case, or a case
+abbrev pub Held : Type 0
+Held = R.Option Case
+
+-- no case is held
+abbrev pub no_held : Held
+no_held = None
+
+-- a case of which every number is 0
+unfoldable pub empty_case : Case
+empty_case = new_case (record { pools = 0; least = 0; set = 0; hedge = 0; other = 0; margin = 0; fund = 0; house = 0 })
+
+-- the case that is held, and the empty one where none is
+abbrev pub case_in : Held → Case
+case_in None = empty_case
+case_in (Some c) = c
 
 -- ---- the answer to a call
 
@@ -80,8 +103,8 @@ unfoldable pub first_answer_to : Option Wire.Call → ℕ
 first_answer_to none = 1
 first_answer_to (some call) = first_answer call
 
-unfoldable pub answer_to : Bool → Case → Option Wire.Call → ℕ
-answer_to present c asked = when present then case_answer_to c asked else first_answer_to asked
+unfoldable pub answer_to : Held → Option Wire.Call → ℕ
+answer_to h asked = when is_some h then case_answer_to (case_in h) asked else first_answer_to asked
 
 -- reserve i of n, and 0 behind the last
 abbrev pub reserve_if : ℕ → ℕ → ℕ → ℕ
@@ -93,10 +116,6 @@ reserves_answer c n p q r s =
     when between 1 4 n then round_answer c.stage c.book n (reserve_if n 0 p) (reserve_if n 1 q) (reserve_if n 2 r) (reserve_if n 3 s) else 1
 
 -- ---- the case after an accepted call
-
--- HEAD
-unfoldable pub new_case : Head → Case
-new_case h = case_of Setup (new_book h)
 
 unfoldable pub case_after : Case → Wire.Call → Case
 case_after c (Wire.HEAD h) = new_case (head_from h)
@@ -125,15 +144,11 @@ after_asked c (some call) = case_after c call
 
 -- ---- a call taken
 
--- no case is held
-unfoldable pub no_held : Held
-no_held = record { present = false; case = new_case (record { pools = 0; least = 0; set = 0; hedge = 0; other = 0; margin = 0; fund = 0; house = 0 }) }
-
 -- "Each gives its number and the unchanged case (none where there was none); 0 is accepted."
 unfoldable pub take_asked : Held → Option Wire.Call → Applied
 take_asked h asked =
-    let n = answer_to h.present h.case asked in
-    record { answer = n; held = when eqb n 0 then record { present = true; case = after_asked h.case asked } else h }
+    let n = answer_to h asked in
+    record { answer = n; held = when eqb n 0 then Some (after_asked (case_in h) asked) else h }
 
 -- one call, from any bytes
 unfoldable pub applied : Held → List ℕ → Applied
@@ -145,7 +160,7 @@ applied h bytes = take_asked h (Wire.decode bytes)
 unfoldable pub head_outcome : Head → Applied
 head_outcome h =
     let n = head_answer h in
-    record { answer = n; held = when eqb n 0 then record { present = true; case = new_case h } else no_held }
+    record { answer = n; held = when eqb n 0 then Some (new_case h) else no_held }
 
 unfoldable pub outcome_of : Case → Option Wire.Call → Outcome
 outcome_of c asked =

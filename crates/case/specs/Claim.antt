@@ -3,9 +3,10 @@
 -- of this file; it is proved in proofs/Claims.antt (`claim`).
 --
 -- How it is tied to the code: the function `apply` takes what is held and any bytes, and its contract is `r ≡ applied held bytes`, with no
--- `requires`. So whoever starts with `Held::none` and calls `apply` in turn gets what `ledger_from` iterates. The function `run` does so over
+-- `requires`. So whoever starts with `None` and calls `apply` in turn gets what `ledger_from` iterates. The function `run` does so over
 -- the fields of a whole input, and its contract says it for the code itself. The contracts of the methods are `r ≡ outcome_of self call`,
 -- and of HEAD `r ≡ head_outcome head`. Prices are cents + 1,000,000 throughout.
+use Rattle.std.specs.Prelude.{Some, is_some}
 use Rattle.std.specs.Prelude as R
 use Rattle.std.specs.Prelude.{◌≡◌, true, List, [], ◌∷◌, map, ℕ, ◌+◌, ◌≤◌, ◌<◌, ◌^◌, pos, ◌-ℤ◌, length, get_or, take}
 use Rattle.std.proofs.Math.Option.{none, some}
@@ -31,7 +32,7 @@ use Rattle.accounts.specs.Bids.{view_bids}
 use Rattle.book.specs.declared.Book.{Book}
 use Rattle.book.specs.Results.{limits_in, result_in}
 use Rattle.case.specs.declared.Case.{Case}
-use Rattle.case.specs.declared.Held.{Held}
+use Rattle.case.specs.Cases.{Held, case_in}
 use Rattle.case.specs.Cases.{applied, no_held, head_outcome, outcome_of}
 use Rattle.case.specs.Readings.{sum_of_prices_in, pool_prices_in, reading_in, as_read, called_in, owed_in, shown_result, seen}
 use Rattle.case.specs.Input.{ledger_answers, ledger_after}
@@ -96,9 +97,9 @@ Read (WITHDRAW m n) = Unit {0}
 abbrev pub MethodsAgree : Type 0
 MethodsAgree =
     (calls : List (List ℕ)) → Each Bytes calls → (c : M.Case) → run_from none calls ≡ some c → (call : Call) → Read call
-    → let o = outcome_of (ledger_after no_held calls).case (some call) in
+    → let o = outcome_of (case_in (ledger_after no_held calls)) (some call) in
     let a = answered (some c) (some call) in
-    seen o.answer (record { present = true; case = o.case }) ≡ observed a.answer a.state
+    seen o.answer (Some o.case) ≡ observed a.answer a.state
 
 -- HEAD makes a case where there is none
 abbrev pub HeadAgrees : Type 0
@@ -119,7 +120,7 @@ pub record KeepsSale (u : Units) (roll : List Entry) (pool : ℕ) : Type 0 where
 abbrev pub KeepsSales : Type 0
 KeepsSales =
     (calls : List (List ℕ)) → Each Bytes calls → (c : M.Case) → run_from none calls ≡ some c → (pool : ℕ) → pool < 4
-    → KeepsSale (ledger_after no_held calls).case.book.units c.roll pool
+    → KeepsSale (case_in (ledger_after no_held calls)).book.units c.roll pool
 
 -- ---- document 02, C-14: "A bid record in the case now says whether it stands"
 
@@ -127,7 +128,7 @@ KeepsSales =
 abbrev pub KeepsBids : Type 0
 KeepsBids =
     (calls : List (List ℕ)) → Each Bytes calls → (c : M.Case) → run_from none calls ≡ some c
-    → view_bids (ledger_after no_held calls).case.book.bids ≡ c.bids
+    → view_bids (case_in (ledger_after no_held calls)).book.bids ≡ c.bids
 
 -- ---- document 02, C-16: "the case shall keep a running sum of the prices of units that have left the house"
 
@@ -201,9 +202,9 @@ pub record Charges (c : Case) : Type 0 where
 
 -- what is held after a FINISH that is answered 0: a case that shows its result
 pub record AfterFinish (h : Held) : Type 0 where
-  pub present : h.present ≡ true
-  pub shown : (n : ℕ) → (seen n h).result ≡ some (shown_result h.case.book)
-  pub charges : Charges h.case
+  pub present : is_some h ≡ true
+  pub shown : (n : ℕ) → (seen n h).result ≡ some (shown_result (case_in h).book)
+  pub charges : Charges (case_in h)
 
 -- so it is after every list of calls and a FINISH. It is proved in proofs/Finishes.antt
 abbrev pub Finishes : Type 0

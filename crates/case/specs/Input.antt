@@ -5,7 +5,7 @@ use Rattle.machine.specs.Printed.{fields_in}
 use Rattle.std.proofs.Math.Option.{none}
 use Rattle.input.specs.Strings.{in_front, ends_from, bytes_of}
 use Rattle.input.specs.Fields.{front_fields, whole}
-use Rattle.case.specs.declared.Held.{Held}
+use Rattle.case.specs.Cases.{Held}
 use Rattle.case.specs.declared.Front.{Front}
 use Rattle.case.specs.declared.Ran.{Ran}
 use Rattle.case.specs.Cases.{applied, no_held}

@@ -1,4 +1,5 @@
 -- What outsiders read of the program's case.
+use Rattle.std.specs.Prelude.{is_some}
 use Rattle.std.specs.Prelude as R
 use Rattle.std.specs.Prelude.{Ok, Err, List, [], map, ℕ, eqb, ℤ, pos, get_or}
 use Rattle.std.proofs.Math.Option.{none, some}
@@ -15,7 +16,7 @@ use Rattle.book.specs.Books.{prices_in, requirement_in}
 use Rattle.book.specs.Results.{result_in}
 use Rattle.book.specs.declared.Book.{Book}
 use Rattle.case.specs.declared.Case.{Case}
-use Rattle.case.specs.declared.Held.{Held}
+use Rattle.case.specs.Cases.{Held, case_in}
 
 -- the five counts of a pool
 unfoldable pub counts_in : Case → ℕ → List ℕ
@@ -31,11 +32,11 @@ sum_of_prices_in c = sub_ℕ (prices_in c.book) zero_prices
 
 -- document 02, C-16: what is kept of the units of a pool that have left the house, in cents; nothing has left where no case is held
 unfoldable pub pool_prices_in : Held → ℕ → ℤ
-pool_prices_in h pool = when h.present then sub_ℕ (sum_of h.case.book.units pool) zero_sum else pos 0
+pool_prices_in h pool = when is_some h then sub_ℕ (sum_of (case_in h).book.units pool) zero_sum else pos 0
 
 -- the requirement, "read from this sum and the two losses alone; with no case the reading is declined by 2"
 unfoldable pub reading_in : Held → R.Result ℕ ℕ
-reading_in h = when h.present then Ok (requirement_in h.case.book) else Err 2
+reading_in h = when is_some h then Ok (requirement_in (case_in h).book) else Err 2
 
 -- a reading as the machine gives it: an answer, and cents where it is 0
 abbrev pub as_read : R.Result ℕ ℕ → Reading
@@ -44,10 +45,10 @@ as_read (Err n) = (n, 0)
 
 -- document 02, C-17: "every call on a member", and what each owes, in member order; none where no case is held
 unfoldable pub called_in : Held → List ℕ
-called_in h = let b = h.case.book in when h.present then map (λ m. get_or b.members.called m 0) (members b.head.set) else []
+called_in h = let b = (case_in h).book in when is_some h then map (λ m. get_or b.members.called m 0) (members b.head.set) else []
 
 unfoldable pub owed_in : Held → List ℕ
-owed_in h = let b = h.case.book in when h.present then map (owes_of b.members) (members b.head.set) else []
+owed_in h = let b = (case_in h).book in when is_some h then map (owes_of b.members) (members b.head.set) else []
 
 -- member m's rank and charges
 abbrev pub member_result_in : Book → ℕ → MemberResult
@@ -72,11 +73,11 @@ shown_result b =
 -- what is observed of what is held, after a call that was answered n
 unfoldable pub seen : ℕ → Held → Observed
 seen n h =
-    let c = h.case in
+    let c = case_in h in
     record {
       answer = n;
-      counts = when h.present then tab c.book.pools.given (counts_in c) else [];
-      holdings = λ m pool price. when h.present then holding_in c m pool price else 0;
-      prices = when h.present then sum_of_prices_in c else pos 0;
-      result = when h.present then (when eqb (letter_of c.stage) 5 then some (shown_result c.book) else none) else none;
+      counts = when is_some h then tab c.book.pools.given (counts_in c) else [];
+      holdings = λ m pool price. when is_some h then holding_in c m pool price else 0;
+      prices = when is_some h then sum_of_prices_in c else pos 0;
+      result = when is_some h then (when eqb (letter_of c.stage) 5 then some (shown_result c.book) else none) else none;
     }

@@ -1,7 +1,7 @@
 // The case (documents 01 and 02): its stage and its book, and the fifteen calls. "Each call takes the case and hands the case back."
 #![tactic(auto)]
 
-ghost use Rattle.std.specs.Prelude.{◌≡◌, Bool, [], ◌∷◌, ◌<◌, ◌^◌, set};
+ghost use Rattle.std.specs.Prelude.{◌≡◌, [], ◌∷◌, ◌<◌, ◌^◌, set};
 ghost use Rattle.std.proofs.Math.Option.{some};
 ghost use Rattle.std.proofs.Math.IntN.{sub_ℕ};
 ghost use Rattle.lists.specs.Refusals.{number_of, answer_of};
@@ -9,7 +9,7 @@ ghost use Rattle.machine.specs.Wire.{POOL, MEMBER, BID, CLOSE, ALLOCATE, TEAR, C
 ghost use Rattle.wire.specs.Asked.{asked};
 ghost use Rattle.wire.specs.declared.Call.TheVariants.{Round};
 ghost use Rattle.units.specs.Shown.{count_of};
-ghost use Rattle.case.specs.Cases.{new_case, reserve_if, reserves_answer, first_answer_to, case_answer_to, answer_to, after_asked, take_asked, applied, head_outcome, outcome_of, no_held};
+ghost use Rattle.case.specs.Cases.{new_case, reserve_if, reserves_answer, first_answer_to, case_answer_to, answer_to, after_asked, take_asked, applied, head_outcome, outcome_of, Held, case_in, empty_case};
 ghost use Rattle.case.specs.Readings.{holding_in, sum_of_prices_in, pool_prices_in, reading_in};
 ghost use Rattle.input.specs.Strings.{strings_in};
 ghost use Rattle.case.specs.Input.{Replays, TakesFields, Runs};
@@ -33,24 +33,17 @@ pub struct Outcome {
     pub case: Case,
 }
 
-// No case, or a case.
-#[derive(Clone, Copy)]
-pub struct Held {
-    pub present: bool,
-    pub case: Case,
-}
-
 // The answer to a call, and what is held after it.
 #[derive(Clone, Copy)]
 pub struct Applied {
     pub answer: u8,
-    pub held: Held,
+    pub held: Option<Case>,
 }
 
 // What is held after the fields at an input's front, the bytes that they took, and how many they are.
 #[derive(Clone, Copy)]
 pub struct Front {
-    pub held: Held,
+    pub held: Option<Case>,
     pub used: usize,
     pub count: usize,
 }
@@ -59,53 +52,33 @@ pub struct Front {
 #[derive(Clone, Copy)]
 pub struct Ran {
     pub count: usize,
-    pub held: Held,
+    pub held: Option<Case>,
 }
 
-impl Held {
-    // No case.
-    #[tactic(auto, unfolding(crate::specs::Cases::no_held))]
-    pub fn none() -> Held
-        ensures { result ≡ no_held }
-    {
-        let head = Head {
-            pools: 0,
-            least: 0,
-            set: 0,
-            hedge: 0,
-            other: 0,
-            margin: 0,
-            fund: 0,
-            house: 0,
-        };
-        Held {
-            present: false,
-            case: Case::new(head),
-        }
-    }
+// ---- what is read of what is held
 
-    // The requirement in cents, read from the sums that the case keeps and the two losses; "with no case the reading is declined by 2".
-    #[tactic(auto, unfolding(crate::specs::Readings::reading_in))]
-    pub fn requirement(self) -> Result<u64, u8>
-        ensures { result ≡ reading_in self }
-    {
-        if self.present {
-            return Ok(self.case.book.requirement());
-        }
-        Err(2)
+// The requirement in cents, read from the sums that the case keeps and the two losses; "with no case the reading is declined by 2".
+#[tactic(auto, unfolding(crate::specs::Readings::reading_in))]
+pub fn requirement(held: Option<Case>) -> Result<u64, u8>
+    ensures { result ≡ reading_in held }
+{
+    match held {
+        Some(case) => Ok(case.book.requirement()),
+        None => Err(2),
     }
+}
 
-    // The sum of the prices of a pool's units that have left the house, in cents.
-    pub fn prices_in(self, pool: u8) -> i64
-        ensures { result ≡ pool_prices_in self pool }
-    {
-        if self.present {
-            return difference(
-                u64::from(self.case.book.units.prices_in(pool)),
-                u64::from(Units::ZERO_SUM),
-            );
-        }
-        0
+// The sum of the prices of a pool's units that have left the house, in cents.
+#[tactic(auto, unfolding(crate::specs::Readings::pool_prices_in))]
+pub fn prices_in(held: Option<Case>, pool: u8) -> i64
+    ensures { result ≡ pool_prices_in held pool }
+{
+    match held {
+        Some(case) => difference(
+            u64::from(case.book.units.prices_in(pool)),
+            u64::from(Units::ZERO_SUM),
+        ),
+        None => 0,
     }
 }
 
@@ -147,6 +120,23 @@ impl Case {
         }
     }
 
+    // A case of which every number is 0.
+    #[tactic(auto, unfolding(crate::specs::Cases::empty_case))]
+    fn empty() -> Case
+        ensures { result ≡ empty_case }
+    {
+        Case::new(Head {
+            pools: 0,
+            least: 0,
+            set: 0,
+            hedge: 0,
+            other: 0,
+            margin: 0,
+            fund: 0,
+            house: 0,
+        })
+    }
+
     // A call that is declined hands the case back unchanged.
     fn declined(self, refusal: Refusal) -> Outcome
         ensures { result ≡ record { answer = number_of refusal; case = self } }
@@ -174,14 +164,11 @@ impl Case {
         match refusals::head_answer(head) {
             Err(refusal) => Applied {
                 answer: refusal.number(),
-                held: Held::none(),
+                held: None,
             },
             Ok(()) => Applied {
                 answer: 0,
-                held: Held {
-                    present: true,
-                    case: Case::new(head),
-                },
+                held: Some(Case::new(head)),
             },
         }
     }
@@ -382,15 +369,14 @@ fn difference(a: u64, b: u64) -> i64
 
 // ---- any call
 
-// The answer to a call, from whether a case is held, and the case.
+// The answer to a call, from what is held.
 #[tactic(auto, unfolding(crate::specs::Cases::answer_to))]
-pub fn answer_to(present: bool, case: Case, call: Call) -> Result<(), Refusal>
-    ensures { answer_of result ≡ answer_to present case (asked call) }
+pub fn answer_to(held: Option<Case>, call: Call) -> Result<(), Refusal>
+    ensures { answer_of result ≡ answer_to held (asked call) }
 {
-    if present {
-        answer_in(case, call)
-    } else {
-        first_answer(call)
+    match held {
+        Some(case) => answer_in(case, call),
+        None => first_answer(call),
     }
 }
 
@@ -468,8 +454,8 @@ fn answer_in(case: Case, call: Call) -> Result<(), Refusal>
 
 // The case that an accepted call hands back: HEAD makes a new one, the others are methods of the one held. The arms that need the case in a place of their own
 // copy it themselves, so that the others do not.
-pub fn after(case: Case, call: Call) -> Case
-    ensures { (present : Bool) → answer_to present case (asked call) ≡ 0 → result ≡ after_asked case (asked call) }
+fn after_in(case: Case, call: Call) -> Case
+    ensures { (h : Held) → case_in h ≡ case → answer_to h (asked call) ≡ 0 → result ≡ after_asked case (asked call) }
 {
     match call {
         Call::Head(head) => Case::new(head),
@@ -525,29 +511,35 @@ pub fn after(case: Case, call: Call) -> Case
     }
 }
 
+// The same from what is held. Where that is no case only HEAD is accepted, which reads nothing of a case.
+pub fn after(held: Option<Case>, call: Call) -> Case
+    ensures { answer_to held (asked call) ≡ 0 → result ≡ after_asked (case_in held) (asked call) }
+{
+    match held {
+        Some(case) => after_in(case, call),
+        None => after_in(Case::empty(), call),
+    }
+}
+
 // A call taken: "Each gives its number and the unchanged case (none where there was none); 0 is accepted."
-pub fn take(held: Held, call: Call) -> Applied
+pub fn take(held: Option<Case>, call: Call) -> Applied
     ensures { result ≡ take_asked held (asked call) }
 {
-    let case = held.case;
-    match answer_to(held.present, case, call) {
+    match answer_to(held, call) {
         Err(refusal) => Applied {
             answer: refusal.number(),
             held,
         },
         Ok(()) => Applied {
             answer: 0,
-            held: Held {
-                present: true,
-                case: after(case, call),
-            },
+            held: Some(after(held, call)),
         },
     }
 }
 
 // One call, from any bytes: an unknown tag, a wrong length or bytes that are no field are answered 1.
 #[tactic(auto, unfolding(crate::specs::Cases::applied))]
-pub fn apply(held: Held, bytes: &[u8]) -> Applied
+pub fn apply(held: Option<Case>, bytes: &[u8]) -> Applied
     ensures { result ≡ applied held bytes.now }
 {
     take(held, wire::read_call(bytes))
@@ -565,33 +557,31 @@ pub fn put<T: Copy>(run: &mut [T], k: usize, x: T)
 }
 
 // Byte strings taken in turn as calls, with an answer for each where there is room. The loop asks first: a call that is declined copies no case.
-pub fn replay(held: Held, bytes: &[u8], ends: &[usize], answers: &mut [u8]) -> Held
+pub fn replay(held: Option<Case>, bytes: &[u8], ends: &[usize], answers: &mut [u8]) -> Option<Case>
     ensures { Replays held (strings_in bytes.now ends.now) answers.old answers.new result }
 {
-    let mut present = held.present;
-    let mut case = held.case;
+    let mut next = held;
     let mut at: usize = 0;
     for (k, place) in ends.iter().enumerate() {
         let end = input::cut_at(at, bytes.len(), *place);
         let call = wire::read_call(&bytes[at..end]);
         at = end;
-        match answer_to(present, case, call) {
+        match answer_to(next, call) {
             Err(refusal) => put(answers, k, refusal.number()),
             Ok(()) => {
                 put(answers, k, 0);
-                present = true;
-                case = after(case, call);
+                next = Some(after(next, call));
             }
         }
     }
-    Held { present, case }
+    next
 }
 
 // ---- the fields of an input
 
 // The fields at an input's front taken in turn, as many as there is room for answers and for where they end.
 pub fn take_fields(
-    held: Held,
+    held: Option<Case>,
     last: bool,
     input: &[u8],
     ends: &mut [usize],
@@ -619,7 +609,7 @@ pub fn take_fields(
 pub fn run(input: &[u8], answers: &mut [u8]) -> Ran
     ensures { Runs input.now answers.old answers.new result }
 {
-    let mut held = Held::none();
+    let mut held: Option<Case> = None;
     let mut ends = [0usize; 256];
     let mut at: usize = 0;
     let mut count: usize = 0;

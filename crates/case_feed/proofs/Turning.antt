@@ -12,7 +12,7 @@ use Rattle.input.specs.Fields.{front_size, whole, rest}
 use Rattle.input.proofs.Pieces.{bytes_most}
 use Rattle.input.proofs.Fronts.{front-most}
 use Rattle.input.proofs.Parts.{rest_then}
-use Rattle.case.specs.declared.Held.{Held}
+use Rattle.case.specs.Cases.{Held}
 use Rattle.case.specs.Cases.{no_held}
 use Rattle.case.specs.Input.{ledger_after, HeldAfter}
 use Rattle.case.proofs.Parts.{none-held, held_then}

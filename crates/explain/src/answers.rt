@@ -3,7 +3,7 @@ use crate::ranges;
 use crate::texts::{Cents, Money, Set, Text, ZERO_PRICE, minus, sum_of, worth};
 use accounts::bids::Bids;
 use book::{Book, Stage};
-use case::{Case, Held};
+use case::Case;
 use units::Units;
 use wire::Call;
 
@@ -94,22 +94,16 @@ fn owed_reason(call: Call) -> &'static str {
 // ---- the value at fault
 
 // 1: the reserves that a ROUND must have.
-fn put_length(text: &mut Text, held: Held, call: Call) {
+fn put_length(text: &mut Text, pools: u8, call: Call) {
     if let Call::Round { .. } = call {
-        if held.present {
-            text.put(format_args!(" (the case takes {})", held.case.book.head.pools));
-        }
+        text.put(format_args!(" (the case takes {pools})"));
     }
 }
 
 // 2: the stage.
-fn put_stage_at_fault(text: &mut Text, held: Held) {
-    if held.present {
-        text.put(" in ");
-        put_stage(text, held.case);
-    } else {
-        text.put(" before HEAD");
-    }
+fn put_stage_at_fault(text: &mut Text, case: Case) {
+    text.put(" in ");
+    put_stage(text, case);
 }
 
 // The pool that a call is about; no other call is refused for its pool.
@@ -198,13 +192,22 @@ fn put_dear(text: &mut Text, book: Book, call: Call) {
     }
 }
 
-// The value at fault.
-fn put_fault(text: &mut Text, held: Held, call: Call, answer: u8) {
-    let book = held.case.book;
+// The value at fault where no case is held: any call but HEAD has no stage, and of HEAD only numbers are at fault.
+fn put_first_fault(text: &mut Text, call: Call, answer: u8) {
+    match answer {
+        2 => text.put(" before HEAD"),
+        5 => ranges::put_ranges(text, 0, call),
+        _ => {}
+    }
+}
+
+// The value at fault where a case is held.
+fn put_fault(text: &mut Text, case: Case, call: Call, answer: u8) {
+    let book = case.book;
     let head = book.head;
     match answer {
-        1 => put_length(text, held, call),
-        2 => put_stage_at_fault(text, held),
+        1 => put_length(text, head.pools, call),
+        2 => put_stage_at_fault(text, case),
         3 => text.put(format_args!(
             " (pools of the case {}, given {})",
             head.pools, book.pools.given
@@ -317,15 +320,15 @@ fn put_requirement(text: &mut Text, answer: u8, book: Book) {
 }
 
 // Puts the stage, the open units and the requirement after a call with this answer.
-pub fn put_state(text: &mut Text, answer: u8, held: Held) {
-    if held.present {
-        let case = held.case;
-        text.put("; ");
-        put_stage(text, case);
-        put_units(text, case.book);
-        put_requirement(text, answer, case.book);
-    } else {
-        text.put("; no case\n");
+pub fn put_state(text: &mut Text, answer: u8, held: Option<Case>) {
+    match held {
+        Some(case) => {
+            text.put("; ");
+            put_stage(text, case);
+            put_units(text, case.book);
+            put_requirement(text, answer, case.book);
+        }
+        None => text.put("; no case\n"),
     }
 }
 
@@ -349,17 +352,21 @@ fn put_withdraw(text: &mut Text, case: Case, call: Call) {
 }
 
 // Any other refusal: its number, its reason and the value at fault.
-fn put_refusal(text: &mut Text, held: Held, call: Call, answer: u8) {
-    let reason = reason(call, held.case.book.members.given, answer);
+fn put_refusal(text: &mut Text, held: Option<Case>, call: Call, answer: u8) {
+    let given = held.map_or(0, |case| case.book.members.given);
+    let reason = reason(call, given, answer);
     text.put(format_args!("    refused {answer}: {reason}"));
-    put_fault(text, held, call, answer);
+    match held {
+        Some(case) => put_fault(text, case, call, answer),
+        None => put_first_fault(text, call, answer),
+    }
 }
 
 // Puts the answer to a call in words; what is held is that before the call.
-pub fn put_answer(text: &mut Text, held: Held, call: Call, answer: u8) {
-    match answer {
-        0 => put_accepted(text, call, held.case.book.bids.kept),
-        18 => put_withdraw(text, held.case, call),
+pub fn put_answer(text: &mut Text, held: Option<Case>, call: Call, answer: u8) {
+    match (answer, held) {
+        (0, _) => put_accepted(text, call, held.map_or(0, |case| case.book.bids.kept)),
+        (18, Some(case)) => put_withdraw(text, case, call),
         _ => put_refusal(text, held, call, answer),
     }
 }

@@ -13,26 +13,26 @@ ghost use Rattle.case.specs.Cases.{applied};
 ghost use Rattle.case.specs.Input.{ledger_after, HeldAfter};
 ghost use Rattle.feed.specs.Feeds.{Keeps, Fed};
 
-use case::Held;
+use case::Case;
 use feed::{Failed, Streams};
 use texts::Text;
 
 // What is held after a part of an input, and the bytes that its whole fields took.
 #[derive(Clone, Copy)]
 struct Taken {
-    held: Held,
+    held: Option<Case>,
     used: usize,
 }
 
 // What is held after a turn, or when the input has ended, and how many bytes of a field that is cut off are kept at the buffer's front.
 #[derive(Clone, Copy)]
 struct Kept {
-    held: Held,
+    held: Option<Case>,
     len: usize,
 }
 
 // One field: the call, its answer in words, and the stage, the open units and the requirement after it.
-fn take_field(text: &mut Text, held: Held, bytes: &[u8]) -> Held
+fn take_field(text: &mut Text, held: Option<Case>, bytes: &[u8]) -> Option<Case>
     ensures { result ≡ (applied held bytes.now).held }
 {
     let call = wire::read_call(bytes);
@@ -44,7 +44,7 @@ fn take_field(text: &mut Text, held: Held, bytes: &[u8]) -> Held
 }
 
 // The whole fields at the front of a part of an input, in turn.
-fn take_part(text: &mut Text, held: Held, input: &[u8]) -> Taken
+fn take_part(text: &mut Text, held: Option<Case>, input: &[u8]) -> Taken
     ensures { (result.held ≡ ledger_after held (whole input.now)) × (result.used ≡ bytes_of (whole input.now)) }
 {
     let mut next = held;
@@ -60,7 +60,7 @@ fn take_part(text: &mut Text, held: Held, input: &[u8]) -> Taken
 }
 
 // The bytes in front of a place taken: their whole fields, and what is left of them moved to the front.
-fn take_turn(text: &mut Text, held: Held, buf: &mut [u8], end: usize) -> Kept
+fn take_turn(text: &mut Text, held: Option<Case>, buf: &mut [u8], end: usize) -> Kept
     requires { end ≤ length buf.old }
     ensures { (result.held ≡ ledger_after held (whole (take end buf.old))) × Keeps rest (take end buf.old) buf.old buf.new result.len }
 {
@@ -76,7 +76,7 @@ fn take_turn(text: &mut Text, held: Held, buf: &mut [u8], end: usize) -> Kept
 fn take_input(streams: Streams, text: &mut Text, buf: &mut [u8]) -> Result<Kept, Failed>
     ensures { IfOk result (λ r. Fed rest (HeldAfter r.held) buf.new r.len) }
 {
-    let mut held = Held::none();
+    let mut held: Option<Case> = None;
     let mut len: usize = 0;
     for _ in 0..u64::MAX {
         let more = feed::read(streams, buf, len, b"explain: standard input")?;

@@ -6,7 +6,7 @@ use crate::texts::{Cents, Money, Price, Set, Text, ZERO_PRICE, minus, sum_of, wo
 use accounts::bids::Bids;
 use accounts::members::{Members, over_pools, widened, without_pools};
 use book::{Book, Result, Stage};
-use case::{Case, Held};
+use case::Case;
 use std::fmt::Display;
 use units::Units;
 use wire::Call;
@@ -468,18 +468,18 @@ fn put_held(text: &mut Text, case: Case) {
 // ---- all tables
 
 // Puts the tables of what is held at the end.
-pub fn put_tables(text: &mut Text, held: Held) {
-    if held.present {
-        let case = held.case;
-        let book = case.book;
-        let finished = matches!(case.stage, Stage::Finished);
-        put_pools(text, case);
-        put_sales(text, book.units);
-        put_bids(text, case.stage, book.bids);
-        put_loss(text, finished, book);
-        put_members(text, finished, book);
-        put_held(text, case);
-    } else {
-        text.put("no case\n");
+pub fn put_tables(text: &mut Text, held: Option<Case>) {
+    match held {
+        Some(case) => {
+            let book = case.book;
+            let finished = matches!(case.stage, Stage::Finished);
+            put_pools(text, case);
+            put_sales(text, book.units);
+            put_bids(text, case.stage, book.bids);
+            put_loss(text, finished, book);
+            put_members(text, finished, book);
+            put_held(text, case);
+        }
+        None => text.put("no case\n"),
     }
 }

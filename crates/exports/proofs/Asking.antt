@@ -7,7 +7,7 @@ use native.Mathlib.Omega.{arith}
 use lib.ListN.{length, set, get_or, length-set}
 use Rattle.lists.specs.Lists.{tab}
 use Rattle.lists.proofs.Places.{length-tab, tab-last}
-use Rattle.case.specs.declared.Held.{Held}
+use Rattle.case.specs.Cases.{Held}
 use Rattle.input.specs.Strings.{in_front}
 use Rattle.exports.specs.Showing.{holding_shown, asks, holdings_of}
 use Rattle.input.proofs.Strings.{front-next}

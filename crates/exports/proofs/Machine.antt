@@ -24,7 +24,7 @@ use Rattle.book.specs.declared.Result.{Result}
 use Rattle.book.proofs.Sound.{Sound}
 use Rattle.book.proofs.Shown.{requirement-shown, prefunded-shown, debt-shown}
 use Rattle.case.specs.declared.Case.{Case}
-use Rattle.case.specs.declared.Held.{Held}
+use Rattle.case.specs.Cases.{Held, case_in}
 use Rattle.std.specs.Prelude as R
 use Rattle.case.specs.View.{view}
 use Rattle.case.specs.Cases.{no_held}
@@ -93,7 +93,7 @@ module _ (c : Case) (roll : List Entry) (sound : Sound c.stage c.book roll) (ok 
 shown_by_lem : (h : Held) (s : M.State) → Tied h s → shown_of h ≡ shown_by s
 unfolding shown_of shown_by
 shown_by_lem h none t = rw t
-shown_by_lem h (some c) t = rw t.present (shown-in h.case c.roll t.sound t.ok ∙ ap shown_in t.shows)
+shown_by_lem h (some c) t = rw t.present (shown-in (case_in h) c.roll t.sound t.ok ∙ ap shown_in t.shows)
 
 -- a pair as what is shown
 abbrev pub shown_reading : ℕ × ℕ → Reading

@@ -1,4 +1,5 @@
 -- What is shown of what is held, in the program's own terms.
+use Rattle.std.specs.Prelude.{is_some}
 use Rattle.std.specs.Prelude.{true, false, List, ℕ, ◌/◌, ◌%◌, min, eqb, pos, length, get_or, replicate}
 use Rattle.lists.specs.Lists.{when◌then◌else◌, tab}
 use Rattle.units.specs.Shown.{count_of}
@@ -9,7 +10,7 @@ use Rattle.book.specs.Stages.{letter_of, round_of}
 use Rattle.book.specs.Books.{requirement_in, prefunded_in}
 use Rattle.book.specs.Results.{result_in}
 use Rattle.case.specs.declared.Case.{Case}
-use Rattle.case.specs.declared.Held.{Held}
+use Rattle.case.specs.Cases.{Held, case_in}
 use Rattle.case.specs.Readings.{sum_of_prices_in, holding_in}
 use Rattle.exports.specs.declared.Shown.{Shown}
 
@@ -85,11 +86,11 @@ case_shown c =
     }
 
 unfoldable pub shown_of : Held → Shown
-shown_of h = when h.present then case_shown h.case else none_shown
+shown_of h = when is_some h then case_shown (case_in h) else none_shown
 
 -- the units of a pool that a member holds at a price
 unfoldable pub holding_shown : Held → ℕ → ℕ → ℕ → ℕ
-holding_shown h m pool price = when h.present then holding_in h.case m pool price else 0
+holding_shown h m pool price = when is_some h then holding_in (case_in h) m pool price else 0
 
 -- holdings asked by member, pool and price, as many as there are of all three
 unfoldable pub asks : (ℕ → ℕ → ℕ → ℕ) → List ℕ → List ℕ → List ℕ → List ℕ

@@ -17,7 +17,7 @@ ghost use Rattle.exports.specs.Machine.{read_by};
 ghost use Rattle.exports.specs.Promises.{Called, holdings_after};
 
 use book::{Book, Result};
-use case::{Case, Held};
+use case::Case;
 use std::array;
 
 // What is shown of a case. Where none is held every number is 0; so is the result before an accepted FINISH. Bids are numbered from 0 as accepted, so the next
@@ -154,27 +154,29 @@ fn show_case(case: Case) -> Shown
 }
 
 // What is shown of what is held.
-fn show(held: Held) -> Shown
+#[tactic(auto, unfolding(crate::specs::Showing::shown_of))]
+fn show(held: Option<Case>) -> Shown
     ensures { result ≡ shown_of held }
 {
-    if held.present {
-        return show_case(held.case);
+    match held {
+        Some(case) => show_case(case),
+        None => show_none(),
     }
-    show_none()
 }
 
 // The units of a pool that a member holds at a price, and 0 where no case is held.
-fn holding(held: Held, m: u8, pool: u8, price: u32) -> u64
+#[tactic(auto, unfolding(crate::specs::Showing::holding_shown))]
+fn holding(held: Option<Case>, m: u8, pool: u8, price: u32) -> u64
     ensures { result ≡ holding_shown held m pool price }
 {
-    if held.present {
-        return held.case.holding(m, pool, price);
+    match held {
+        Some(case) => case.holding(m, pool, price),
+        None => 0,
     }
-    0
 }
 
 // What members hold, asked by member, pool and price.
-fn ask(held: Held, members: &[u8], pools: &[u8], prices: &[u32], units: &mut [u64])
+fn ask(held: Option<Case>, members: &[u8], pools: &[u8], prices: &[u32], units: &mut [u64])
     ensures { units.new ≡ in_front (holdings_of held members.now pools.now prices.now) units.old }
 {
     let n = units
@@ -188,11 +190,11 @@ fn ask(held: Held, members: &[u8], pools: &[u8], prices: &[u32], units: &mut [u6
 }
 
 // What is held after calls whose answers nobody asks for.
-fn held_after(bytes: &[u8], ends: &[usize]) -> Held
+fn held_after(bytes: &[u8], ends: &[usize]) -> Option<Case>
     ensures { result ≡ ledger_after no_held (strings_in bytes.now ends.now) }
 {
     let mut first = [0u8; 1];
-    case::replay(Held::none(), bytes, ends, &mut first)
+    case::replay(None, bytes, ends, &mut first)
 }
 
 // ---- what is exported
@@ -210,7 +212,7 @@ pub fn ledger_run(input: &[u8], answers: &mut [u8]) -> usize
 pub fn ledger_calls(bytes: &[u8], ends: &[usize], answers: &mut [u8]) -> Shown
     ensures { Called (strings_in bytes.now ends.now) answers.old answers.new result }
 {
-    show(case::replay(Held::none(), bytes, ends, answers))
+    show(case::replay(None, bytes, ends, answers))
 }
 
 // After the same calls: for question k, the units of pool pools[k] that member members[k] holds at the price prices[k], which is cents +
@@ -232,7 +234,7 @@ pub fn ledger_holdings(
 pub fn ledger_requirement(bytes: &[u8], ends: &[usize]) -> Reading
     ensures { result ≡ read_by (run_from none (strings_in bytes.now ends.now)) }
 {
-    match held_after(bytes, ends).requirement() {
+    match case::requirement(held_after(bytes, ends)) {
         Ok(cents) => Reading { answer: 0, cents },
         Err(answer) => Reading { answer, cents: 0 },
     }
@@ -242,7 +244,7 @@ pub fn ledger_requirement(bytes: &[u8], ends: &[usize]) -> Reading
 pub fn ledger_pool_prices(bytes: &[u8], ends: &[usize], pool: u8) -> i64
     ensures { result ≡ left_sum (the_case (run_from none (strings_in bytes.now ends.now))) pool }
 {
-    held_after(bytes, ends).prices_in(pool)
+    case::prices_in(held_after(bytes, ends), pool)
 }
 
 // The text of a whole input, as the program `ledger` prints it, at the front of the buffer. A buffer with less than four times the input's bytes

@@ -1,6 +1,7 @@
 -- A field that is cut off by the input's end: it is answered 1, and what is held stays. Assumes nothing.
+use Rattle.std.specs.Prelude.{Some, is_some}
 use mathlib.Core.Path.{◌≡◌, refl, sym, ap, ◌∙◌}
-use mathlib.Core.Bool.{Bool, true, false, ◌&&◌}
+use mathlib.Core.Bool.{Bool, false, ◌&&◌}
 use mathlib.Core.List.{List, [], ◌∷◌}
 use mathlib.Core.Option.{none}
 use Prim.Native.Nat.{ℕ, ◌+◌, ◌*◌, ◌<◌}
@@ -15,7 +16,7 @@ use Rattle.machine.specs.Printed.{s_line}
 use Rattle.input.specs.Fields.{field_size, whole_first}
 use Rattle.input.proofs.Fields.{size-whole}
 use Rattle.input.proofs.Parts.{cut_fields}
-use Rattle.case.specs.declared.Held.{Held}
+use Rattle.case.specs.Cases.{Held, case_in}
 use Rattle.case.specs.declared.Applied.{Applied}
 use Rattle.case.specs.Cases.{case_answer_to, first_answer_to, answer_to, after_asked, take_asked, applied}
 use Rattle.case.specs.Input.{ledger_after}
@@ -36,7 +37,7 @@ applied-cut : (h : Held) (s : List ℕ) → whole_first s ≡ false → ◌≡�
 unfolding applied take_asked answer_to case_answer_to first_answer_to
 applied-cut h s w =
     ap (take_asked h) (decode-cut s w)
-    ∙ ap (λ (n : ℕ). record { answer = n; held = when eqb n 0 then record { present = true; case = after_asked h.case none } else h }) (same-choice h.present 1)
+    ∙ ap (λ (n : ℕ). record { answer = n; held = when eqb n 0 then Some (after_asked (case_in h) none) else h }) (same-choice (is_some h) 1)
 
 pub cut-lines : (h : Held) (s : List ℕ) → whole_first s ≡ false → ledger_lines h (cut_fields s) ≡ cut_lines s
 unfolding ledger_lines cut_lines s_line

@@ -28,7 +28,7 @@ use Rattle.book.specs.declared.Book.{Book}
 use Rattle.book.specs.declared.Result.{Result}
 use Rattle.book.proofs.Sound.{Sound}
 use Rattle.case.specs.declared.Case.{Case}
-use Rattle.case.specs.declared.Held.{Held}
+use Rattle.case.specs.Cases.{Held, case_in}
 use Rattle.case.specs.View.{view}
 use Rattle.case.specs.Readings.{counts_in, member_result_in, shown_result}
 use Rattle.case.proofs.Observations.{counts-at, result-shown}
@@ -74,7 +74,7 @@ unfolding end_lines tab M.letter_of
 ends-tied h none t = sym (held_none h t)
 ends-tied h (some c) t =
     subst (λ (x : M.Case). held_lines h ≡ end_lines (some x)) t.shows
-    (sym (held-some h t.present) ∙ ap₂ ◌++◌ (pools-shown h.case c.roll t.sound t.ok) (finish-shown h.case c.roll t.sound t.ok))
+    (sym (held-some h t.present) ∙ ap₂ ◌++◌ (pools-shown (case_in h) c.roll t.sound t.ok) (finish-shown (case_in h) c.roll t.sound t.ok))
 
 -- ---- their bytes
 
@@ -153,15 +153,15 @@ pub held-most : (h : Held) (s : M.State) → Tied h s → length (text (held_lin
 unfolding text
 held-most h none t = omega (arith, ap (λ (ls : List Line). length (text ls)) (held_none h t))
 held-most h (some c) t =
-    let b = h.case.book in
-    let ps = tab b.pools.given (p_line_of h.case) in
+    let b = (case_in h).book in
+    let ps = tab b.pools.given (p_line_of (case_in h)) in
     omega (
       arith,
       ap (λ (ls : List Line). length (text ls)) (held-some h t.present),
-      ap length (text-append ps (finish_lines h.case)),
-      length-append (text ps) (text (finish_lines h.case)),
-      pools-most h.case,
-      finish-most h.case,
+      ap length (text-append ps (finish_lines (case_in h))),
+      length-append (text ps) (text (finish_lines (case_in h))),
+      pools-most (case_in h),
+      finish-most (case_in h),
       length-view b.pools,
       t.ok.pools.few,
       t.ok.head.pools-most,

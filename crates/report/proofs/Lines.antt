@@ -1,4 +1,5 @@
 -- The numbers that are handed to `lines::write_line` are those of the lines. Assumes nothing.
+use Rattle.std.specs.Prelude.{is_some}
 use Rattle.std.specs.Prelude.{Some, None, slice_get}
 use mathlib.Core.Path.{◌≡◌, refl, sym, ap, ◌∙◌}
 use mathlib.Core.Bool.{Bool, true, false}
@@ -16,7 +17,7 @@ use Rattle.book.specs.Stages.{letter_of}
 use Rattle.book.specs.Results.{result_in}
 use Rattle.book.specs.declared.Result.{Result}
 use Rattle.case.specs.declared.Case.{Case}
-use Rattle.case.specs.declared.Held.{Held}
+use Rattle.case.specs.Cases.{Held, case_in}
 use Rattle.case.specs.Readings.{counts_in}
 use Rattle.report.specs.Texts.{p_line_of, l_line_of, m_line_of, cut_lines, result_lines, finish_lines, held_lines}
 
@@ -87,12 +88,12 @@ unfolding finish_lines
 finished c n e h r f = rw (eq-eqb (letter_of c.stage) 5 (sym e ∙ h), f)
 
 abbrev pub present_lines : Held → List Line
-present_lines h = tab h.case.book.pools.given (p_line_of h.case) ++ finish_lines h.case
+present_lines h = tab (case_in h).book.pools.given (p_line_of (case_in h)) ++ finish_lines (case_in h)
 
-pub held-some : (h : Held) → h.present ≡ true → present_lines h ≡ held_lines h
+pub held-some : (h : Held) → is_some h ≡ true → present_lines h ≡ held_lines h
 unfolding held_lines
 held-some h e = sym (ap (λ (t : Bool). when t then present_lines h else []) e)
 
-pub held_none : (h : Held) → h.present ≡ false → [] ≡ held_lines h
+pub held_none : (h : Held) → is_some h ≡ false → [] ≡ held_lines h
 unfolding held_lines
 held_none h e = sym (ap (λ (t : Bool). when t then present_lines h else []) e)

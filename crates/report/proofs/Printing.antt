@@ -14,7 +14,7 @@ use Rattle.machine.specs.Machine.{step}
 use Rattle.machine.specs.Run.{run_from}
 use Rattle.machine.specs.Printed.{Line, s_line, fields_in, lines_from, text, printed}
 use Rattle.lines.specs.Placed.{Placed}
-use Rattle.case.specs.declared.Held.{Held}
+use Rattle.case.specs.Cases.{Held}
 use Rattle.case.specs.Cases.{applied, no_held}
 use Rattle.lists.specs.Lists.{Bytes}
 use Rattle.input.specs.Strings.{bytes_of}

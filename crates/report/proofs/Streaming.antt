@@ -7,7 +7,7 @@ use lib.ListN.{length, drop}
 use Rattle.machine.specs.Printed.{Line, text}
 use Rattle.reserves.specs.Text.{text_outside}
 use Rattle.reserves.proofs.Claims.{text-stays-alike}
-use Rattle.case.specs.declared.Held.{Held}
+use Rattle.case.specs.Cases.{Held}
 use Rattle.case.specs.Cases.{no_held}
 use Rattle.lists.specs.Lists.{joined}
 use Rattle.input.specs.Strings.{bytes_of}

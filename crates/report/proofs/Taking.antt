@@ -17,7 +17,7 @@ use Rattle.lists.proofs.Places.{tab-of, tab-ext}
 use Rattle.machine.specs.Printed.{Line, s_line, text}
 use Rattle.lines.specs.Placed.{Placed, line_text}
 use Rattle.lists.proofs.Stores.{sets_then}
-use Rattle.case.specs.declared.Held.{Held}
+use Rattle.case.specs.Cases.{Held}
 use Rattle.case.specs.declared.Front.{Front}
 use Rattle.case.specs.Cases.{applied}
 use Rattle.lists.specs.Lists.{Bytes}

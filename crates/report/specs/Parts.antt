@@ -7,7 +7,7 @@ use Rattle.machine.specs.Printed.{text, printed}
 use Rattle.reserves.specs.Reserves.{SameButReserves}
 use Rattle.reserves.specs.Text.{text_outside, fields_of}
 use Rattle.input.specs.Fields.{whole, rest}
-use Rattle.case.specs.declared.Held.{Held}
+use Rattle.case.specs.Cases.{Held}
 use Rattle.case.specs.Cases.{no_held}
 use Rattle.case.specs.Input.{ledger_after}
 use Rattle.report.specs.Texts.{ledger_lines, cut_lines, held_lines}

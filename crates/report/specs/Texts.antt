@@ -1,5 +1,6 @@
 -- The printed text of the program's run, over its own structs: the lines of document 01 (`machine.specs.Printed`) of what is held, the s lines of
 -- a part of an input, and what a lent buffer holds after lines are put into it.
+use Rattle.std.specs.Prelude.{is_some}
 use Rattle.std.specs.Prelude.{◌≡◌, Bool, List, [], ◌∷◌, ◌++◌, map, ℕ, zero, suc, ◌+◌, ◌*◌, ◌≤◌, leb, eqb, length, get_or}
 use Rattle.std.proofs.lemmas.List.Edits.{sets}
 use Rattle.lists.specs.Lists.{when◌then◌else◌, tab}
@@ -10,7 +11,7 @@ use Rattle.book.specs.Stages.{letter_of}
 use Rattle.book.specs.Results.{result_in}
 use Rattle.book.specs.declared.Result.{Result}
 use Rattle.case.specs.declared.Case.{Case}
-use Rattle.case.specs.declared.Held.{Held}
+use Rattle.case.specs.Cases.{Held, case_in}
 use Rattle.case.specs.Cases.{applied}
 use Rattle.case.specs.Readings.{counts_in}
 use Rattle.input.specs.Strings.{bytes_of}
@@ -44,8 +45,8 @@ finish_lines c = when eqb (letter_of c.stage) 5 then result_lines (result_in c.b
 -- "At the input's end p .. After FINISH, l .. m"
 unfoldable pub held_lines : Held → List Line
 held_lines h =
-    let c = h.case in
-    when h.present then tab c.book.pools.given (p_line_of c) ++ finish_lines c else []
+    let c = case_in h in
+    when is_some h then tab c.book.pools.given (p_line_of c) ++ finish_lines c else []
 
 -- an s line for each call
 unfoldable pub ledger_lines : Held → List (List ℕ) → List Line

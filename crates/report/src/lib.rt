@@ -12,12 +12,12 @@ ghost use Rattle.report.specs.Texts.{p_line_of, l_line_of, m_line_of, result_lin
 ghost use Rattle.report.specs.Texts.{answer_line, TakesPart, Prints};
 
 use book::Result;
-use case::{Case, Held};
+use case::Case;
 
 // What is held after the whole fields at the front of a part of an input, the bytes that they took, and the bytes of text written.
 #[derive(Clone, Copy)]
 pub struct Taken {
-    pub held: Held,
+    pub held: Option<Case>,
     pub used: usize,
     pub written: usize,
 }
@@ -127,14 +127,16 @@ fn write_finish(case: Case, out: &mut [u8], at: usize) -> usize
 }
 
 // The lines of the end, put into the buffer in turn from a place on, each where it fits, and the place behind them.
-pub fn write_end(held: Held, out: &mut [u8], at: usize) -> usize
+pub fn write_end(held: Option<Case>, out: &mut [u8], at: usize) -> usize
     ensures { ◌≡◌ {A = Placed} (result, out.new) (placed_lines (held_lines held) out.old at) }
 {
-    if held.present {
-        let to = write_pools(held.case, out, at);
-        return write_finish(held.case, out, to);
+    match held {
+        Some(case) => {
+            let to = write_pools(case, out, at);
+            write_finish(case, out, to)
+        }
+        None => at,
     }
-    at
 }
 
 // ---- a part of an input
@@ -155,7 +157,7 @@ fn write_answers(input: &[u8], ends: &[usize], answers: &[u8], out: &mut [u8], a
 
 // The whole fields at the front of a part of an input, taken in turn, with an s line for each at the front of the buffer. A buffer with less than
 // four times the part's bytes is untouched, and nothing is taken.
-pub fn take_part(held: Held, input: &[u8], out: &mut [u8]) -> Taken
+pub fn take_part(held: Option<Case>, input: &[u8], out: &mut [u8]) -> Taken
     ensures { TakesPart held input.now out.old out.new result }
 {
     let mut next = held;
@@ -208,7 +210,7 @@ pub fn print(input: &[u8], out: &mut [u8]) -> Option<usize>
     if room / 4 < input.len() {
         return None;
     }
-    let taken = take_part(Held::none(), input, out);
+    let taken = take_part(None, input, out);
     let to = write_cut(&input[taken.used..], out, taken.written);
     Some(write_end(taken.held, out, to))
 }

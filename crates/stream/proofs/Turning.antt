@@ -13,7 +13,7 @@ use Rattle.input.specs.Strings.{bytes_of}
 use Rattle.input.specs.Pieces.{pieces}
 use Rattle.input.specs.Fields.{whole, rest}
 use Rattle.input.proofs.Parts.{rest_then}
-use Rattle.case.specs.declared.Held.{Held}
+use Rattle.case.specs.Cases.{Held}
 use Rattle.case.specs.Cases.{no_held}
 use Rattle.case.specs.Input.{ledger_after, HeldAfter}
 use Rattle.report.specs.declared.Taken.{Taken}

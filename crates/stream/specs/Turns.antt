@@ -5,7 +5,7 @@ use Rattle.lists.specs.Lists.{joined, Bytes}
 use Rattle.machine.specs.Printed.{text, printed}
 use Rattle.lines.specs.Placed.{Placed}
 use Rattle.input.specs.Fields.{whole, rest}
-use Rattle.case.specs.declared.Held.{Held}
+use Rattle.case.specs.Cases.{Held}
 use Rattle.case.specs.Cases.{no_held}
 use Rattle.case.specs.Input.{ledger_after, HeldAfter}
 use Rattle.report.specs.Texts.{ledger_lines, cut_lines, held_lines, placed_lines}

@@ -7,13 +7,13 @@
 ghost use Rattle.std.specs.Prelude.{◌*◌, ◌≤◌, IfOk, length, take};
 ghost use Rattle.stream.specs.Turns.{TakesTurn, FedTo, Last, Ends};
 
-use case::Held;
+use case::Case;
 use feed::{Failed, Streams};
 
 // What is held after a turn, how many bytes are kept at the buffer's front, and how many bytes of text are to be written.
 #[derive(Clone, Copy)]
 pub struct Turn {
-    pub held: Held,
+    pub held: Option<Case>,
     pub len: usize,
     pub written: usize,
 }
@@ -21,12 +21,12 @@ pub struct Turn {
 // What is held when the input has ended, and how many bytes of a field that is cut off are kept at the buffer's front.
 #[derive(Clone, Copy)]
 pub struct Rest {
-    pub held: Held,
+    pub held: Option<Case>,
     pub len: usize,
 }
 
 // The bytes in front of a place taken: their whole fields with the text of their s lines, and what is left of them moved to the front.
-fn take_turn(held: Held, buf: &mut [u8], end: usize, out: &mut [u8]) -> Turn
+fn take_turn(held: Option<Case>, buf: &mut [u8], end: usize, out: &mut [u8]) -> Turn
     requires { (end ≤ length buf.old) × (4 * end ≤ length out.old) }
     ensures { TakesTurn held (take end buf.old) buf.old buf.new out.old out.new result }
 {
@@ -43,7 +43,7 @@ fn take_input(streams: Streams, buf: &mut [u8], out: &mut [u8]) -> Result<Rest, 
     requires { 4 * length buf.old ≤ length out.old }
     ensures { IfOk result (λ rest. FedTo buf.new rest.held rest.len) }
 {
-    let mut held = Held::none();
+    let mut held: Option<Case> = None;
     let mut len: usize = 0;
     for _ in 0..u64::MAX {
         let more = feed::read(streams, buf, len, b"ledger: standard input")?;
@@ -59,7 +59,7 @@ fn take_input(streams: Streams, buf: &mut [u8], out: &mut [u8]) -> Result<Rest, 
 }
 
 // The text behind the s lines of the whole fields: the s line of a field that is cut off, and the lines of the end.
-fn last_text(held: Held, rest: &[u8], out: &mut [u8]) -> usize
+fn last_text(held: Option<Case>, rest: &[u8], out: &mut [u8]) -> usize
     ensures { Last held rest.now out.old out.new result }
 {
     let to = report::write_cut(rest, out, 0);

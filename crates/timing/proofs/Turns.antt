@@ -14,7 +14,7 @@ use Rattle.lists.specs.Refusals.{number_of as refusal_number}
 use Rattle.lists.proofs.Refused.{not-accepted}
 use Rattle.machine.specs.Wire.{Call, decode}
 use Rattle.case.specs.declared.Case.{Case}
-use Rattle.case.specs.declared.Held.{Held}
+use Rattle.case.specs.Cases.{Held, case_in}
 use Rattle.case.specs.declared.Applied.{Applied}
 use Rattle.case.specs.Cases.{answer_to, after_asked, applied}
 use Rattle.input.specs.Strings.{cut_at, strings_from, strings_in, in_front}
@@ -25,7 +25,7 @@ use Rattle.timing.specs.Numbers.{reading_of, number_of}
 -- ---- the number of one call
 
 module _ (h : Held) (result : Bool) (s : List ℕ) (o : Applied) (e : o ≡ applied h s) (x : ℕ) where
-  number-accepted : o.answer ≡ 0 → x ≡ reading_of o.held.case.book result → x ≡ number_of h result s
+  number-accepted : o.answer ≡ 0 → x ≡ reading_of (case_in o.held).book result → x ≡ number_of h result s
   unfolding number_of
   number-accepted z r = rw (← e, z) r
 
@@ -34,21 +34,21 @@ module _ (h : Held) (result : Bool) (s : List ℕ) (o : Applied) (e : o ≡ appl
   number-declined g r = rw (← e, ne_eqb o.answer 0 g) r
 
 -- it is asked of the same case first
-module _ (h : Held) (result : Bool) (case : Case) (same : case ≡ h.case) (a : Option Call) (s : List ℕ) (read : a ≡ decode s) (x : ℕ) where
-  answered-same : answer_to h.present case a ≡ answer_to h.present h.case a
-  answered-same = ap (λ (c : Case). answer_to h.present c a) same
+module _ (h : Held) (result : Bool) (now : Held) (same : now ≡ h) (a : Option Call) (s : List ℕ) (read : a ≡ decode s) (x : ℕ) where
+  answered-same : answer_to now a ≡ answer_to h a
+  answered-same = ap (λ (k : Held). answer_to k a) same
 
-  pub declined : (r : Refusal) → refusal_number r ≡ answer_to h.present case a → x ≡ refusal_number r → x ≡ number_of h result s
+  pub declined : (r : Refusal) → refusal_number r ≡ answer_to now a → x ≡ refusal_number r → x ≡ number_of h result s
   declined r answered w = number-declined h result s _ (asked-declined h a s read r (answered ∙ answered-same)) x (not-accepted r) w
 
-  pub accepted : 0 ≡ answer_to h.present case a → (d : Case) → d ≡ after_asked case a → x ≡ reading_of d.book result → x ≡ number_of h result s
+  pub accepted : 0 ≡ answer_to now a → (d : Case) → d ≡ after_asked (case_in now) a → x ≡ reading_of d.book result → x ≡ number_of h result s
   accepted answered d f r =
-      number-accepted h result s _ (asked-accepted h a s read (answered ∙ answered-same) d (f ∙ ap (λ (c : Case). after_asked c a) same)) x refl r
+      number-accepted h result s _ (asked-accepted h a s read (answered ∙ answered-same) d (f ∙ ap (λ (k : Held). after_asked (case_in k) a) same)) x refl r
 
 -- ---- the turns
 
-pub record Going (h : Held) (result : Bool) (bytes ends old new : List ℕ) (case : Case) (at k : ℕ) : Type 0 where
-  pub same : case ≡ h.case
+pub record Going (h : Held) (result : Bool) (bytes ends old new : List ℕ) (now : Held) (at k : ℕ) : Type 0 where
+  pub same : now ≡ h
   pub size : length new ≡ length old
   pub turns : k ≤ length ends
   pub place : at ≤ length bytes
@@ -57,7 +57,7 @@ pub record Going (h : Held) (result : Bool) (bytes ends old new : List ℕ) (cas
   pub written : new ≡ in_front done old
   pub told : done ++ map (number_of h result) (strings_from at bytes (drop k ends)) ≡ map (number_of h result) (strings_in bytes ends)
 
-pub starts : (h : Held) (result : Bool) (bytes ends old : List ℕ) → Going h result bytes ends old old h.case 0 0
+pub starts : (h : Held) (result : Bool) (bytes ends old : List ℕ) → Going h result bytes ends old old h 0 0
 unfolding in_front
 starts h result bytes ends old =
     record {
@@ -71,9 +71,9 @@ starts h result bytes ends old =
       told = refl;
     }
 
-module _ (h : Held) (result : Bool) (bytes ends old new : List ℕ) (case : Case) (at k : ℕ) (g : Going h result bytes ends old new case at k) where
+module _ (h : Held) (result : Bool) (bytes ends old new : List ℕ) (now : Held) (at k : ℕ) (g : Going h result bytes ends old new now at k) where
   pub goes : k < length ends → (to : ℕ) → to ≡ cut_at at (length bytes) (get_or ends k 0) → (x : ℕ) → x ≡ number_of h result (take (to - at) (drop at bytes))
-      → (next : List ℕ) → next ≡ set new k x → (c : Case) → c ≡ h.case → Going h result bytes ends old next c to (k + 1)
+      → (next : List ℕ) → next ≡ set new k x → (c : Held) → c ≡ h → Going h result bytes ends old next c to (k + 1)
   unfolding strings_from
   goes l to e x f next w c same =
       let n : strings_from at bytes (drop k ends) ≡ take (to - at) (drop at bytes) ∷ strings_from to bytes (drop (suc k) ends) =

@@ -1,12 +1,13 @@
+use mathlib.Core.Path.{refl}
 use Rattle.std.proofs.Common.{rules}
 use Rattle.case_feed.proofs.Turning.{fed-none, fed-turn}
 use Rattle.asking.proofs.read_case.Goals as goal
 
 pub returns-then-buf-lt65538 : goal.returns-then-buf-lt65538
-returns-then-buf-lt65538 c = fed-none _ _ c.none-held.ensures
+returns-then-buf-lt65538 c = fed-none _ _ refl
 
 pub loop-init : goal.loop-init
-loop-init c = fed-none _ _ c.none-held.ensures
+loop-init c = fed-none _ _ refl
 
 pub loop-preserved : goal.loop-preserved
 loop-preserved c =

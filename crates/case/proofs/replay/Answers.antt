@@ -3,7 +3,6 @@ use Prim.Native.Nat.{◌≤◌}
 use native.Mathlib.Omega.{arith}
 use lib.ListN.{length, get_or}
 use Rattle.input.proofs.Strings.{cut-from, cut-to}
-use Rattle.case.specs.declared.Held.{Held}
 use Rattle.case.proofs.Running.{asked-declined, asked-accepted}
 use Rattle.case.proofs.Replaying.{starts, goes, replays}
 use borrow.Author.Rules.{rules}
@@ -25,14 +24,13 @@ slice_bounds-read_call-end c = let s = c.args in let l = c.loop-k in let w : c.c
 pub loop-k-preserved : goal.loop-k-preserved
 loop-k-preserved c =
     let l = c.loop-k in
-    let held : Held = record { present = l.present; case = l.case } in
     elim c.match-answer_to.branch [
-      | in-Err w ↦ rw (w.present-is, w.case-is)
+      | in-Err w ↦ rw w.next-is
           (goes _ _ _ _ _ _ _ _ l.invariant c.loop-k-test.true _ c.cut_at-end.ensures _
-          (asked-declined held _ _ c.read_call-call.ensures _ w.in-Err.ensures) _ (w.answers-is ∙ w.put.ensures ∙ rw w.number.ensures))
-      | in-Ok w ↦ rw (w.present-is, w.case-is)
+          (asked-declined l.next _ _ c.read_call-call.ensures _ w.in-Err.ensures) _ (w.answers-is ∙ w.put.ensures ∙ rw w.number.ensures))
+      | in-Ok w ↦ rw w.next-is
           (goes _ _ _ _ _ _ _ _ l.invariant c.loop-k-test.true _ c.cut_at-end.ensures _
-          (asked-accepted held _ _ c.read_call-call.ensures w.in-Ok.ensures _ (w.after-case.ensures l.present (sym w.in-Ok.ensures))) _
+          (asked-accepted l.next _ _ c.read_call-call.ensures w.in-Ok.ensures _ (w.after.ensures (sym w.in-Ok.ensures))) _
           (w.answers-is ∙ w.put-in-Ok.ensures))
     ]
 

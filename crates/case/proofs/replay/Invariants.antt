@@ -3,4 +3,4 @@ use Rattle.case.proofs.Replaying.{Going}
 use Rattle.case.proofs.replay.Given as goal
 
 abbrev pub invariant-loop-k : goal.invariant-loop-k
-invariant-loop-k l = Going (record { present = l.initial.present; case = l.initial.case }) l.bytes l.ends l.initial.answers l.answers (record { present = l.present; case = l.case }) l.at l.k
+invariant-loop-k l = Going l.initial.next l.bytes l.ends l.initial.answers l.answers l.next l.at l.k

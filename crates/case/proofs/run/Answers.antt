@@ -9,7 +9,7 @@ use borrow.Author.Rules.{rules}
 use Rattle.case.proofs.run.Goals as goal
 
 pub loop-at-init : goal.loop-at-init
-loop-at-init c = (starts _ _ _ c.none-held.ensures, refl)
+loop-at-init c = (starts _ _ _ refl, refl)
 
 pub slice_bounds-take_fields-count : goal.slice_bounds-take_fields-count
 slice_bounds-take_fields-count c = let w = c.loop-at.invariant.0.place in search (rules, w)

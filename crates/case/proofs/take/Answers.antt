@@ -7,4 +7,4 @@ pub returns-in-Err : goal.returns-in-Err
 returns-in-Err c = rw c.number.ensures (take-declined c.args.held _ _ c.in-Err.ensures)
 
 pub returns-in-Ok : goal.returns-in-Ok
-returns-in-Ok c = take-accepted c.args.held _ c.in-Ok.ensures _ (c.after.ensures c.args.held.present (sym c.in-Ok.ensures))
+returns-in-Ok c = take-accepted c.args.held _ c.in-Ok.ensures _ (c.after.ensures (sym c.in-Ok.ensures))

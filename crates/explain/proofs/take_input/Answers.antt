@@ -1,9 +1,10 @@
+use mathlib.Core.Path.{refl}
 use Rattle.std.proofs.Common.{rules}
 use Rattle.case_feed.proofs.Turning.{fed-none, fed-turn}
 use Rattle.explain.proofs.take_input.Goals as goal
 
 pub loop-init : goal.loop-init
-loop-init c = fed-none _ _ c.none-held.ensures
+loop-init c = fed-none _ _ refl
 
 pub loop-preserved : goal.loop-preserved
 loop-preserved c =

@@ -2,7 +2,7 @@ use Rattle.std.proofs.Common.{◌≡◌, ℕ, ◌+◌, ◌-◌, false, List, tak
 use Rattle.input.specs.Fields.{front_size}
 use Rattle.input.proofs.Fronts.{front-most, rest_all}
 use Rattle.input.proofs.Pieces.{passing-starts, passing-within, passing-goes, passing-ends}
-use Rattle.case.specs.declared.Held.{Held}
+use Rattle.case.specs.Cases.{Held}
 use Rattle.case.specs.Cases.{applied}
 use Rattle.case.specs.Input.{ledger_after}
 use Rattle.case.proofs.Parts.{after-cons, after_none}

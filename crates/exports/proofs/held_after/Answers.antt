@@ -2,4 +2,4 @@
 use Rattle.exports.proofs.held_after.Goals as goal
 
 pub returns : goal.returns
-returns c = (rw c.none.ensures at c.replay.ensures).held
+returns c = c.replay.ensures.held

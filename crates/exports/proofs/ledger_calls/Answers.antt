@@ -10,4 +10,4 @@ returns c =
     let a = c.args in
     called a.bytes.now a.ends.now
     (each_of (λ (b : ℕ). b < 256) a.bytes.now 0 (λ i h. omega (arith, c.type_inv.bytes i)))
-    _ _ _ (rw c.none.ensures at c.replay.ensures) _ c.show.ensures
+    _ _ _ c.replay.ensures _ c.show.ensures

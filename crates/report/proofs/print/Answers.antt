@@ -17,6 +17,6 @@ returns c =
     prints input a.out.now _ _ _ t.result c.write_cut-to.result _
     (each_of (λ (b : ℕ). b < 256) input 0 (λ i h. omega (arith, c.type_inv.input i)))
     (omega (arith, c.in_ok-room.ensures, c.if-room-input.false))
-    (rw c.none.ensures at t.ensures)
+    t.ensures
     (rw (rest_all input t.result.used) at c.write_cut-to.ensures)
     c.write_end.ensures

@@ -1,9 +1,10 @@
+use mathlib.Core.Path.{refl}
 use Rattle.std.proofs.Common.{arith, rules}
 use Rattle.stream.proofs.Turning.{fed-none, fed-turn}
 use Rattle.stream.proofs.take_input.Goals as goal
 
 pub loop-init : goal.loop-init
-loop-init c = (fed-none _ _ c.none-held.ensures, c.requires)
+loop-init c = (fed-none _ _ refl, c.requires)
 
 pub loop-preserved : goal.loop-preserved
 loop-preserved c =

@@ -35,12 +35,12 @@ pub loop-k-preserved : goal.loop-k-preserved
 loop-k-preserved c =
     let l = c.loop-k in
     elim c.match-answer_to.branch [
-      | in-Err w ↦ rw w.case-is
+      | in-Err w ↦ rw w.next-is
           (goes _ _ _ _ _ _ _ _ _ l.invariant c.loop-k-test.true _ c.cut_at-end.ensures _
           (declined _ _ _ l.invariant.same _ _ c.read_call-call.ensures _ _ w.in-Err.ensures (w.from.ensures ∙ w.number.ensures)) _ (w.numbers-is ∙ w.put.ensures) _ l.invariant.same)
-      | in-Ok w ↦ rw w.case-is
+      | in-Ok w ↦ rw w.next-is
           (goes _ _ _ _ _ _ _ _ _ l.invariant c.loop-k-test.true _ c.cut_at-end.ensures _
-          (accepted _ _ _ l.invariant.same _ _ c.read_call-call.ensures _ w.in-Ok.ensures _ (w.after-case.ensures _ (sym w.in-Ok.ensures)) w.reading.ensures) _
+          (accepted _ _ _ l.invariant.same _ _ c.read_call-call.ensures _ w.in-Ok.ensures _ (w.after.ensures (sym w.in-Ok.ensures)) (w.reading_in.ensures refl)) _
           (w.numbers-is ∙ w.put-in-Ok.ensures) _ refl)
     ]
 

@@ -3,4 +3,4 @@ use Rattle.timing.proofs.Turns.{Going}
 use Rattle.timing.proofs.each.Given as goal
 
 abbrev pub invariant-loop-k : goal.invariant-loop-k
-invariant-loop-k l = Going (record { present = l.present; case = l.kept }) l.res l.bytes l.ends l.initial.numbers l.numbers l.case l.at l.k
+invariant-loop-k l = Going l.held l.res l.bytes l.ends l.initial.numbers l.numbers l.next l.at l.k

@@ -3,4 +3,4 @@ use Rattle.timing.proofs.ledger_each.Goals as goal
 
 pub returns : goal.returns
 returns c =
-    rw (← c.none.ensures, ← c.replay-held.ensures.held) c.each.ensures
+    rw (← c.replay-held.ensures.held) c.each.ensures
