@@ -103,25 +103,19 @@ fn begun() -> Scan
     }
 }
 
-fn to_phase(s: Scan, phase: Phase, at: usize) -> Scan
-    ensures { result ≡ with_phase s phase at }
+fn to_phase(s: &mut Scan, phase: Phase, at: usize)
+    ensures { s.new ≡ with_phase s.old phase at }
 {
-    Scan {
-        phase,
-        start: at,
-        ..s
-    }
+    s.phase = phase;
+    s.start = at;
 }
 
-fn in_number(s: Scan, at: usize, value: u32) -> Scan
-    ensures { result ≡ in_number s at value }
+fn in_number(s: &mut Scan, at: usize, value: u32)
+    ensures { s.new ≡ in_number s.old at value }
 {
-    Scan {
-        phase: Phase::InNumber,
-        start: at,
-        value,
-        ..s
-    }
+    s.phase = Phase::InNumber;
+    s.start = at;
+    s.value = value;
 }
 
 // The numbers with one at a place, where there is such a place.
@@ -136,31 +130,25 @@ fn with_number(numbers: [u32; 32], i: usize, n: u32) -> [u32; 32]
     out
 }
 
-fn store(s: Scan) -> Scan
-    ensures { result ≡ stored s }
+fn store(s: &mut Scan)
+    ensures { s.new ≡ stored s.old }
 {
-    Scan {
-        phase: Phase::BehindNumber,
-        count: s.count.saturating_add(1).min(32),
-        numbers: with_number(s.numbers, s.count, s.value),
-        ..s
-    }
+    s.phase = Phase::BehindNumber;
+    s.numbers = with_number(s.numbers, s.count, s.value);
+    s.count = s.count.saturating_add(1).min(32);
 }
 
-fn refuse(s: Scan, at: usize, reason: Reason) -> Scan
-    ensures { result ≡ refused s at reason }
+fn refuse(s: &mut Scan, at: usize, reason: Reason)
+    ensures { s.new ≡ refused s.old at reason }
 {
-    Scan {
-        phase: Phase::Refused(reason),
-        start: at,
-        ..s
-    }
+    s.phase = Phase::Refused(reason);
+    s.start = at;
 }
 
 // A byte that is not expected at its place.
 #[tactic(auto, unfolding(crate::specs::Reading::strange))]
-fn not_expected(s: Scan, at: usize) -> Scan
-    ensures { result ≡ strange s at }
+fn not_expected(s: &mut Scan, at: usize)
+    ensures { s.new ≡ strange s.old at }
 {
     match s.phase {
         Phase::Start | Phase::BehindComma => refuse(s, at, Reason::ExpectedNumber),
@@ -170,45 +158,44 @@ fn not_expected(s: Scan, at: usize) -> Scan
 
 // A number ends, if there is one.
 #[tactic(auto, unfolding(crate::specs::Reading::settle))]
-fn settled(s: Scan) -> Scan
-    ensures { result ≡ settle s }
+fn end_number(s: &mut Scan)
+    ensures { s.new ≡ settle s.old }
 {
     if s.phase == Phase::InNumber {
-        store(s)
-    } else {
-        s
+        store(s);
     }
 }
 
 // A number that began at a place, as far as it is read.
 #[tactic(auto, unfolding(crate::specs::Reading::grow))]
-fn grown(limit: u32, s: Scan, at: usize, v: u64) -> Scan
-    ensures { result ≡ grow limit s at v }
+fn grow(limit: u32, s: &mut Scan, at: usize, v: u64)
+    ensures { s.new ≡ grow limit s.old at v }
 {
     if v <= u64::from(limit) {
-        in_number(s, at, v as u32)
+        in_number(s, at, v as u32);
     } else {
-        refuse(s, at, Reason::TooLarge)
+        refuse(s, at, Reason::TooLarge);
     }
 }
 
 // Whether there may be one number more.
 #[tactic(auto, unfolding(crate::specs::Reading::has_room))]
-fn has_room(most: usize, s: Scan) -> bool
-    ensures { result ≡ has_room most s }
+fn has_room(most: usize, s: &Scan) -> bool
+    ensures { result ≡ has_room most s.now }
 {
     s.count < most.min(32)
 }
 
 // The first digit of a number at a place.
 #[tactic(auto, unfolding(crate::specs::Reading::first_digit))]
-fn on_first(most: usize, limit: u32, s: Scan, d: u64, at: usize) -> Scan
-    ensures { result ≡ first_digit most limit s d at }
+fn on_first(most: usize, limit: u32, s: &mut Scan, d: u64, at: usize)
+    ensures { s.new ≡ first_digit most limit s.old d at }
 {
     if has_room(most, s) {
-        grown(limit, s, at, d)
+        grow(limit, s, at, d);
     } else {
-        refuse(s, s.start, Reason::TooMany)
+        let start = s.start;
+        refuse(s, start, Reason::TooMany);
     }
 }
 
@@ -222,35 +209,39 @@ fn longer(value: u32, d: u64) -> u64
 
 // A digit at a place.
 #[tactic(auto, unfolding(crate::specs::Reading::on_digit))]
-fn on_digit(most: usize, limit: u32, s: Scan, d: u64, at: usize) -> Scan
+fn on_digit(most: usize, limit: u32, s: &mut Scan, d: u64, at: usize)
     requires { d ≤ 9 }
-    ensures { result ≡ on_digit most limit s d at }
+    ensures { s.new ≡ on_digit most limit s.old d at }
 {
     match s.phase {
         Phase::Start | Phase::BehindComma => on_first(most, limit, s, d, at),
-        Phase::InNumber => grown(limit, s, s.start, longer(s.value, d)),
+        Phase::InNumber => {
+            let start = s.start;
+            let value = longer(s.value, d);
+            grow(limit, s, start, value);
+        }
         _ => not_expected(s, at),
     }
 }
 
 // A comma at a place, behind a number that has ended.
 #[tactic(auto, unfolding(crate::specs::Reading::on_comma))]
-fn on_comma(most: usize, s: Scan, at: usize) -> Scan
-    ensures { result ≡ on_comma most s at }
+fn on_comma(most: usize, s: &mut Scan, at: usize)
+    ensures { s.new ≡ on_comma most s.old at }
 {
     if s.phase != Phase::BehindNumber {
-        not_expected(s, at)
+        not_expected(s, at);
     } else if has_room(most, s) {
-        to_phase(s, Phase::BehindComma, at)
+        to_phase(s, Phase::BehindComma, at);
     } else {
-        refuse(s, at, Reason::TooMany)
+        refuse(s, at, Reason::TooMany);
     }
 }
 
 // The line's end, or a carriage return, behind a number that has ended.
 #[tactic(auto, unfolding(crate::specs::Reading::ended))]
-fn end_at(least: usize, s: Scan, at: usize) -> Scan
-    ensures { result ≡ ended least s at }
+fn end_at(least: usize, s: &mut Scan, at: usize)
+    ensures { s.new ≡ ended least s.old at }
 {
     match s.phase {
         Phase::Start => to_phase(s, Phase::Ended, at),
@@ -261,8 +252,8 @@ fn end_at(least: usize, s: Scan, at: usize) -> Scan
 
 // A byte that is neither a blank nor of a number nor behind one.
 #[tactic(auto, unfolding(crate::specs::Reading::on_mark))]
-fn on_mark(s: Scan, b: u8, at: usize) -> Scan
-    ensures { result ≡ on_mark s b at }
+fn on_mark(s: &mut Scan, b: u8, at: usize)
+    ensures { s.new ≡ on_mark s.old b at }
 {
     match s.phase {
         Phase::Start if b == b'#' => to_phase(s, Phase::Comment, at),
@@ -280,38 +271,43 @@ fn digit_of(b: u8) -> u64
 
 // A byte at a place.
 #[tactic(auto, unfolding(crate::specs::Reading::byte_read))]
-fn on_byte(least: usize, most: usize, limit: u32, s: Scan, b: u8, at: usize) -> Scan
-    ensures { result ≡ byte_read least most limit s b at }
+fn on_byte(least: usize, most: usize, limit: u32, s: &mut Scan, b: u8, at: usize)
+    ensures { s.new ≡ byte_read least most limit s.old b at }
 {
     if b'0' <= b && b <= b'9' {
-        on_digit(most, limit, s, digit_of(b), at)
+        on_digit(most, limit, s, digit_of(b), at);
     } else if b == b' ' || b == b'\t' {
-        settled(s)
+        end_number(s);
     } else if b == b',' {
-        on_comma(most, settled(s), at)
+        end_number(s);
+        on_comma(most, s, at);
     } else if b == b'\r' {
-        end_at(least, settled(s), at)
+        end_number(s);
+        end_at(least, s, at);
     } else {
-        on_mark(s, b, at)
+        on_mark(s, b, at);
     }
 }
 
 // A byte in a comment or behind a carriage return; where the line is refused, nothing changes.
 #[tactic(auto, unfolding(crate::specs::Reading::behind))]
-fn on_rest(s: Scan, b: u8, at: usize) -> Scan
-    ensures { result ≡ behind s b at }
+fn on_rest(s: &mut Scan, b: u8, at: usize)
+    ensures { s.new ≡ behind s.old b at }
 {
     match s.phase {
-        Phase::Ended => refuse(s, s.start, Reason::CarriageReturn),
+        Phase::Ended => {
+            let start = s.start;
+            refuse(s, start, Reason::CarriageReturn);
+        }
         Phase::Comment if b == b'\r' => to_phase(s, Phase::Ended, at),
-        _ => s,
+        _ => {}
     }
 }
 
 // A byte at a place, whatever stands before it.
 #[tactic(auto, unfolding(crate::specs::Reading::step))]
-fn stepped(least: usize, most: usize, limit: u32, s: Scan, b: u8, at: usize) -> Scan
-    ensures { result ≡ step least most limit s b at }
+fn take_byte(least: usize, most: usize, limit: u32, s: &mut Scan, b: u8, at: usize)
+    ensures { s.new ≡ step least most limit s.old b at }
 {
     match s.phase {
         Phase::Comment | Phase::Ended | Phase::Refused(_) => on_rest(s, b, at),
@@ -325,19 +321,22 @@ fn scanned(line: &[u8], least: usize, most: usize, limit: u32) -> Scan
 {
     let mut s = begun();
     for (i, b) in line.iter().enumerate() {
-        s = stepped(least, most, limit, s, *b, i);
+        take_byte(least, most, limit, &mut s, *b, i);
     }
     s
 }
 
 // The line's end, whatever stands before it.
 #[tactic(auto, unfolding(crate::specs::Reading::finish))]
-fn finished(least: usize, s: Scan, at: usize) -> Scan
-    ensures { result ≡ finish least s at }
+fn finish(least: usize, s: &mut Scan, at: usize)
+    ensures { s.new ≡ finish least s.old at }
 {
     match s.phase {
-        Phase::Comment | Phase::Ended | Phase::Refused(_) => s,
-        _ => end_at(least, settled(s), at),
+        Phase::Comment | Phase::Ended | Phase::Refused(_) => {}
+        _ => {
+            end_number(s);
+            end_at(least, s, at);
+        }
     }
 }
 
@@ -365,8 +364,9 @@ fn outcome_of(s: Scan) -> Result<Row, Refusal>
 pub fn read_row(line: &[u8], least: usize, most: usize, limit: u32) -> Result<Row, Refusal>
     ensures { result ≡ row_of least most limit line.now }
 {
-    let s = scanned(line, least, most, limit);
-    outcome_of(finished(least, s, line.len()))
+    let mut s = scanned(line, least, most, limit);
+    finish(least, &mut s, line.len());
+    outcome_of(s)
 }
 
 // ---- the lines of a text

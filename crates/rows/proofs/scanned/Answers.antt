@@ -6,7 +6,7 @@ use Rattle.rows.proofs.scanned.Goals as goal
 pub loop-i-preserved : goal.loop-i-preserved
 loop-i-preserved c =
     let l = c.loop-i in
-    rw c.stepped-s.ensures (scan-next _ _ _ l.s l.i _ (omega arith) ∙ l.invariant)
+    rw c.take_byte.ensures (scan-next _ _ _ l.s l.i _ (omega arith) ∙ l.invariant)
 
 pub returns : goal.returns
 returns c =
