@@ -1,7 +1,7 @@
 // The case (documents 01 and 02): its stage and its book, and the fifteen calls. "Each call takes the case and hands the case back."
 #![tactic(auto)]
 
-ghost use Rattle.std.specs.Prelude.{◌≡◌, [], ◌∷◌, ◌<◌, ◌^◌, set};
+ghost use Rattle.std.specs.Prelude.{◌≡◌, Some, [], ◌∷◌, ◌<◌, ◌^◌, set};
 ghost use Rattle.std.proofs.Math.Option.{some};
 ghost use Rattle.std.proofs.Math.IntN.{sub_ℕ};
 ghost use Rattle.lists.specs.Refusals.{number_of, answer_of};
@@ -454,7 +454,7 @@ fn answer_in(case: Case, call: Call) -> Result<(), Refusal>
 
 // The case that an accepted call hands back: HEAD makes a new one, the others are methods of the one held. The arms that need the case in a place of their own
 // copy it themselves, so that the others do not.
-fn after_in(case: Case, call: Call) -> Case
+fn after(case: Case, call: Call) -> Case
     ensures { (h : Held) → case_in h ≡ case → answer_to h (asked call) ≡ 0 → result ≡ after_asked case (asked call) }
 {
     match call {
@@ -511,13 +511,14 @@ fn after_in(case: Case, call: Call) -> Case
     }
 }
 
-// The same from what is held. Where that is no case only HEAD is accepted, which reads nothing of a case.
-pub fn after(held: Option<Case>, call: Call) -> Case
-    ensures { answer_to held (asked call) ≡ 0 → result ≡ after_asked (case_in held) (asked call) }
+// The same in the place of what is held, so that a loop over calls copies no more than the method of the call does. Where no case is held only HEAD is accepted,
+// which reads nothing of a case.
+pub fn advance(held: &mut Option<Case>, call: Call)
+    ensures { answer_to held.old (asked call) ≡ 0 → held.new ≡ Some (after_asked (case_in held.old) (asked call)) }
 {
     match held {
-        Some(case) => after_in(case, call),
-        None => after_in(Case::empty(), call),
+        Some(case) => *case = after(*case, call),
+        None => *held = Some(after(Case::empty(), call)),
     }
 }
 
@@ -530,10 +531,14 @@ pub fn take(held: Option<Case>, call: Call) -> Applied
             answer: refusal.number(),
             held,
         },
-        Ok(()) => Applied {
-            answer: 0,
-            held: Some(after(held, call)),
-        },
+        Ok(()) => {
+            let mut next = held;
+            advance(&mut next, call);
+            Applied {
+                answer: 0,
+                held: next,
+            }
+        }
     }
 }
 
@@ -570,7 +575,7 @@ pub fn replay(held: Option<Case>, bytes: &[u8], ends: &[usize], answers: &mut [u
             Err(refusal) => put(answers, k, refusal.number()),
             Ok(()) => {
                 put(answers, k, 0);
-                next = Some(after(next, call));
+                advance(&mut next, call);
             }
         }
     }

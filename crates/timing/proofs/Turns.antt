@@ -1,6 +1,7 @@
 -- What holds at each turn of `each`: the numbers written so far, and those of the strings left, are the numbers of all strings. Assumes nothing.
-use mathlib.Core.Path.{◌≡◌, refl, sym, ap, ◌∙◌}
-use mathlib.Core.Bool.{Bool}
+use mathlib.Core.Path.{◌≡◌, refl, sym, ap, subst, ◌∙◌}
+use Rattle.std.specs.Prelude.{Some, is_some}
+use mathlib.Core.Bool.{Bool, true}
 use mathlib.Core.List.{List, [], ◌∷◌, ◌++◌, map, append_assoc, append-nil}
 use mathlib.Core.Option.{Option}
 use Prim.Native.Nat.{ℕ, suc, ◌+◌, ◌-◌, ◌≤◌, ◌<◌}
@@ -32,6 +33,10 @@ module _ (h : Held) (result : Bool) (s : List ℕ) (o : Applied) (e : o ≡ appl
   number-declined : (o.answer ≡ 0 → ⊥) → x ≡ o.answer → x ≡ number_of h result s
   unfolding number_of
   number-declined g r = rw (← e, ne_eqb o.answer 0 g) r
+
+-- what is read of what is held, where that is a case
+pub case-read : (k : Held) (d : Case) (result : Bool) (x : ℕ) → k ≡ Some d → (is_some k ≡ true → x ≡ reading_of (case_in k).book result) → x ≡ reading_of d.book result
+case-read k d result x e read = subst (λ (h : Held). is_some h ≡ true → x ≡ reading_of (case_in h).book result) e read refl
 
 -- it is asked of the same case first
 module _ (h : Held) (result : Bool) (now : Held) (same : now ≡ h) (a : Option Call) (s : List ℕ) (read : a ≡ decode s) (x : ℕ) where

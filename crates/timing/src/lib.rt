@@ -45,7 +45,7 @@ fn each(held: Option<Case>, bytes: &[u8], ends: &[usize], res: bool, numbers: &m
         match case::answer_to(next, call) {
             Err(refusal) => case::put(numbers, k, u64::from(refusal.number())),
             Ok(()) => {
-                next = Some(case::after(next, call));
+                case::advance(&mut next, call);
                 case::put(numbers, k, reading_in(next, res));
                 next = held;
             }

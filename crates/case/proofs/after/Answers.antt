@@ -1,10 +1,74 @@
--- `case::after` meets its contract. Assumes nothing.
-use mathlib.Core.Path.{refl, sym}
-use Rattle.std.specs.Prelude.{Some, None}
+-- `case::after` meets its contract: each call by its method. Assumes nothing.
+use native.Mathlib.Omega.{arith}
+use Rattle.wire.specs.Asked.{asked}
+use Rattle.wire.specs.declared.Call.TheVariants.{Round}
+use Rattle.case.specs.Cases.{first_answer, first_answer_to, case_after, after_asked}
+use Rattle.case.proofs.Outcomes.{handed, round-later}
 use Rattle.case.proofs.after.Goals as goal
 
-pub returns-in-Some : goal.returns-in-Some
-returns-in-Some c = rw c.in-Some.is (c.after_in.ensures (Some _) refl)
+pub returns-in-Head : goal.returns-in-Head
+unfolding asked after_asked case_after
+returns-in-Head c = λ h same e. rw c.in-Head.is c.new.ensures
 
-pub returns-in-None : goal.returns-in-None
-returns-in-None c = rw c.in-None.is (rw (← c.empty.ensures) (c.after_in-in-None.ensures None (sym c.empty.ensures)))
+pub returns-in-Pool : goal.returns-in-Pool
+unfolding asked first_answer_to first_answer
+returns-in-Pool c = rw c.in-Pool.is (λ h same e. handed c.args.case _ (λ z. absurd (omega arith)) _ c.pool.ensures h same e)
+
+pub returns-in-Member : goal.returns-in-Member
+unfolding asked first_answer_to first_answer
+returns-in-Member c = rw c.in-Member.is (λ h same e. handed c.args.case _ (λ z. absurd (omega arith)) _ c.member.ensures h same e)
+
+pub returns-in-Round : goal.returns-in-Round
+returns-in-Round c =
+    rw c.in-Round.is
+    (λ h same e.
+    handed c.args.case (asked (Round c.in-Round.count c.in-Round.a c.in-Round.b c.in-Round.c c.in-Round.d))
+    (round-later c.in-Round.count c.in-Round.a c.in-Round.b c.in-Round.c c.in-Round.d) _ c.round.ensures h same e)
+
+pub returns-in-Bid : goal.returns-in-Bid
+unfolding asked first_answer_to first_answer
+returns-in-Bid c = rw c.in-Bid.is (λ h same e. handed c.args.case _ (λ z. absurd (omega arith)) _ c.bid.ensures h same e)
+
+pub returns-in-Close : goal.returns-in-Close
+unfolding asked first_answer_to first_answer
+returns-in-Close c = rw c.in-Close.is (λ h same e. handed c.args.case _ (λ z. absurd (omega arith)) _ c.close.ensures h same e)
+
+pub returns-in-Allocate : goal.returns-in-Allocate
+unfolding asked first_answer_to first_answer
+returns-in-Allocate c = rw c.in-Allocate.is (λ h same e. handed c.args.case _ (λ z. absurd (omega arith)) _ c.allocate.ensures h same e)
+
+pub returns-in-Tear : goal.returns-in-Tear
+unfolding asked first_answer_to first_answer
+returns-in-Tear c = rw c.in-Tear.is (λ h same e. handed c.args.case _ (λ z. absurd (omega arith)) _ c.tear.ensures h same e)
+
+pub returns-in-Call : goal.returns-in-Call
+unfolding asked first_answer_to first_answer
+returns-in-Call c = rw c.in-Call.is (λ h same e. handed c.args.case _ (λ z. absurd (omega arith)) _ c.call.ensures h same e)
+
+pub returns-in-Pay : goal.returns-in-Pay
+unfolding asked first_answer_to first_answer
+returns-in-Pay c = rw c.in-Pay.is (λ h same e. handed c.args.case _ (λ z. absurd (omega arith)) _ c.pay.ensures h same e)
+
+pub returns-in-Move : goal.returns-in-Move
+unfolding asked first_answer_to first_answer
+returns-in-Move c = rw c.in-Move.is (λ h same e. handed c.args.case _ (λ z. absurd (omega arith)) _ c.move_units.ensures h same e)
+
+pub returns-in-Miss : goal.returns-in-Miss
+unfolding asked first_answer_to first_answer
+returns-in-Miss c = rw c.in-Miss.is (λ h same e. handed c.args.case _ (λ z. absurd (omega arith)) _ c.miss.ensures h same e)
+
+pub returns-in-Finish : goal.returns-in-Finish
+unfolding asked first_answer_to first_answer
+returns-in-Finish c = rw c.in-Finish.is (λ h same e. handed c.args.case _ (λ z. absurd (omega arith)) _ c.finish.ensures h same e)
+
+pub returns-in-Sale : goal.returns-in-Sale
+unfolding asked first_answer_to first_answer
+returns-in-Sale c = rw c.in-Sale.is (λ h same e. handed c.args.case _ (λ z. absurd (omega arith)) _ c.sale.ensures h same e)
+
+pub returns-in-Withdraw : goal.returns-in-Withdraw
+unfolding asked first_answer_to first_answer
+returns-in-Withdraw c = rw c.in-Withdraw.is (λ h same e. handed c.args.case _ (λ z. absurd (omega arith)) _ c.withdraw.ensures h same e)
+
+pub returns-in-Unknown : goal.returns-in-Unknown
+unfolding asked after_asked
+returns-in-Unknown c = λ h same e. rw c.in-Unknown.is

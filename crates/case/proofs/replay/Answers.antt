@@ -1,4 +1,4 @@
-use mathlib.Core.Path.{sym, ◌∙◌}
+use mathlib.Core.Path.{refl, sym, ◌∙◌}
 use Prim.Native.Nat.{◌≤◌}
 use native.Mathlib.Omega.{arith}
 use lib.ListN.{length, get_or}
@@ -28,9 +28,9 @@ loop-k-preserved c =
       | in-Err w ↦ rw w.next-is
           (goes _ _ _ _ _ _ _ _ l.invariant c.loop-k-test.true _ c.cut_at-end.ensures _
           (asked-declined l.next _ _ c.read_call-call.ensures _ w.in-Err.ensures) _ (w.answers-is ∙ w.put.ensures ∙ rw w.number.ensures))
-      | in-Ok w ↦ rw w.next-is
+      | in-Ok w ↦ rw (w.next-is ∙ w.advance.ensures (sym w.in-Ok.ensures))
           (goes _ _ _ _ _ _ _ _ l.invariant c.loop-k-test.true _ c.cut_at-end.ensures _
-          (asked-accepted l.next _ _ c.read_call-call.ensures w.in-Ok.ensures _ (w.after.ensures (sym w.in-Ok.ensures))) _
+          (asked-accepted l.next _ _ c.read_call-call.ensures w.in-Ok.ensures _ refl) _
           (w.answers-is ∙ w.put-in-Ok.ensures))
     ]
 

@@ -3,7 +3,7 @@ use Prim.Native.Nat.{◌≤◌}
 use native.Mathlib.Omega.{arith}
 use lib.ListN.{length, get_or}
 use Rattle.input.proofs.Strings.{cut-from, cut-to}
-use Rattle.timing.proofs.Turns.{declined, accepted, starts, goes, all_told}
+use Rattle.timing.proofs.Turns.{case-read, declined, accepted, starts, goes, all_told}
 use borrow.Author.Rules.{rules}
 use Rattle.timing.proofs.each.Goals as goal
 use Rattle.timing.proofs.each.Goals.{in-Err, in-Ok}
@@ -40,7 +40,7 @@ loop-k-preserved c =
           (declined _ _ _ l.invariant.same _ _ c.read_call-call.ensures _ _ w.in-Err.ensures (w.from.ensures ∙ w.number.ensures)) _ (w.numbers-is ∙ w.put.ensures) _ l.invariant.same)
       | in-Ok w ↦ rw w.next-is
           (goes _ _ _ _ _ _ _ _ _ l.invariant c.loop-k-test.true _ c.cut_at-end.ensures _
-          (accepted _ _ _ l.invariant.same _ _ c.read_call-call.ensures _ w.in-Ok.ensures _ (w.after.ensures (sym w.in-Ok.ensures)) (w.reading_in.ensures refl)) _
+          (accepted _ _ _ l.invariant.same _ _ c.read_call-call.ensures _ w.in-Ok.ensures _ refl (case-read _ _ _ _ (w.advance.ensures (sym w.in-Ok.ensures)) w.reading_in.ensures)) _
           (w.numbers-is ∙ w.put-in-Ok.ensures) _ refl)
     ]
 
