@@ -216,7 +216,7 @@ fn answer(streams: Streams, asked: Asked) {
 
 // Why nothing can be read, before a run.
 fn declined(asked: Asked) -> bool {
-    positions::why_before(positions::count_of(asked.set), u64::from(asked.units)) != 0
+    positions::why_before(positions::count_of(asked.set), u64::from(asked.units)).is_err()
 }
 
 fn main(rt: HostRuntime) {

@@ -1,10 +1,14 @@
 -- The end of the run: the last line, and the shares. Assumes nothing.
-use Rattle.std.proofs.Common.{Some, None, ◌≡◌, ℕ, suc, ◌+◌, ◌-◌, ◌≤◌, Bool, true, false, eqb, List, [], ◌++◌, length, take, drop, sym, refl, ap, ◌∙◌, append-nil, arith, length-take, eq-eqb, ne_eqb, eqb-true}
+use Rattle.std.proofs.Common.{Some, None, Result, Ok, Err, ◌≡◌, ℕ, suc, ◌+◌, ◌-◌, ◌≤◌, Bool, true, false, eqb, List, [], ◌++◌, length, take, drop, sym, refl, ap, ◌∙◌, append-nil, arith, length-take, eq-eqb, ne_eqb, eqb-true}
 use mathlib.Core.Bool.{false≢true}
+use Rattle.std.specs.Result.{is_ok, is_err}
 use lib.Seq.{drop-length}
 use borrow.Author.Tests.{eqb-false}
 use Rattle.lists.specs.Lists.{all, any, joined}
 use Rattle.lists.proofs.Bools.{cases}
+use Rattle.lists.specs.declared.refusal.Refusal.{Refusal}
+use Rattle.lists.specs.Refusals.{number_of, answer_of}
+use Rattle.lists.proofs.Refused.{not-accepted}
 use Rattle.splitting.specs.Limits.{Answer}
 use Rattle.input.specs.Strings.{bytes_of}
 use Rattle.input.specs.Pieces.{pieces, all_pieces}
@@ -22,6 +26,20 @@ use Rattle.positions.proofs.Records.{taken-bad}
 use Rattle.positions.proofs.Whole.{ready-some, used-is, why-none, whole-end}
 use Rattle.from_lines.specs.Turns.{TakesDays, count, records, good_lines, rest, Holds, FedTo, any_refused, Given, nothing_or, lines_give, Finishes, Gives}
 use Rattle.from_lines.proofs.Turning.{leads-whole, holds-some, holds_then}
+
+-- ---- a call is accepted where its answer is 0
+
+pub accepted-is : (r : Result (Unit {0}) Refusal) → is_ok r ≡ eqb (answer_of r) 0
+accepted-is (Ok u) = refl
+accepted-is (Err e) = sym (ne_eqb (number_of e) 0 (not-accepted e))
+
+pub declined-some : (r : Result (Unit {0}) Refusal) → is_err r ≡ true → answer_of r ≡ 0 → ⊥
+declined-some (Ok u) h z = false≢true h
+declined-some (Err e) h z = not-accepted e z
+
+pub declined-none : (r : Result (Unit {0}) Refusal) → is_err r ≡ false → answer_of r ≡ 0
+declined-none (Ok u) h = refl
+declined-none (Err e) h = absurd (false≢true (sym h))
 
 module _ (set units : ℕ) where
   abbrev n : ℕ

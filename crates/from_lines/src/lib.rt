@@ -165,7 +165,7 @@ fn finish(
         return false;
     }
     take_days(days, set, &out[..part.written]);
-    positions::end(&days.sums, set, units, 0, shares) == 0
+    positions::end(&days.sums, set, units, 0, shares).is_ok()
 }
 
 // The run for a set with members and units within their limits.
@@ -214,7 +214,7 @@ pub fn run(
     ensures { Gives set units shares.old shares.new result }
 {
     let n = positions::count_of(set);
-    if positions::why_before(n, units) != 0 {
+    if positions::why_before(n, units).is_err() {
         return Some(false);
     }
     if buf.len() < 65537 {

@@ -9,8 +9,8 @@ ghost use Rattle.from_records.specs.Turns.{TakesTurn, TakesInput, Finishes, Give
 
 use feed::{Failed, Streams};
 
-// After a turn: the row that the next day takes, how many bytes are kept at the buffer's front, how many days came, and why the next one is declined, or 0, by
-// the numbers of document 02's answers.
+// After a turn: the row that the next day takes, how many bytes are kept at the buffer's front, how many days came, and why the next one is declined, or 0. The
+// answer is the number that `positions::Part` has, and is only handed on.
 #[derive(Clone, Copy)]
 struct Turn {
     row: usize,
@@ -118,10 +118,8 @@ fn tell_range(streams: Streams, days: u64) {
 }
 
 // Where the end of the run is declined, its record is cut short.
-fn tell_cut(streams: Streams, answer: u8, days: u64) {
-    if answer != 0 {
-        tell(streams, days, b"declined by 1, the record is cut short\n");
-    }
+fn tell_cut(streams: Streams, days: u64) {
+    tell(streams, days, b"declined by 1, the record is cut short\n");
 }
 
 // ---- the run
@@ -136,9 +134,11 @@ fn finish(streams: Streams, set: u32, units: u64, stop: Stop, shares: &mut [u64;
             answer
         }
         Stop::Ended { sums, len, days } => {
-            let answer = positions::end(&sums, set, units, len, shares);
-            tell_cut(streams, answer, days);
-            answer
+            let outcome = positions::end(&sums, set, units, len, shares);
+            if outcome.is_err() {
+                tell_cut(streams, days);
+            }
+            lists::refusal::answer(outcome)
         }
     }
 }
@@ -155,9 +155,8 @@ pub fn run(
 ) -> Option<u8>
     ensures { Gives set units shares.old shares.new result }
 {
-    let why = positions::why_before(positions::count_of(set), units);
-    if why != 0 {
-        return Some(why);
+    if let Err(refusal) = positions::why_before(positions::count_of(set), units) {
+        return Some(refusal.number());
     }
     if buf.len() < 128 {
         return None;

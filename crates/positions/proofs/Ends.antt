@@ -71,14 +71,14 @@ module _ (n units left : ℕ) (sums : List ℕ) (before : ℕ) (be : before ≡ 
   unfolding why_end first_of
   end-before h = rw (← be, ne_eqb before 0 h) refl
 
-  module _ (z : before ≡ 0) where
-    pub end-cut : (left ≡ 0 → ⊥) → 1 ≡ why_end n units left sums
-    unfolding why_end first_of
-    end-cut h = rw (← be, z, ne_eqb left 0 h) refl
+module _ (n units left : ℕ) (sums : List ℕ) (be : 0 ≡ why_before n units) where
+  pub end-cut : not (eqb left 0) ≡ true → 1 ≡ why_end n units left sums
+  unfolding why_end first_of
+  end-cut h = rw (← be, h) refl
 
-    pub end-split : left ≡ 0 → refusal units (take n sums) n ≡ why_end n units left sums
-    unfolding why_end first_of
-    end-split l = rw (← be, z, l) (sym (itself (refusal units (take n sums) n)))
+  pub end-split : not (eqb left 0) ≡ false → refusal units (take n sums) n ≡ why_end n units left sums
+  unfolding why_end first_of
+  end-split h = rw (← be, h) (sym (itself (refusal units (take n sums) n)))
 
 module _ (set units left : ℕ) (sums shares : List ℕ) (n : ℕ) (ne : n ≡ length (members set)) where
   -- declined: the shares are as they were

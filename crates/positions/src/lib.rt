@@ -3,8 +3,9 @@
 // `take_days` for each part, and `end`.
 #![tactic(auto)]
 
-ghost use Rattle.std.specs.Prelude.{◌≡◌, ◌≢◌, nat_le, MatchResult, ◌+◌, ◌-◌, ◌*◌, ◌<◌, ◌≤◌, ◌++◌, length, take, set, replicate, slice_index};
+ghost use Rattle.std.specs.Prelude.{◌≡◌, nat_le, MatchResult, ◌+◌, ◌-◌, ◌*◌, ◌<◌, ◌≤◌, ◌++◌, length, take, set, replicate, slice_index};
 ghost use Rattle.std.proofs.lemmas.List.Edits.{sets};
+ghost use Rattle.lists.specs.Refusals.{number_of, answer_of};
 ghost use Rattle.lists.specs.Lists.{tab};
 ghost use Rattle.std.specs.List.{range_with_len, list_all};
 ghost use Rattle.sets.specs.Set.{members};
@@ -14,15 +15,24 @@ ghost use Rattle.splitting.specs.Limits.{Answer, refusal};
 ghost use Rattle.positions.specs.Days.{size, day_at, days_of, why_before, by_member, expected_units};
 ghost use Rattle.positions.specs.Keeping.{keeping, no_days, row_of, rolled, rolled_at, TakesDay, took, taken, part_of, why_end, ended};
 
+use lists::refusal::{Refusal, decline_if};
+
 // Where a part of a run led to: the row of the ring that the next day takes, how many bytes of the part were records that were taken, and why the next one is
-// declined, or 0. The bytes that were not used go before the next part. C has these
-// fields (include/ledger.h).
+// declined, or 0. The bytes that were not used go before the next part. C has these fields (include/ledger.h), so that the answer is a number.
 #[repr(C)]
 #[derive(Clone, Copy)]
 pub struct Part {
     pub row: usize,
     pub used: usize,
     pub answer: u8,
+}
+
+// The same, with the reason as it is.
+#[derive(Clone, Copy)]
+struct Run {
+    row: usize,
+    used: usize,
+    outcome: Result<(), Refusal>,
 }
 
 // The sums over a whole run, and how many of its bytes were records.
@@ -124,9 +134,9 @@ fn take_records(
     row: usize,
     bytes: &[u8],
     n: usize,
-) -> Part
+) -> Run
     requires { (1 ≤ n) × (n ≤ 32) }
-    ensures { took result.row ring.new sums.new result.used result.answer ≡ taken n (keeping row ring.old sums.old) 0 (days_of n bytes.now) }
+    ensures { took result.row ring.new sums.new result.used (answer_of result.outcome) ≡ taken n (keeping row ring.old sums.old) 0 (days_of n bytes.now) }
 {
     let size = 4 * n;
     let records = bytes.len() / size;
@@ -134,18 +144,18 @@ fn take_records(
     for d in 0..records {
         let at = size * d;
         if !in_range(bytes, at, n) {
-            return Part {
+            return Run {
                 row: next,
                 used: at,
-                answer: 5,
+                outcome: Err(Refusal::OutOfRange),
             };
         }
         next = next_day(ring, sums, next, bytes, at, n);
     }
-    Part {
+    Run {
         row: next,
         used: size * records,
-        answer: 0,
+        outcome: Ok(()),
     }
 }
 
@@ -156,16 +166,13 @@ pub fn count_of(set: u32) -> usize
     sets::count(set) as usize
 }
 
-// Why a run is declined before its first record, or 0.
+// Why a run is declined before its first record.
 #[tactic(auto, unfolding(crate::specs::Days::why_before, lists::specs::Tests::first_of))]
-pub fn why_before(n: usize, units: u64) -> u8
-    ensures { result ≡ why_before n units }
+pub fn why_before(n: usize, units: u64) -> Result<(), Refusal>
+    ensures { answer_of result ≡ why_before n units }
 {
-    if n == 0 || units < 1 || 1_000 < units {
-        5
-    } else {
-        0
-    }
+    decline_if(n == 0, Refusal::OutOfRange)?;
+    decline_if(units < 1 || 1_000 < units, Refusal::OutOfRange)
 }
 
 // A part of a run of the members of a set: its whole records are taken. What is left of it, less than a record, goes before the next part.
@@ -183,38 +190,36 @@ pub fn take_days(
         return Part {
             row,
             used: 0,
-            answer: 5,
+            answer: Refusal::OutOfRange.number(),
         };
     }
-    take_records(ring, sums, row, bytes, n)
+    let run = take_records(ring, sums, row, bytes, n);
+    Part {
+        row: run.row,
+        used: run.used,
+        answer: lists::refusal::answer(run.outcome),
+    }
 }
 
 // ---- the end
 
 // Units split by sums, of which there are at most 32: the shares in the same order, and 0 behind them; or why there are none.
-fn split_by(sums: &[u64], units: u64) -> Result<[u64; 32], u8>
+fn split_by(sums: &[u64], units: u64) -> Result<[u64; 32], Refusal>
     requires { length sums.now ≤ 32 }
-    ensures { MatchResult result (λ xs. (refusal units sums.now (length sums.now) ≡ 0) × (xs ≡ split units sums.now ++ replicate (32 - length sums.now) 0)) (λ why. (why ≡ refusal units sums.now (length sums.now)) × (why ≢ 0)) }
+    ensures { MatchResult result (λ xs. (refusal units sums.now (length sums.now) ≡ 0) × (xs ≡ split units sums.now ++ replicate (32 - length sums.now) 0)) (λ why. number_of why ≡ refusal units sums.now (length sums.now)) }
 {
     let mut shares = [0u64; 32];
-    match splitting::split(units, sums, &mut shares[..sums.len()]) {
-        Ok(()) => Ok(shares),
-        Err(refusal) => Err(refusal.number()),
-    }
+    splitting::split(units, sums, &mut shares[..sums.len()])?;
+    Ok(shares)
 }
 
 // The shares in member order at the end of a run of n members, of which `left` bytes of a record are left, or why there are none.
-fn shares_of(sums: &[u64; 32], n: usize, units: u64, left: usize) -> Result<[u64; 32], u8>
+fn shares_of(sums: &[u64; 32], n: usize, units: u64, left: usize) -> Result<[u64; 32], Refusal>
     requires { n ≤ 32 }
-    ensures { MatchResult result (λ xs. (why_end n units left sums.now ≡ 0) × (xs ≡ split units (take n sums.now) ++ replicate (32 - n) 0)) (λ why. (why ≡ why_end n units left sums.now) × (why ≢ 0)) }
+    ensures { MatchResult result (λ xs. (why_end n units left sums.now ≡ 0) × (xs ≡ split units (take n sums.now) ++ replicate (32 - n) 0)) (λ why. number_of why ≡ why_end n units left sums.now) }
 {
-    let before = why_before(n, units);
-    if before != 0 {
-        return Err(before);
-    }
-    if left != 0 {
-        return Err(1);
-    }
+    why_before(n, units)?;
+    decline_if(left != 0, Refusal::Unreadable)?;
     split_by(&sums[..n], units)
 }
 
@@ -230,48 +235,42 @@ fn spread(xs: [u64; 32], set: u32, shares: &mut [u64; 32])
     }
 }
 
-// The end of a run of which `left` bytes of a record are left: answers 0 and gives each member its share of the units by the sums, or answers why not and leaves the
-// shares untouched.
-pub fn end(sums: &[u64; 32], set: u32, units: u64, left: usize, shares: &mut [u64; 32]) -> u8
-    ensures { ◌≡◌ {A = Answer} (result, shares.new) (ended set units left sums.now shares.old) }
+// The end of a run of which `left` bytes of a record are left: gives each member its share of the units by the sums, or says why not and leaves the shares untouched.
+pub fn end(
+    sums: &[u64; 32],
+    set: u32,
+    units: u64,
+    left: usize,
+    shares: &mut [u64; 32],
+) -> Result<(), Refusal>
+    ensures { ◌≡◌ {A = Answer} (answer_of result, shares.new) (ended set units left sums.now shares.old) }
 {
-    match shares_of(sums, count_of(set), units, left) {
-        Ok(xs) => {
-            spread(xs, set, shares);
-            0
-        }
-        Err(why) => why,
-    }
+    let xs = shares_of(sums, count_of(set), units, left)?;
+    spread(xs, set, shares);
+    Ok(())
 }
 
 // The sums over a whole run, or why its first bad record is declined.
-fn sum_up(bytes: &[u8], n: usize) -> Result<Sums, u8>
+fn sum_up(bytes: &[u8], n: usize) -> Result<Sums, Refusal>
     requires { (1 ≤ n) × (n ≤ 32) }
-    ensures { MatchResult result (λ run. ((taken n no_days 0 (days_of n bytes.now)).answer ≡ 0) × ((taken n no_days 0 (days_of n bytes.now)).kept.sums ≡ run.sums) × ((taken n no_days 0 (days_of n bytes.now)).used ≡ run.used)) (λ why. ((taken n no_days 0 (days_of n bytes.now)).answer ≡ why) × (why ≢ 0)) }
+    ensures { MatchResult result (λ run. ((taken n no_days 0 (days_of n bytes.now)).answer ≡ 0) × ((taken n no_days 0 (days_of n bytes.now)).kept.sums ≡ run.sums) × ((taken n no_days 0 (days_of n bytes.now)).used ≡ run.used)) (λ why. (taken n no_days 0 (days_of n bytes.now)).answer ≡ number_of why) }
 {
     let mut ring = [0u32; 2112];
     let mut sums = [0u64; 32];
-    let part = take_records(&mut ring, &mut sums, 0, bytes, n);
-    if part.answer != 0 {
-        return Err(part.answer);
-    }
+    let run = take_records(&mut ring, &mut sums, 0, bytes, n);
+    run.outcome?;
     Ok(Sums {
         sums,
-        used: part.used,
+        used: run.used,
     })
 }
 
-// The expected units from a whole run: answers 0 and gives each member its share of the units, or answers why not and leaves the shares untouched.
-pub fn expected(set: u32, units: u64, bytes: &[u8], shares: &mut [u64; 32]) -> u8
-    ensures { ◌≡◌ {A = Answer} (result, shares.new) (expected_units set units bytes.now shares.old) }
+// The expected units from a whole run: gives each member its share of the units, or says why not and leaves the shares untouched.
+pub fn expected(set: u32, units: u64, bytes: &[u8], shares: &mut [u64; 32]) -> Result<(), Refusal>
+    ensures { ◌≡◌ {A = Answer} (answer_of result, shares.new) (expected_units set units bytes.now shares.old) }
 {
     let n = count_of(set);
-    let before = why_before(n, units);
-    if before != 0 {
-        return before;
-    }
-    match sum_up(bytes, n) {
-        Ok(run) => end(&run.sums, set, units, bytes.len() - run.used, shares),
-        Err(why) => why,
-    }
+    why_before(n, units)?;
+    let run = sum_up(bytes, n)?;
+    end(&run.sums, set, units, bytes.len() - run.used, shares)
 }

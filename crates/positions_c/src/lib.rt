@@ -1,4 +1,4 @@
-// Expected units from daily positions for C and Rust (include/ledger.h): each export calls the library's function of its name.
+// Expected units from daily positions for C and Rust (include/ledger.h): each export calls the library's function of its name, and gives the number of its answer.
 #![tactic(auto)]
 
 ghost use Rattle.std.specs.Prelude.{◌≡◌, length};
@@ -7,13 +7,14 @@ ghost use Rattle.splitting.specs.Limits.{Answer};
 ghost use Rattle.positions.specs.Days.{expected_units};
 ghost use Rattle.positions.specs.Keeping.{keeping, took, part_of, ended};
 
+use lists::refusal::answer;
 use positions::Part;
 
 #[unsafe(no_mangle)]
 pub extern "C" fn ledger_expected(set: u32, units: u64, days: &[u8], shares: &mut [u64; 32]) -> u8
     ensures { ◌≡◌ {A = Answer} (result, shares.new) (expected_units set units days.now shares.old) }
 {
-    positions::expected(set, units, days, shares)
+    answer(positions::expected(set, units, days, shares))
 }
 
 #[unsafe(no_mangle)]
@@ -39,5 +40,5 @@ pub extern "C" fn ledger_end_days(
 ) -> u8
     ensures { ◌≡◌ {A = Answer} (result, shares.new) (ended set units left sums.now shares.old) }
 {
-    positions::end(sums, set, units, left, shares)
+    answer(positions::end(sums, set, units, left, shares))
 }
