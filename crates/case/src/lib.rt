@@ -511,8 +511,7 @@ fn after(case: Case, call: Call) -> Case
     }
 }
 
-// The same in the place of what is held, so that a loop over calls copies no more than the method of the call does. Where no case is held only HEAD is accepted,
-// which reads nothing of a case.
+// The same in the place of what is held. Where no case is held only HEAD is accepted, which reads nothing of a case.
 pub fn advance(held: &mut Option<Case>, call: Call)
     ensures { answer_to held.old (asked call) ≡ 0 → held.new ≡ Some (after_asked (case_in held.old) (asked call)) }
 {
