@@ -1,6 +1,7 @@
 -- The ledger and the roll's machine agree (specs/Claim.antt): over every list of calls, any bytes, the ledger's answers and what is read of
 -- it after each call are the machine's. Assumes nothing.
-use Rattle.std.specs.Prelude.{Some, is_some}
+use Rattle.std.specs.Prelude as R
+use Rattle.std.specs.Prelude.{Some, is_some, Ok, Err}
 use mathlib.Core.Path.{◌≡◌, refl, sym, ap, subst, ◌∙◌}
 use mathlib.Core.Bool.{Bool, true, false}
 use mathlib.Core.List.{List, [], ◌∷◌, ◌++◌, map}
@@ -18,7 +19,7 @@ use Rattle.machine.specs.State as M
 use Rattle.machine.specs.Calls.{accepted}
 use Rattle.machine.specs.Refusals.{tests, refusal}
 use Rattle.machine.specs.Machine.{answered, step}
-use Rattle.machine.specs.Requirement.{owes}
+use Rattle.machine.specs.Requirement.{requirement, owes}
 use Rattle.machine.specs.Run.{Observed, observed, run_from, observed_from, run}
 use Rattle.machine.specs.Running.{left_sum}
 use Rattle.machine.specs.Printed.{fields_in}
@@ -149,10 +150,19 @@ sums-seen h none t pool = none_left h t pool
 sums-seen h (some c) t pool =
     with-case h (λ s. pool_prices_in h pool ≡ left_sum (M.the_case s) pool) (λ x u. pool-sum-read (case_in h) x.roll u.sound u.ok h u.present refl pool) c t
 
+-- the requirement of a case, and 2 where there is none
+abbrev pub read_from : M.State → R.Result ℕ ℕ
+read_from none = Err 2
+read_from (some c) = Ok (requirement c)
+
+pub requirement-told : (h : Held) (s : M.State) → Tied h s → reading_in h ≡ read_from s
+requirement-told h none t = none_read h t
+requirement-told h (some c) t =
+    with-case h (λ s. reading_in h ≡ read_from s) (λ x u. requirement-read (case_in h) x.roll u.sound u.ok h u.present refl) c t
+
 pub requirement-seen : (h : Held) (s : M.State) → Tied h s → ◌≡◌ {A = ℕ × ℕ} (as_read (reading_in h)) (reading_of s)
-requirement-seen h none t = none_read h t
-requirement-seen h (some c) t =
-    with-case h (λ s. ◌≡◌ {A = ℕ × ℕ} (as_read (reading_in h)) (reading_of s)) (λ x u. requirement-read (case_in h) x.roll u.sound u.ok h u.present refl) c t
+requirement-seen h none t = ap as_read (requirement-told h none t)
+requirement-seen h (some c) t = ap as_read (requirement-told h (some c) t)
 
 -- ---- document 02, C-17: all that is seen outside the house
 

@@ -29,7 +29,7 @@ use Rattle.case.specs.Cases.{applied, no_held, case_answer_to, answer_to, first_
 use Rattle.case.specs.Readings.{seen}
 use Rattle.case.specs.Input.{ledger_after}
 use Rattle.case.specs.Claim.{AnswersFirst, OneOfFive, MethodsAgree, HeadAgrees, KeepsSales, KeepsBids, KeepsSums, ReadsRequirement, ShowsOutside, KeepsReserves, Covers, Finished, Claim}
-use Rattle.case.proofs.Claim.{Holds, taken, takes, none-tied, seen-observed, sums-seen, requirement-seen, outside-seen, agrees, ledger-tied, ledger-answers, ledger-shows}
+use Rattle.case.proofs.Claim.{Holds, taken, takes, none-tied, seen-observed, sums-seen, read_from, requirement-told, requirement-seen, outside-seen, agrees, ledger-tied, ledger-answers, ledger-shows}
 use Rattle.case.proofs.Finishes.{after_finish}
 
 -- ---- one call
@@ -125,8 +125,13 @@ keeps-sums calls each pool =
 
 reads-requirement : ReadsRequirement
 reads-requirement calls each =
-    let is = requirement-seen (ledger_after no_held calls) (run_from none calls) (ledger-tied calls each) in
-    record { running = is ∙ sym (reading-is calls); full = λ c here. is ∙ ap reading_of here; declined = λ here. is ∙ ap reading_of here }
+    let h = ledger_after no_held calls in
+    let told = requirement-told h (run_from none calls) (ledger-tied calls each) in
+    record {
+      running = requirement-seen h (run_from none calls) (ledger-tied calls each) ∙ sym (reading-is calls);
+      full = λ c here. told ∙ ap read_from here;
+      declined = λ here. told ∙ ap read_from here;
+    }
 
 -- ---- reserves stay inside the house
 

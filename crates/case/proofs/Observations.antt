@@ -1,5 +1,5 @@
 -- What is read of the ledger is what the machine shows: the counts, the holdings, the sum of prices and the result. Assumes nothing.
-use Rattle.std.specs.Prelude.{is_some}
+use Rattle.std.specs.Prelude.{is_some, Ok, Err}
 use mathlib.Core.Path.{◌≡◌, sym, ap, ◌∙◌}
 use mathlib.Core.Bool.{true, false}
 use mathlib.Core.List.{List, map}
@@ -71,9 +71,9 @@ module _ (c : Case) (roll : List R.Entry) (sound : Sound c.stage c.book roll) (o
   unfolding pool_prices_in
   pool-sum-read h present is pool = rw (present, is) (pool-sum-shown c.stage c.book roll sound ok pool)
 
-  pub requirement-read : (h : Held) → is_some h ≡ true → case_in h ≡ c → ◌≡◌ {A = ℕ × ℕ} (as_read (reading_in h)) (0, requirement (view c roll))
+  pub requirement-read : (h : Held) → is_some h ≡ true → case_in h ≡ c → reading_in h ≡ Ok (requirement (view c roll))
   unfolding reading_in
-  requirement-read h present is = rw (present, is) (λ i. (0, requirement-shown c.stage c.book roll sound ok i))
+  requirement-read h present is = rw (present, is) (λ i. Ok (requirement-shown c.stage c.book roll sound ok i))
 
   -- ---- the calls on members, and what each owes
 
@@ -137,7 +137,7 @@ pub none_left : (h : Held) → is_some h ≡ false → (pool : ℕ) → pool_pri
 unfolding pool_prices_in left_sum left_prices keep sum_cents
 none_left h absent pool = rw absent
 
-pub none_read : (h : Held) → is_some h ≡ false → ◌≡◌ {A = ℕ × ℕ} (as_read (reading_in h)) (2, 0)
+pub none_read : (h : Held) → is_some h ≡ false → reading_in h ≡ Err 2
 unfolding reading_in
 none_read h absent = rw absent
 

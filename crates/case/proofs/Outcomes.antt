@@ -54,10 +54,11 @@ module _ (c : Case) (a : Option Wire.Call) where
   accepted e d f o is = is ∙ ap (λ (x : Case). outcome 0 c x) f ∙ ap (λ (k : ℕ). outcome k c (after_asked c a)) e
 
   -- the case that an accepted call hands back, where only a method of the case can have taken it
-  pub handed : (first_answer_to a ≡ 0 → ⊥) → (o : Outcome) → o ≡ outcome_of c a → (h : Held) → case_in h ≡ c → answer_to h a ≡ 0 → o.case ≡ after_asked c a
-  unfolding answer_to outcome_of
-  handed later o is (Some d) same e = ap (λ (x : Outcome). x.case) is ∙ rw (eq-eqb (case_answer_to c a) 0 (rw same at e))
-  handed later o is None same e = absurd (later e)
+  pub handed : (first_answer_to a ≡ 0 → ⊥) → (d : Case) → d ≡ (outcome_of c a).case → (present : Bool)
+      → (when present then case_answer_to c a else first_answer_to a) ≡ 0 → d ≡ after_asked c a
+  unfolding outcome_of
+  handed later d is true e = is ∙ rw (eq-eqb (case_answer_to c a) 0 e)
+  handed later d is false e = absurd (later e)
 
 -- ---- a call that is taken
 

@@ -6,7 +6,7 @@
 -- `requires`. So whoever starts with `None` and calls `apply` in turn gets what `ledger_from` iterates. The function `run` does so over
 -- the fields of a whole input, and its contract says it for the code itself. The contracts of the methods are `r ≡ outcome_of self call`,
 -- and of HEAD `r ≡ head_outcome head`. Prices are cents + 1,000,000 throughout.
-use Rattle.std.specs.Prelude.{Some, is_some}
+use Rattle.std.specs.Prelude.{Some, is_some, Ok, Err}
 use Rattle.std.specs.Prelude as R
 use Rattle.std.specs.Prelude.{◌≡◌, true, List, [], ◌∷◌, map, ℕ, ◌+◌, ◌≤◌, ◌<◌, ◌^◌, pos, ◌-ℤ◌, length, get_or, take}
 use Rattle.std.proofs.Math.Option.{none, some}
@@ -145,8 +145,8 @@ KeepsSums = (calls : List (List ℕ)) → Each Bytes calls → (pool : ℕ) → 
 -- reading equals the full addition over the roll"; "with no case the reading is declined by 2"
 pub record Reads (r : R.Result ℕ ℕ) (calls : List (List ℕ)) : Type 0 where
   pub running : as_read r ≡ reading (kept_from nothing_kept calls)
-  pub full : (c : M.Case) → run_from none calls ≡ some c → ◌≡◌ {A = ℕ × ℕ} (as_read r) (0, requirement c)
-  pub declined : run_from none calls ≡ none → ◌≡◌ {A = ℕ × ℕ} (as_read r) (2, 0)
+  pub full : (c : M.Case) → run_from none calls ≡ some c → r ≡ Ok (requirement c)
+  pub declined : run_from none calls ≡ none → r ≡ Err 2
 
 abbrev pub ReadsRequirement : Type 0
 ReadsRequirement = (calls : List (List ℕ)) → Each Bytes calls → Reads (reading_in (ledger_after no_held calls)) calls

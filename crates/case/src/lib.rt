@@ -1,9 +1,10 @@
 // The case (documents 01 and 02): its stage and its book, and the fifteen calls. "Each call takes the case and hands the case back."
 #![tactic(auto)]
 
-ghost use Rattle.std.specs.Prelude.{◌≡◌, Some, [], ◌∷◌, ◌<◌, ◌^◌, set};
+ghost use Rattle.std.specs.Prelude.{◌≡◌, Bool, Some, [], ◌∷◌, ◌<◌, ◌^◌, set};
 ghost use Rattle.std.proofs.Math.Option.{some};
 ghost use Rattle.std.proofs.Math.IntN.{sub_ℕ};
+ghost use Rattle.lists.specs.Lists.{when◌then◌else◌};
 ghost use Rattle.lists.specs.Refusals.{number_of, answer_of};
 ghost use Rattle.machine.specs.Wire.{POOL, MEMBER, BID, CLOSE, ALLOCATE, TEAR, CALL, PAY, MOVE, MISS, FINISH, SALE, WITHDRAW};
 ghost use Rattle.wire.specs.Asked.{asked};
@@ -369,7 +370,8 @@ fn difference(a: u64, b: u64) -> i64
 
 // ---- any call
 
-// The answer to a call, from what is held.
+// The answer to a call, from what is held. It is compiled in place, and so is what it calls, since the case would else be copied for every call.
+#[inline(always)]
 #[tactic(auto, unfolding(crate::specs::Cases::answer_to))]
 pub fn answer_to(held: Option<Case>, call: Call) -> Result<(), Refusal>
     ensures { answer_of result ≡ answer_to held (asked call) }
@@ -409,6 +411,7 @@ fn first_answer(call: Call) -> Result<(), Refusal>
 }
 
 // The answer to a call where a case is held. The book is read in place: one in a local of its own would be a copy for every call.
+#[inline(always)]
 #[tactic(auto, unfolding(wire::specs::Asked::asked, crate::specs::Cases::case_answer, crate::specs::Cases::case_answer_to))]
 fn answer_in(case: Case, call: Call) -> Result<(), Refusal>
     ensures { answer_of result ≡ case_answer_to case (asked call) }
@@ -452,14 +455,116 @@ fn answer_in(case: Case, call: Call) -> Result<(), Refusal>
     }
 }
 
-// The case that an accepted call hands back: HEAD makes a new one, the others are methods of the one held. The arms that need the case in a place of their own
-// copy it themselves, so that the others do not.
-fn after(case: Case, call: Call) -> Case
-    ensures { (h : Held) → case_in h ≡ case → answer_to h (asked call) ≡ 0 → result ≡ after_asked case (asked call) }
+// ---- the calls in the place of a case. A function fills its locals with zeros when it is entered, those of every arm too: so each call has one of its own, which is
+// not compiled into its caller.
+
+impl Case {
+    #[inline(never)]
+    fn pool_in_place(&mut self, pool: u8, units: u16, mark: u8)
+        ensures { self.new ≡ (outcome_of self.old (some (POOL pool units mark))).case }
+    {
+        *self = self.pool(pool, units, mark).case;
+    }
+
+    #[inline(never)]
+    fn member_in_place(&mut self, m: u8, contribution: u32, p: u16, q: u16, r: u16, s: u16)
+        ensures { self.new ≡ (outcome_of self.old (some (MEMBER m contribution (p ∷ q ∷ r ∷ s ∷ [])))).case }
+    {
+        *self = self.member(m, contribution, p, q, r, s).case;
+    }
+
+    #[inline(never)]
+    fn round_in_place(&mut self, n: u8, p: u32, q: u32, r: u32, s: u32)
+        ensures { self.new ≡ (outcome_of self.old (asked (Round n p q r s))).case }
+    {
+        *self = self.round(n, p, q, r, s).case;
+    }
+
+    #[inline(never)]
+    fn bid_in_place(&mut self, pool: u8, m: u8, units: u16, price: u32)
+        ensures { self.new ≡ (outcome_of self.old (some (BID pool m units price))).case }
+    {
+        *self = self.bid(pool, m, units, price).case;
+    }
+
+    #[inline(never)]
+    fn close_in_place(&mut self)
+        ensures { self.new ≡ (outcome_of self.old (some CLOSE)).case }
+    {
+        *self = self.close().case;
+    }
+
+    #[inline(never)]
+    fn allocate_in_place(&mut self, pool: u8, price: u32)
+        ensures { self.new ≡ (outcome_of self.old (some (ALLOCATE pool price))).case }
+    {
+        *self = self.allocate(pool, price).case;
+    }
+
+    #[inline(never)]
+    fn tear_in_place(&mut self, pool: u8, price: u32)
+        ensures { self.new ≡ (outcome_of self.old (some (TEAR pool price))).case }
+    {
+        *self = self.tear(pool, price).case;
+    }
+
+    #[inline(never)]
+    fn call_in_place(&mut self)
+        ensures { self.new ≡ (outcome_of self.old (some CALL)).case }
+    {
+        *self = self.call().case;
+    }
+
+    #[inline(never)]
+    fn pay_in_place(&mut self, m: u8, amount: u32)
+        ensures { self.new ≡ (outcome_of self.old (some (PAY m amount))).case }
+    {
+        *self = self.pay(m, amount).case;
+    }
+
+    #[inline(never)]
+    fn move_units_in_place(&mut self, m: u8)
+        ensures { self.new ≡ (outcome_of self.old (some (MOVE m))).case }
+    {
+        *self = self.move_units(m).case;
+    }
+
+    #[inline(never)]
+    fn miss_in_place(&mut self, m: u8, price: u32)
+        ensures { self.new ≡ (outcome_of self.old (some (MISS m price))).case }
+    {
+        *self = self.miss(m, price).case;
+    }
+
+    #[inline(never)]
+    fn finish_in_place(&mut self)
+        ensures { self.new ≡ (outcome_of self.old (some FINISH)).case }
+    {
+        *self = self.finish().case;
+    }
+
+    #[inline(never)]
+    fn sale_in_place(&mut self, pool: u8, m: u8, price: u32)
+        ensures { self.new ≡ (outcome_of self.old (some (SALE pool m price))).case }
+    {
+        *self = self.sale(pool, m, price).case;
+    }
+
+    #[inline(never)]
+    fn withdraw_in_place(&mut self, m: u8, n: u16)
+        ensures { self.new ≡ (outcome_of self.old (some (WITHDRAW m n))).case }
+    {
+        *self = self.withdraw(m, n).case;
+    }
+}
+
+// The case that an accepted call leaves in the place of another: HEAD makes a new one, the others are methods of the one held.
+fn step(case: &mut Case, call: Call)
+    ensures { (present : Bool) → (when present then case_answer_to case.old (asked call) else first_answer_to (asked call)) ≡ 0 → case.new ≡ after_asked case.old (asked call) }
 {
     match call {
-        Call::Head(head) => Case::new(head),
-        Call::Pool { pool, units, mark } => case.pool(pool, units, mark).case,
+        Call::Head(head) => *case = Case::new(head),
+        Call::Pool { pool, units, mark } => case.pool_in_place(pool, units, mark),
         Call::Member {
             member,
             contribution,
@@ -467,57 +572,56 @@ fn after(case: Case, call: Call) -> Case
             b,
             c,
             d,
-        } => case.member(member, contribution, a, b, c, d).case,
-        Call::Round { count, a, b, c, d } => case.round(count, a, b, c, d).case,
+        } => case.member_in_place(member, contribution, a, b, c, d),
+        Call::Round { count, a, b, c, d } => case.round_in_place(count, a, b, c, d),
         Call::Bid {
             pool,
             member,
             units,
             price,
-        } => case.bid(pool, member, units, price).case,
-        Call::Close => {
-            let held = case;
-            held.close().case
-        }
-        Call::Allocate { pool, price } => {
-            let held = case;
-            held.allocate(pool, price).case
-        }
-        Call::Tear { pool, price } => case.tear(pool, price).case,
-        Call::Call => case.call().case,
-        Call::Pay { member, amount } => case.pay(member, amount).case,
-        Call::Move { member } => {
-            let held = case;
-            held.move_units(member).case
-        }
-        Call::Miss { member, price } => {
-            let held = case;
-            held.miss(member, price).case
-        }
-        Call::Finish => {
-            let held = case;
-            held.finish().case
-        }
+        } => case.bid_in_place(pool, member, units, price),
+        Call::Close => case.close_in_place(),
+        Call::Allocate { pool, price } => case.allocate_in_place(pool, price),
+        Call::Tear { pool, price } => case.tear_in_place(pool, price),
+        Call::Call => case.call_in_place(),
+        Call::Pay { member, amount } => case.pay_in_place(member, amount),
+        Call::Move { member } => case.move_units_in_place(member),
+        Call::Miss { member, price } => case.miss_in_place(member, price),
+        Call::Finish => case.finish_in_place(),
         Call::Sale {
             pool,
             member,
             price,
-        } => {
-            let held = case;
-            held.sale(pool, member, price).case
-        }
-        Call::Withdraw { member, bid } => case.withdraw(member, bid).case,
-        Call::Unknown => case,
+        } => case.sale_in_place(pool, member, price),
+        Call::Withdraw { member, bid } => case.withdraw_in_place(member, bid),
+        Call::Unknown => {}
     }
 }
 
-// The same in the place of what is held. Where no case is held only HEAD is accepted, which reads nothing of a case.
+// The case that an accepted call hands back, where one is held and where none is.
+pub fn after(case: Case, call: Call) -> Case
+    ensures { (present : Bool) → (when present then case_answer_to case (asked call) else first_answer_to (asked call)) ≡ 0 → result ≡ after_asked case (asked call) }
+{
+    let mut next = case;
+    step(&mut next, call);
+    next
+}
+
+// The case that an accepted call makes where none is held: only HEAD is accepted there, which reads nothing of a case.
+#[inline(never)]
+fn begun(call: Call) -> Case
+    ensures { first_answer_to (asked call) ≡ 0 → result ≡ after_asked empty_case (asked call) }
+{
+    after(Case::empty(), call)
+}
+
+// The same in the place of what is held.
 pub fn advance(held: &mut Option<Case>, call: Call)
     ensures { answer_to held.old (asked call) ≡ 0 → held.new ≡ Some (after_asked (case_in held.old) (asked call)) }
 {
     match held {
-        Some(case) => *case = after(*case, call),
-        None => *held = Some(after(Case::empty(), call)),
+        Some(case) => step(case, call),
+        None => *held = Some(begun(call)),
     }
 }
 
