@@ -70,7 +70,7 @@ impl Bids {
         requires { i < 256 }
         ensures { result ≡ in_round_at self.now round i }
     {
-        i < self.kept && self.stands[i] && self.round[i] == round
+        i < self.kept && lists::both(self.stands[i], self.round[i] == round)
     }
 
     // The units of the bid at a place where it stands in a round in a pool, else 0.

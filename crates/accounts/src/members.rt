@@ -163,11 +163,18 @@ impl Members {
         }
     }
 
-    // What a member owes.
+    // What a member owes. The arrays are named by themselves: a reference to the members would have all of them copied where one is asked.
     pub fn owes(self, m: u8) -> u64
         ensures { result ≡ owes_of self m }
     {
-        self.owes_at(m)
+        if m < 32 {
+            let at = usize::from(m);
+            let called = self.called;
+            let paid = self.paid;
+            owed(sets::has(self.moved, m), called[at], paid[at])
+        } else {
+            0
+        }
     }
 
     // Whether a member of the set owes.

@@ -172,7 +172,9 @@ impl Book {
     }
 
     // Whether a SALE of a pool at a price is too dear: "hedge loss + other loss − the prices of all units so sold, this pool's included, passes margin and
-    // defaulter's fund together". In setup no other units have left. Both sides are added up, so that nothing is negative.
+    // defaulter's fund together". In setup no other units have left. Both sides are added up, so that nothing is negative. It is compiled in place, since the book
+    // would else be copied where a SALE is declined.
+    #[inline(always)]
     pub fn too_dear(self, pool: u8, price: u32) -> bool
         ensures { result ≡ too_dear_in self pool price }
     {

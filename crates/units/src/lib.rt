@@ -400,7 +400,7 @@ impl Units {
             return 0;
         }
         let k = 4 * usize::from(m);
-        let counts = &self.counts;
+        let counts = self.counts;
         let allocated = four(counts[4 + k], counts[5 + k], counts[6 + k], counts[7 + k]);
         let moved = four(
             counts[388 + k],
