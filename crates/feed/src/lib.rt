@@ -144,6 +144,7 @@ pub fn read_word(rt: HostRuntime, i: usize, buf: &mut [u8]) -> usize
 }
 
 // Moves the bytes between two places to the front, and says how many they are. Where the places are not in order or behind the buffer, nothing moves.
+// They are moved one by one, since with std's `copy_within` the archives for C would need `memmove` from outside.
 pub fn slide(buf: &mut [u8], start: usize, end: usize) -> usize
     ensures { Slides start end buf.old buf.new result }
 {
@@ -153,6 +154,9 @@ pub fn slide(buf: &mut [u8], start: usize, end: usize) -> usize
     if end < start {
         return 0;
     }
-    buf.copy_within(start..end, 0);
-    end - start
+    let n = end - start;
+    for i in 0..n {
+        buf[i] = buf[start + i];
+    }
+    n
 }
