@@ -244,23 +244,26 @@ fn put_late_fault(text: &mut Text, book: Book, call: Call, answer: u8) {
 
 // ---- 18: "where no standing bid of that member in the open round has the number"
 
-// The number is that of no bid, or its bid is another member's, of an earlier round, or withdrawn: the first that applies.
+// The number is that of no bid, or its bid is another member's, of an earlier round, or withdrawn: the first that applies. The sentence is put as one text with
+// the number of the refusal, so that no write ends between the two.
 fn put_no_bid(text: &mut Text, bids: Bids, round: u8, m: u8, n: u16) {
     let i = usize::from(n);
     if i < bids.kept && i < Bids::MOST {
         let bidder = bids.member[i];
         let held = bids.round[i];
         if bidder != m {
-            text.put(format_args!("the bid is another member's (member {bidder})"));
+            text.put(format_args!("    refused 18: the bid is another member's (member {bidder})"));
         } else if held != round {
-            text.put(format_args!("the bid is of an earlier round (round {held})"));
+            text.put(format_args!("    refused 18: the bid is of an earlier round (round {held})"));
         } else {
-            text.put(format_args!("the bid is withdrawn already (bid {n})"));
+            text.put(format_args!("    refused 18: the bid is withdrawn already (bid {n})"));
         }
     } else if let Some(last) = bids.kept.checked_sub(1) {
-        text.put(format_args!("no bid has the number (bids are numbered 0 to {last})"));
+        text.put(format_args!(
+            "    refused 18: no bid has the number (bids are numbered 0 to {last})"
+        ));
     } else {
-        text.put("no bid has the number (no bid is kept)");
+        text.put("    refused 18: no bid has the number (no bid is kept)");
     }
 }
 
@@ -345,7 +348,6 @@ fn put_accepted(text: &mut Text, call: Call, kept: usize) {
 // The refusal of a WITHDRAW for its bid.
 fn put_withdraw(text: &mut Text, case: Case, call: Call) {
     if let Call::Withdraw { member, bid } = call {
-        text.put("    refused 18: ");
         let round = book::round_of(case.stage);
         put_no_bid(text, case.book.bids, round, member, bid);
     }

@@ -223,20 +223,17 @@ fn put_ranking(text: &mut Text, set: u32, members: Members, res: Result) {
     let expected = over_pools(members.expected);
     let contribution = widened(members.contribution);
     let paid = widened(members.paid);
-    // by place, since the range shows that each of the arrays has it
-    for m in 0..32u8 {
-        if sets::has(set, m) {
-            let i = usize::from(m);
-            let row = Ranked {
-                won: won[i],
-                expected: expected[i],
-                contribution: contribution[i],
-                charged: res.contributions[i],
-                paid: paid[i],
-                taken: res.payments[i],
-            };
-            put_ranked(text, m, res.ranks[i], row);
-        }
+    for m in sets::members_of(set) {
+        let i = usize::from(m);
+        let row = Ranked {
+            won: won[i],
+            expected: expected[i],
+            contribution: contribution[i],
+            charged: res.contributions[i],
+            paid: paid[i],
+            taken: res.payments[i],
+        };
+        put_ranked(text, m, res.ranks[i], row);
     }
     let total = Ranked {
         won: sum_of(won),
@@ -257,21 +254,18 @@ fn put_unranked(text: &mut Text, set: u32, members: Members) {
     ));
     let won = over_pools(members.won);
     let expected = over_pools(members.expected);
-    // by place, as above
-    for m in 0..32u8 {
-        if sets::has(set, m) {
-            let i = usize::from(m);
-            text.put(format_args!(
-                "{m:>8}{:>8}{:>10}{:>9}{:>15}{:>15}{:>15}{:>15}\n",
-                won[i],
-                expected[i],
-                minus(won[i], expected[i]),
-                Cents(u64::from(members.contribution[i])),
-                Cents(u64::from(members.called[i])),
-                Cents(u64::from(members.paid[i])),
-                Cents(members.owes(m))
-            ));
-        }
+    for m in sets::members_of(set) {
+        let i = usize::from(m);
+        text.put(format_args!(
+            "{m:>8}{:>8}{:>10}{:>9}{:>15}{:>15}{:>15}{:>15}\n",
+            won[i],
+            expected[i],
+            minus(won[i], expected[i]),
+            Cents(u64::from(members.contribution[i])),
+            Cents(u64::from(members.called[i])),
+            Cents(u64::from(members.paid[i])),
+            Cents(members.owes(m))
+        ));
     }
 }
 

@@ -1,4 +1,6 @@
 // What a run prints: text in a lent buffer, which goes to standard output when it is nearly full; and amounts of money and sets of members as text.
+ghost use Rattle.std.specs.Prelude.{◌≡◌, IsErr};
+
 use feed::{Failed, Streams};
 use std::fmt;
 use std::fmt::{Display, Formatter, InlineText, Write};
@@ -54,7 +56,9 @@ impl<'a> Text<'a> {
     }
 
     // Writes the text, and begins anew. Once a write has failed, which is told on standard error, nothing is written any more.
-    pub fn flush(&mut self) -> Result<(), Failed> {
+    pub fn flush(&mut self) -> Result<(), Failed>
+        ensures { (result ≡ self.new.written) × (IsErr self.old.written → result ≡ self.old.written) }
+    {
         if self.written.is_ok() {
             let streams = self.streams;
             let at = self.at;
