@@ -47,16 +47,14 @@ struct Auction<'a> {
 }
 
 impl<'a> Auction<'a> {
-    // The units bid from the price t on.
+    // The units bid from the price t on. A branch for each bid would be slow where bids are at many prices.
     fn units_from(self, t: u32) -> u64
         requires { BidsFit self.units.now self.prices.now }
         ensures { result ≡ from self.entry.units.now self.entry.prices.now t }
     {
         let mut sum = 0;
         for (i, n) in self.units.iter().enumerate() {
-            if t <= self.prices[i] {
-                sum += *n;
-            }
+            sum += lists::number_if(t <= self.prices[i], *n);
         }
         sum
     }

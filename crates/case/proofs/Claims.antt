@@ -18,7 +18,7 @@ use Rattle.machine.specs.Result.{limits, charge, spent}
 use Rattle.machine.specs.Run.{Observed, observed, five_counts, result_of, run_from}
 use Rattle.machine.proofs.Claims as C
 use Rattle.machine.proofs.Finish as F
-use Rattle.machine.proofs.Running.{reading_of, reading-is}
+use Rattle.machine.proofs.Running.{reading-is}
 use Rattle.reserves.proofs.Seen.{outside-full}
 use Rattle.reserves.proofs.Claims.{reserves-stay-inside}
 use Rattle.wire.specs.Asked.{head_of}

@@ -30,7 +30,7 @@ use Rattle.book.proofs.Sound.{Sound}
 use Rattle.case.specs.declared.Case.{Case}
 use Rattle.case.specs.Cases.{Held, case_in}
 use Rattle.case.specs.View.{view}
-use Rattle.case.specs.Readings.{counts_in, holding_in, sum_of_prices_in, pool_prices_in, reading_in, as_read, called_in, owed_in, member_result_in, shown_result, seen}
+use Rattle.case.specs.Readings.{counts_in, holding_in, sum_of_prices_in, pool_prices_in, reading_in, called_in, owed_in, member_result_in, shown_result, seen}
 use Rattle.book.proofs.Shown.{listed, requirement-shown, pool-sum-shown, sum-of-prices-shown, debt-shown}
 use Rattle.book.proofs.ResultShown.{loss-shown, charges-shown, uncovered-shown, rank-shown, on-contribution-shown, on-payments-shown}
 

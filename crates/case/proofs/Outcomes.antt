@@ -1,6 +1,6 @@
 -- A call that is declined hands the case back unchanged; an accepted one hands back the case after it. Also ROUND's reserves, read one by one, and SALE's stage.
 -- Assumes nothing.
-use Rattle.std.specs.Prelude.{Some, None}
+use Rattle.std.specs.Prelude.{Some}
 use mathlib.Core.Bool.{Bool, true, false, not}
 use mathlib.Core.List.{List, [], ◌∷◌}
 use mathlib.Core.Option.{Option, none, some}

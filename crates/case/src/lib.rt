@@ -10,7 +10,7 @@ ghost use Rattle.machine.specs.Wire.{POOL, MEMBER, BID, CLOSE, ALLOCATE, TEAR, C
 ghost use Rattle.wire.specs.Asked.{asked};
 ghost use Rattle.wire.specs.declared.Call.TheVariants.{Round};
 ghost use Rattle.units.specs.Shown.{count_of};
-ghost use Rattle.case.specs.Cases.{new_case, reserve_if, reserves_answer, first_answer_to, case_answer_to, answer_to, after_asked, take_asked, applied, head_outcome, outcome_of, Held, case_in, empty_case};
+ghost use Rattle.case.specs.Cases.{new_case, reserve_if, reserves_answer, first_answer_to, case_answer_to, answer_to, after_asked, take_asked, applied, head_outcome, outcome_of, case_in, empty_case};
 ghost use Rattle.case.specs.Readings.{holding_in, sum_of_prices_in, pool_prices_in, reading_in};
 ghost use Rattle.input.specs.Strings.{strings_in};
 ghost use Rattle.case.specs.Input.{Replays, TakesFields, Runs};
